@@ -1,0 +1,111 @@
+-- What every walk's number is, of an accepted map or not: at a difference the default last read, wherever that DEFAULT stood, and 0
+-- where it aborts. By induction on the turns.
+-- Assumes nothing.
+use Prim.Native.Nat.{ℕ, zero, suc, _<_}
+use mathlib.Core.Bool.{Bool, true, false, cond}
+use mathlib.Core.Path.{_≡_, refl, sym, ap, subst, _∙_}
+use mathlib.Core.List.{List, [], _∷_, List·Memᴰ, List·Memᴰ·head, List·Memᴰ·tail, List·Memᴰ·cases-cons, List·Memᴰ·not-nil}
+use mathlib.Core.Logic.{_⊎_, inl, inr, _≢_}
+use native.Mathlib.Omega.{arith}
+use lib.Dec.{eqb}
+use borrow.Author.Tests.{eqb-true, eqb-false, eq-eqb, ne-eqb}
+use Rattle.asmap_program.specs.declared.Instruction.{Instruction}
+use Rattle.asmap_program.specs.declared.Kind.the-variants.{Differed, Aborted}
+use Rattle.asmap_program.specs.Map.{DEFAULT, Fetched, Whole, CutOpcode, CutOperand, Map, Laws, lengthOf}
+use Rattle.asmap_program.specs.Walk.{Walked, Walker, Turn, Goes, Stops, Compared, Equal, Different, compared, aborted, enough, meeting, turnWhole, turnOn, goOn, walkFrom, walk}
+use Rattle.asmap_program.specs.Demand.{defaultAfter, lastDefault, NoDefault, DefaultsFromOne}
+
+-- what the number of a walk from default d is
+record Told (d : ℕ) (r : Walked) : Type 0 where
+  differed : r .kind ≡ Differed → r .number ≡ defaultAfter d (r .read)
+  aborted : r .kind ≡ Aborted → r .number ≡ 0
+
+-- a turn from default d: the default that it hands on, or what the walk's number is
+abbrev Sets : ℕ → Turn → Type 0
+Sets d (Goes i s) = s .default ≡ cond (eqb (i .opcode) DEFAULT) (i .operand) d
+Sets d (Stops r) = Told d r
+
+goes-on : (d : ℕ) (k : Walker → Walked) → ((s : Walker) → Told (s .default) (k s)) → (t : Turn) → Sets d t → Told d (goOn k t)
+unfolding defaultAfter
+goes-on d k ih (Goes i s) v =
+    let t = ih s in
+    record { differed = λ e. t .differed e ∙ ap (λ (x : ℕ). defaultAfter x (k s .read)) v; aborted = t .aborted }
+goes-on d k ih (Stops r) v = v
+
+told-aborted : (d b : ℕ) (is : List Instruction) → Told d (record { kind = Aborted; number = 0; bits = b; read = is })
+told-aborted d b is = record { differed = λ e. let z : _≡_ {A = ℕ} 0 1 = cc in absurd (omega arith); aborted = λ _. refl }
+
+sets-enough : (b : Bool) (s : Walker) (i : Instruction) (t : Turn) → Sets (s .default) t → Sets (s .default) (enough b s i t)
+unfolding enough
+sets-enough true s i t v = v
+sets-enough false s i t v = told-aborted (s .default) (s .used) (i ∷ [])
+
+-- an instruction that is no DEFAULT keeps the default
+kept : (i : Instruction) (d : ℕ) → i .opcode ≢ DEFAULT → d ≡ cond (eqb (i .opcode) DEFAULT) (i .operand) d
+kept i d h = rw (ne-eqb (i .opcode) DEFAULT h)
+
+sets-meeting : (s : Walker) (i : Instruction) → i .opcode ≢ DEFAULT → (c : Compared) → Sets (s .default) (meeting s i c)
+unfolding defaultAfter
+sets-meeting s i h Equal = kept i (s .default) h
+sets-meeting s i h (Different u) =
+    record { differed = λ _. kept i (s .default) h; aborted = λ e. let z : _≡_ {A = ℕ} 0 1 = cc in absurd (omega arith) }
+
+module _ (address : ℕ → ℕ) (m : Map) (law : Laws m) (w : ℕ) where
+  sets-whole : (s : Walker) (i : Instruction) → i .opcode < 4 → (k : ℕ) → i .opcode ≡ k → Sets (s .default) (turnWhole address m w s i k)
+  sets-whole s i l zero e =
+      record { differed = λ q. let z : _≡_ {A = ℕ} 0 1 = cc in absurd (omega arith); aborted = λ q. let z : _≡_ {A = ℕ} 0 1 = cc in absurd (omega arith) }
+  sets-whole s i l (suc zero) e = sets-enough _ s i _ (kept i (s .default) λ q. omega arith)
+  sets-whole s i l (suc (suc zero)) e = sets-enough _ s i _ (sets-meeting s i (λ q. omega arith) (compared address (lengthOf (i .operand)) (i .operand) (s .used)))
+  sets-whole s i l (suc (suc (suc n))) e = rw (eq-eqb (i .opcode) DEFAULT (omega arith))
+
+  sets : (s : Walker) (r : Fetched) → m .fetch (s .at) ≡ r → Sets (s .default) (turnOn address m w s r)
+  sets s (Whole i) f = sets-whole s i (law .stands _ _ f .known) (i .opcode) refl
+  sets s CutOpcode f = told-aborted (s .default) (s .used) []
+  sets s (CutOperand op) f = told-aborted (s .default) (s .used) []
+
+  told : (f : ℕ) (s : Walker) → Told (s .default) (walkFrom address m w f s)
+  unfolding walkFrom
+  told zero s = told-aborted (s .default) (s .used) []
+  told (suc f) s = goes-on (s .default) _ (λ s′. told f s′) (turnOn address m w s (m .fetch (s .at))) (sets s (m .fetch (s .at)) refl)
+
+  -- A default holds until another DEFAULT is read: whatever was jumped over or left between, a walk that ends at a difference has the
+  -- operand of the last DEFAULT that it read as its number, or 0 where it read none.
+  pub default-holds-until-another : walk address m w .kind ≡ Differed → walk address m w .number ≡ lastDefault (walk address m w .read)
+  unfolding walk
+  default-holds-until-another = told (m .bits) _ .differed
+
+  -- an abort's number is 0; that a number is 0 shows no abort
+  pub aborted-gives-zero : walk address m w .kind ≡ Aborted → walk address m w .number ≡ 0
+  unfolding walk
+  aborted-gives-zero = told (m .bits) _ .aborted
+
+-- ---- what a number 0 means at a difference, DEFAULTs having operands from 1 on
+
+none-kept : (d : ℕ) (is : List Instruction) → NoDefault is → defaultAfter d is ≡ d
+unfolding defaultAfter
+none-kept d [] h = refl
+none-kept d (i ∷ is) h = rw (ne-eqb (i .opcode) DEFAULT (h i (List·Memᴰ·head refl))) (none-kept d is λ j p. h j (List·Memᴰ·tail p))
+
+zero-none : (d : ℕ) (is : List Instruction) → DefaultsFromOne is → defaultAfter d is ≡ 0 → (d ≡ 0) × NoDefault is
+unfolding defaultAfter
+zero-none d [] h e = (e, λ j p. absurd (List·Memᴰ·not-nil p))
+zero-none d (i ∷ is) h e =
+    go (eqb (i .opcode) DEFAULT) refl (zero-none (cond (eqb (i .opcode) DEFAULT) (i .operand) d) is (λ j p. h j (List·Memᴰ·tail p)) e)
+  where
+    go : (b : Bool) → eqb (i .opcode) DEFAULT ≡ b → (cond (eqb (i .opcode) DEFAULT) (i .operand) d ≡ 0) × NoDefault is → (d ≡ 0) × NoDefault (i ∷ is)
+    go true q r =
+        let z : i .operand ≡ 0 = rw q at (r .0) in
+        absurd (omega (arith, h i (List·Memᴰ·head refl) (eqb-true (i .opcode) DEFAULT q)))
+    go false q r = (rw q at (r .0), λ j p. pick j (List·Memᴰ·cases-cons p))
+      where
+        pick : (j : Instruction) → (j ≡ i) ⊎ List·Memᴰ j is → j .opcode ≢ DEFAULT
+        pick j (inl s) = subst (λ (x : Instruction). x .opcode ≢ DEFAULT) (sym s) (eqb-false (i .opcode) DEFAULT q)
+        pick j (inr p) = r .1 j p
+
+module _ (address : ℕ → ℕ) (m : Map) (law : Laws m) (w : ℕ) where
+  -- a difference has number 0 exactly where no DEFAULT was read
+  pub zero-when-no-default : walk address m w .kind ≡ Differed → DefaultsFromOne (walk address m w .read)
+      → (walk address m w .number ≡ 0 → NoDefault (walk address m w .read)) × (NoDefault (walk address m w .read) → walk address m w .number ≡ 0)
+  zero-when-no-default e h =
+      let d = default-holds-until-another address m law w e in
+      (λ z. zero-none 0 (walk address m w .read) h (sym d ∙ z) .1, λ n. d ∙ none-kept 0 (walk address m w .read) n)

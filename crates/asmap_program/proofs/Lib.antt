@@ -1,0 +1,9 @@
+pub mod Length
+pub mod Tree
+pub mod Depth
+pub mod Loop
+pub mod Default
+pub mod Demand
+pub mod CoreCheck
+pub mod CoreWalk
+pub mod TreeAccepted

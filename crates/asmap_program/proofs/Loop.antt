@@ -1,0 +1,205 @@
+-- Fuel is never short, so code need not know of it: the check and the walk from any state on, each with the equation of its loop (any two
+-- fuels that suffice agree). Also the list unpacked as a run of places.
+-- Assumes nothing.
+use Prim.Native.Nat.{ℕ, zero, suc, _+_, _-_, _≤_, _<_}
+use mathlib.Core.Bool.{Bool, true, false, cond}
+use mathlib.Core.Path.{_≡_, refl, ap, subst, _∙_}
+use mathlib.Core.List.{List, [], _∷_}
+use native.Mathlib.Omega.{arith}
+use lib.Dec.{eqb}
+use lib.ListN.{length}
+use borrow.Author.Tests.{le-leb}
+use Rattle.asmap_program.specs.declared.Instruction.{Instruction}
+use Rattle.asmap_program.specs.declared.Verdict.{Verdict}
+use Rattle.asmap_program.specs.declared.Verdict.the-variants.{Accepted}
+use Rattle.asmap_program.specs.Map.{endOf, Fetched, Whole, CutOpcode, CutOperand, Map, Laws, lengthOf}
+use Rattle.asmap_program.specs.Check.{State, Outcome, Next, Done, Refuse, guard, step, after, run, start, check, unpacked}
+use Rattle.asmap_program.specs.Walk.{Walked, Walker, Turn, Goes, Stops, Compared, Equal, Different, aborted, enough, meeting, compared, turnWhole, turnOn, push, goOn, walkFrom, walk}
+use Rattle.asmap_program.proofs.Tree.{Moves, closes, opened, matched, defaulted, View, view, Accepts, last, more, accepts}
+use Rattle.asmap_program.proofs.Depth.{carries}
+
+module _ (m : Map) where
+  -- a step goes on at the instruction's end
+  pub moved : {s s′ : State} {i : Instruction} → Moves m s i s′ → s′ .at ≡ endOf i
+  moved (closes q e d h) = refl
+  moved (opened e h k) = refl
+  moved (matched e h c) = refl
+  moved (defaulted e h) = refl
+
+  -- ---- unpack: n instructions from a place on, each at the end of the one before
+
+  abbrev cell : (ℕ → List Instruction) → Fetched → List Instruction
+  cell k (Whole i) = i ∷ k (endOf i)
+  cell k CutOpcode = []
+  cell k (CutOperand op) = []
+
+  -- n instructions from p on, as far as they are there
+  unfoldable pub listFrom : ℕ → ℕ → List Instruction
+  listFrom zero p = []
+  listFrom (suc n) p = cell (λ (p′ : ℕ). listFrom n p′) (m .fetch p)
+
+  in-order : {s : State} {is : List Instruction} {c d : ℕ} → Accepts m s is c d → is ≡ listFrom (length is) (s .at)
+  unfolding listFrom
+  in-order (last {i} v) = rw (v .fetched)
+  in-order (more {s} {s′} {i} {is} f v a) = rw f (ap (λ (l : List Instruction). i ∷ l) (rw (moved v) at (in-order a)))
+
+  -- what is unpacked of an accepted map is as many instructions as were counted, from place 0 on
+  pub unpacked-list : {c d : ℕ} (w : ℕ) → check m w ≡ Accepted c d → unpacked m w ≡ listFrom c 0
+  unfolding check unpacked
+  unpacked-list {c} w h =
+      let e : c ≡ length (unpacked m w) = carries m w h .0 in
+      rw e (in-order (accepts m (m .bits) (start w) h))
+
+  -- ---- the check's loop
+
+  -- at or past the end the check says 2
+  ended : (s : State) → m .bits ≤ s .at → step m s ≡ Refuse 2
+  unfolding step guard
+  ended s h = rw (le-leb (m .bits) (s .at) h)
+
+  module _ (law : Laws m) where
+    -- both go on alike from every state that a step comes to
+    after-alike : (s : State) (f g : ℕ) → m .bits ≤ s .at + suc f → m .bits ≤ s .at + suc g
+        → ((s′ : State) → m .bits ≤ s′ .at + f → m .bits ≤ s′ .at + g → run m f s′ ≡ run m g s′)
+        → (o : Outcome) → View m s o → after (run m f) o ≡ after (run m g) o
+    after-alike s f g h k ih (Next i s′) v =
+        let a = law .stands _ _ (v .0) in
+        let e = moved (v .1) in
+        ih s′ (omega arith) (omega arith)
+    after-alike s f g h k ih (Done i c d) v = refl
+    after-alike s f g h k ih (Refuse n) v = refl
+
+    run-enough : (f g : ℕ) (s : State) → m .bits ≤ s .at + f → m .bits ≤ s .at + g → run m f s ≡ run m g s
+    unfolding run
+    run-enough zero zero s h k = refl
+    run-enough zero (suc g) s h k = rw (ended s (omega arith))
+    run-enough (suc f) zero s h k = rw (ended s (omega arith))
+    run-enough (suc f) (suc g) s h k = after-alike s f g h k (λ s′ p q. run-enough f g s′ p q) (step m s) (view m s)
+
+  -- the answer from a state on
+  unfoldable pub result : State → Verdict
+  result s = run m (m .bits - s .at) s
+
+  module _ (law : Laws m) where
+    after-result : (s : State) (o : Outcome) → View m s o → after (run m (m .bits - s .at)) o ≡ after result o
+    unfolding result
+    after-result s (Next i s′) v =
+        let a = law .stands _ _ (v .0) in
+        let e = moved (v .1) in
+        run-enough law (m .bits - s .at) (m .bits - s′ .at) s′ (omega arith) (omega arith)
+    after-result s (Done i c d) v = refl
+    after-result s (Refuse n) v = refl
+
+    -- the equation of the loop: one step, and on
+    pub result-step : (s : State) → result s ≡ after result (step m s)
+    unfolding result run
+    result-step s =
+        run-enough law (m .bits - s .at) (suc (m .bits - s .at)) s (omega arith) (omega arith)
+        ∙ after-result s (step m s) (view m s)
+
+    -- the check is the answer from its start on
+    pub result-start : (w : ℕ) → check m w ≡ result (start w)
+    unfolding check result
+    result-start w = run-enough law (m .bits) (m .bits - 0) (start w) (omega arith) (omega arith)
+
+-- ---- the walk's loop
+
+-- a turn that goes on goes forward
+abbrev Onward : Walker → Turn → Type 0
+Onward s (Goes i s′) = s .at < s′ .at
+Onward s (Stops r) = Unit {0}
+
+onward-enough : (b : Bool) (s : Walker) (i : Instruction) (t : Turn) → Onward s t → Onward s (enough b s i t)
+unfolding enough
+onward-enough true s i t h = h
+onward-enough false s i t h = tt
+
+module _ (address : ℕ → ℕ) (m : Map) (law : Laws m) (w : ℕ) where
+  onward-meeting : (s : Walker) (i : Instruction) → s .at < endOf i → (c : Compared) → Onward s (meeting s i c)
+  onward-meeting s i h Equal = h
+  onward-meeting s i h (Different x) = tt
+
+  onward-whole : (s : Walker) (i : Instruction) → s .at < endOf i → (k : ℕ) → Onward s (turnWhole address m w s i k)
+  onward-whole s i h zero = tt
+  onward-whole s i h (suc zero) = onward-enough _ s i _ (either (eqb (address (s .used)) 1))
+    where
+      either : (b : Bool) → s .at < cond b (endOf i + i .operand) (endOf i)
+      either true = omega arith
+      either false = h
+  onward-whole s i h (suc (suc zero)) =
+      onward-enough _ s i _ (onward-meeting s i h (compared address (lengthOf (i .operand)) (i .operand) (s .used)))
+  onward-whole s i h (suc (suc (suc n))) = h
+
+  onward : (s : Walker) (r : Fetched) → m .fetch (s .at) ≡ r → Onward s (turnOn address m w s r)
+  onward s (Whole i) f = let a = law .stands _ _ f in onward-whole s i (omega arith) (i .opcode)
+  onward s CutOpcode f = tt
+  onward s (CutOperand op) f = tt
+
+  -- at or past the end nothing is read
+  off-end : (s : Walker) → m .bits ≤ s .at → turnOn address m w s (m .fetch (s .at)) ≡ aborted s []
+  off-end s h = pick (m .fetch (s .at)) refl
+    where
+      pick : (r : Fetched) → m .fetch (s .at) ≡ r → turnOn address m w s r ≡ aborted s []
+      pick (Whole i) f = let a = law .stands _ _ f in absurd (omega arith)
+      pick CutOpcode f = refl
+      pick (CutOperand op) f = refl
+
+  go-alike : (s : Walker) (k k′ : Walker → Walked) → ((s′ : Walker) → s .at < s′ .at → k s′ ≡ k′ s′)
+      → (t : Turn) → Onward s t → goOn k t ≡ goOn k′ t
+  go-alike s k k′ h (Goes i s′) v = ap (λ (r : Walked). push i r) (h s′ v)
+  go-alike s k k′ h (Stops r) v = refl
+
+  walk-enough : (f g : ℕ) (s : Walker) → m .bits ≤ s .at + f → m .bits ≤ s .at + g → walkFrom address m w f s ≡ walkFrom address m w g s
+  unfolding walkFrom
+  walk-enough zero zero s h k = refl
+  walk-enough zero (suc g) s h k = rw (off-end s (omega arith))
+  walk-enough (suc f) zero s h k = rw (off-end s (omega arith))
+  walk-enough (suc f) (suc g) s h k =
+      go-alike s _ _ (λ s′ p. walk-enough f g s′ (omega arith) (omega arith)) (turnOn address m w s (m .fetch (s .at))) (onward s (m .fetch (s .at)) refl)
+
+module _ (address : ℕ → ℕ) (m : Map) (w : ℕ) where
+  -- the walk from a state on
+  unfoldable pub walked : Walker → Walked
+  walked s = walkFrom address m w (m .bits - s .at) s
+
+module _ (address : ℕ → ℕ) (m : Map) (law : Laws m) (w : ℕ) where
+  -- the equation of the loop: one turn, and on
+  pub walked-step : (s : Walker) → walked address m w s ≡ goOn (walked address m w) (turnOn address m w s (m .fetch (s .at)))
+  unfolding walked walkFrom
+  walked-step s =
+      walk-enough address m law w (m .bits - s .at) (suc (m .bits - s .at)) s (omega arith) (omega arith)
+      ∙ go-alike address m law w s _ _
+      (λ s′ h. walk-enough address m law w (m .bits - s .at) (m .bits - s′ .at) s′ (omega arith) (omega arith))
+      (turnOn address m w s (m .fetch (s .at))) (onward address m law w s (m .fetch (s .at)) refl)
+
+  -- the walk is the walk from its start on
+  pub walked-start : walk address m w ≡ walked address m w (record { at = 0; used = 0; default = 0 })
+  unfolding walk walked
+  walked-start = walk-enough address m law w (m .bits) (m .bits - 0) _ (omega arith) (omega arith)
+
+-- what a loop that counts knows: n instructions are behind, and the rest is the walk from here
+pub record Ahead (whole rest : Walked) (n : ℕ) : Type 0 where
+  pub kind : whole .kind ≡ rest .kind
+  pub number : whole .number ≡ rest .number
+  pub bits : whole .bits ≡ rest .bits
+  pub count : length (whole .read) ≡ n + length (rest .read)
+
+ahead-on : {whole : Walked} {n : ℕ} (k : Walker → Walked) (t : Turn) {i : Instruction} {s′ : Walker} → t ≡ Goes i s′ → Ahead whole (goOn k t) n → Ahead whole (k s′) (suc n)
+ahead-on {whole} {n} k t {i} {s′} e a =
+    let b : Ahead whole (push i (k s′)) n = subst (λ (x : Turn). Ahead whole (goOn k x) n) e a in
+    record { kind = b .kind; number = b .number; bits = b .bits; count = omega arith }
+
+module _ (address : ℕ → ℕ) (m : Map) (law : Laws m) (w : ℕ) where
+  pub ahead-start : Ahead (walk address m w) (walked address m w (record { at = 0; used = 0; default = 0 })) 0
+  ahead-start = rw (walked-start address m law w) record { kind = refl; number = refl; bits = refl; count = omega arith }
+
+  pub ahead-goes : {n : ℕ} (s : Walker) {i : Instruction} {s′ : Walker} → turnOn address m w s (m .fetch (s .at)) ≡ Goes i s′
+      → Ahead (walk address m w) (walked address m w s) n → Ahead (walk address m w) (walked address m w s′) (suc n)
+  ahead-goes {n} s e a =
+      ahead-on (walked address m w) _ e (subst (λ (r : Walked). Ahead (walk address m w) r n) (walked-step address m law w s) a)
+
+  pub ahead-stops : {n : ℕ} (s : Walker) {r : Walked} → turnOn address m w s (m .fetch (s .at)) ≡ Stops r
+      → Ahead (walk address m w) (walked address m w s) n → Ahead (walk address m w) r n
+  ahead-stops {n} s e a =
+      subst (λ (x : Turn). Ahead (walk address m w) (goOn (walked address m w) x) n) e
+      (subst (λ (r : Walked). Ahead (walk address m w) r n) (walked-step address m law w s) a)

@@ -1,0 +1,6 @@
+pub mod Map
+pub mod Check
+pub mod Tree
+pub mod Walk
+pub mod Demand
+pub mod Core

@@ -1,0 +1,66 @@
+// What an asmap program is, apart from its bits: the types and limits that the definitions of specs/ and the code of the
+// other crates share. No bit is decoded here.
+ghost use mathlib.Core.Path.{_≡_};
+ghost use Prim.Native.Nat.{_<_};
+ghost use Rattle.asmap_program.specs.Map.{lengthOf, Width};
+
+// A map has at most so many bytes (document 01, "What a call hands back", 1).
+pub const MAX_MAP_BYTES: usize = 16777216;
+
+// The address bits of the public calls.
+pub const ADDRESS_BITS: u8 = 128;
+
+// The opcodes (document 01, Codes).
+pub const RETURN: u32 = 0;
+
+pub const JUMP: u32 = 1;
+
+pub const MATCH: u32 = 2;
+
+pub const DEFAULT: u32 = 3;
+
+// An instruction that was read whole: opcode and operand, the place of its first bit, and its length in bits (`size`, opcode and
+// operand together).
+pub struct Instruction {
+    pub opcode: u32,
+    pub operand: u32,
+    pub place: usize,
+    pub size: usize,
+}
+
+// What the check remembers of the instruction before: a MATCH shorter than 8, a DEFAULT, or any other, a JUMP among them.
+pub enum Previous {
+    Other,
+    Short,
+    Default,
+}
+
+// What the check answers: accepted, with the number of instructions and the greatest number of jumps open at once; or
+// refused, with document 01's number.
+pub enum Verdict {
+    Accepted(u32, u8),
+    Refused(u8),
+}
+
+// How a walk ends: at a RETURN, at a MATCH that differs, or aborted. Its number does not tell which: 0 can be the default too.
+pub enum Kind {
+    Returned,
+    Differed,
+    Aborted,
+}
+
+// How many bits a number has, by its leading zeros; 0 has none. Nothing is asked of the caller.
+pub fn bit_width(x: u32) -> u32
+    ensures { λ r. ⌜ Width x r ⌝ }
+{
+    32 - u32::leading_zeros(x)
+}
+
+// How many address bits a MATCH with this operand compares: the operand's bit width less one. The least MATCH operand is 2;
+// 0 would have no leading one to leave out.
+pub fn match_length(operand: u32) -> u8
+    requires { ⌜ 0 < operand ⌝ }
+    ensures { λ r. ⌜ r ≡ lengthOf operand ⌝ }
+{
+    (bit_width(operand) - 1) as u8
+}
