@@ -1,0 +1,9 @@
+pub mod BitLaws
+pub mod RowLaws
+pub mod CodeLaws
+pub mod RoundTrip
+pub mod Inside
+pub mod MapLaws
+pub mod Instructions
+pub mod CoreLaws
+pub mod Examples

@@ -1,0 +1,39 @@
+-- The decoder's model: a code read from a window, a number whose lowest bits are the map's bits from a place on, with zeros past the
+-- map's end. `proofs/WindowLaws.antt` shows that it is the code of the map.
+-- Assumes nothing.
+use Prim.Native.Nat.{ℕ, _+_, _*_, _/_, _%_, _^_, _≤_, _<_}
+use mathlib.Core.Path.{_≡_}
+use mathlib.Core.List.{List, [], _∷_}
+use lib.Dec.{leb, eqb}
+use lib.ListN.{length, getD}
+use Rattle.asmap_codes.specs.Bits.{low, number}
+use Rattle.asmap_codes.specs.Code.{pick}
+use Rattle.asmap_decode.specs.declared.Prefix.{Prefix}
+use Rattle.asmap_codes.specs.declared.Code.{Code}
+use Rattle.asmap_codes.specs.declared.Code.the-variants.{Value, Cut}
+
+-- the n lowest bits of w are the first n of the bits, with zeros past their end
+abbrev pub Window : ℕ → ℕ → List ℕ → Type 0
+Window n w bs = (i : ℕ) → i < n → w / 2 ^ i % 2 ≡ getD bs i 0
+
+-- bytes as one number, the first byte lowest
+abbrev pub fromBytes : List ℕ → ℕ
+fromBytes [] = 0
+fromBytes (b ∷ bs) = b + 256 * fromBytes bs
+
+-- s bits of the window, highest first, are added to v; `at` is the place of its first bit and `end` the number of the map's bits
+abbrev pub tailIn : ℕ → ℕ → ℕ → ℕ → ℕ → Code
+tailIn s v at end w = pick (leb (at + s) end) (Value (v + number (low s w)) (at + s)) Cut
+
+unfoldable pub codeIn : List ℕ → ℕ → ℕ → ℕ → ℕ → Code
+codeIn [] v at end w = Cut
+codeIn (s ∷ []) v at end w = tailIn s v at end w
+codeIn (s ∷ t ∷ ss) v at end w =
+    pick (eqb (w % 2) 0) (tailIn s v (at + 1) end (w / 2)) (codeIn (t ∷ ss) (v + 2 ^ s) (at + 1) end (w / 2))
+
+-- where the prefix of a code in a window ends: what is left of the code is the bits of one size
+pub record Stopped (ss : List ℕ) (v w : ℕ) (r : Prefix) : Type 0 where
+  pub index : r .index < length ss
+  pub near : r .read ≤ length ss
+  pub small : r .value + 2 ^ getD ss (r .index) 0 ≤ 2 ^ 31
+  pub rest : (at end : ℕ) → codeIn ss v at end w ≡ tailIn (getD ss (r .index) 0) (r .value) (at + r .read) end (r .left)
