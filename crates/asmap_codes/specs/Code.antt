@@ -13,6 +13,7 @@ use Rattle.asmap_codes.specs.declared.Code.the-variants.{Value, Cut}
 use Rattle.asmap_codes.specs.declared.Decoded.{Decoded}
 use Rattle.asmap_codes.specs.declared.Decoded.the-variants.{Found, Refused}
 
+-- The first where the test holds, else the second.
 abbrev pub pick : Bool → Code → Code → Code
 pick true a b = a
 pick false a b = b
@@ -41,5 +42,6 @@ answered true c = Refused 1
 answered false (Value v n) = Found v n
 answered false Cut = Refused 4
 
+-- Reading a code of a row, for every map and every bit of it or past it.
 abbrev pub readCode : List ℕ → ℕ → Row → Decoded
 readCode m at row = answered (ltb limit (length m)) (codeAt m at row)

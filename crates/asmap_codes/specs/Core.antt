@@ -1,4 +1,4 @@
--- Bitcoin Core's DecodeBits (util/asmap.cpp, as docs/core-asmap.md tells it), bit by bit, with INVALID where the file ends
+-- Bitcoin Core's DecodeBits (util/asmap.cpp, as the paper core-asmap.md tells it), bit by bit, with INVALID where the file ends
 -- too soon; a map's bytes as the file of Core's functions; and what it means that Core reads what we read. No contract speaks
 -- of them but the theorems that join them to ours. Assumes nothing.
 use Prim.Native.Nat.{ℕ, zero, suc, _+_, _*_, _^_}

@@ -6,6 +6,7 @@ use lib.Dec.{ltb}
 use Rattle.asmap_codes.specs.Bits.{high}
 use Rattle.asmap_codes.specs.Row.{Row, typeRow, operandRow}
 
+-- The first where the test holds, else the second.
 abbrev pub pickBits : Bool → List ℕ → List ℕ → List ℕ
 pickBits true a b = a
 pickBits false a b = b

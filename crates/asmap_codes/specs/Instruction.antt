@@ -44,5 +44,6 @@ answeredWhole false (Whole i) = Found i
 answeredWhole false CutOpcode = Refused (cutReason CutOpcode)
 answeredWhole false (CutOperand op) = Refused (cutReason (CutOperand op))
 
+-- Reading an instruction, for every map and every bit of it or past it.
 unfoldable pub readInstruction : List ℕ → ℕ → DecodedInstruction
 readInstruction m at = answeredWhole (ltb limit (length m)) (fetchAt m at)

@@ -6,6 +6,7 @@ use mathlib.Core.List.{List, [], _∷_}
 use lib.Dec.{leb, ltb}
 use lib.ListN.{length}
 
+-- A line of the table: the least value, and the sizes in order.
 pub record Row : Type 0 where
   pub least : ℕ
   pub sizes : List ℕ
@@ -53,12 +54,13 @@ greatest row = row .least + span (row .sizes) - 1
 abbrev pub inRange : Row → ℕ → Bool
 inRange row v = leb (row .least) v && ltb v (row .least + span (row .sizes))
 
--- How many bits the shortest code of sizes has, and the longest: a bit before each size but the last.
+-- How many bits the shortest code of sizes has: a bit before each size but the last, then the size's own.
 abbrev pub shortest : List ℕ → ℕ
 shortest [] = 0
 shortest (s ∷ []) = s
 shortest (s ∷ t ∷ ss) = suc (min s (shortest (t ∷ ss)))
 
+-- The longest, in the same way.
 abbrev pub longest : List ℕ → ℕ
 longest [] = 0
 longest (s ∷ []) = s

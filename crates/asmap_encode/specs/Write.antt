@@ -22,6 +22,7 @@ puts w (b ∷ bs) = puts (put w b) bs
 abbrev pub none : Word
 none = record { bits = 0; len = 0 }
 
+-- The first where the test holds, else the second.
 abbrev pub pickWritten : Bool → Written → Written → Written
 pickWritten true a b = a
 pickWritten false a b = b

@@ -1,4 +1,4 @@
--- Bitcoin Core's SanityCheckASMap and Interpret (util/asmap.cpp, as docs/core-asmap.md tells them): on Core's own decoders, with its own
+-- Bitcoin Core's SanityCheckASMap and Interpret (util/asmap.cpp, as the paper core-asmap.md tells them): on Core's own decoders, with its own
 -- padding loop and its tests in its own order. Only the theorems that join them to our check and walk speak of them.
 -- Assumes nothing.
 use Prim.Native.Nat.{ℕ, zero, suc, _+_, _-_, _≤_, _<_}

@@ -1,0 +1,7 @@
+pub mod PaddingLaws
+pub mod StateLaws
+pub mod ActLaws
+pub mod Standing
+pub mod Turn
+pub mod Core
+pub mod Examples

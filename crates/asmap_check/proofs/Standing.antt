@@ -1,0 +1,73 @@
+-- What the loop knows where it stands: a state that the check comes to, and that the answer from here is the answer.
+-- Assumes nothing.
+use Prim.Native.Nat.{ℕ, suc, _-_, _*_, _≤_, _<_}
+use mathlib.Core.Path.{_≡_, sym, ap, subst, _∙_}
+use mathlib.Core.List.{List}
+use native.Mathlib.Omega.{arith}
+use borrow.Author.Tests.{lt-ltb, le-ltb}
+use lib.ListN.{length}
+use Rattle.asmap_program.specs.declared.Instruction.{Instruction}
+use Rattle.asmap_program.specs.declared.Verdict.the-variants.{Accepted, Refused}
+use Rattle.asmap_program.specs.Check.{State, start, Outcome, Next, Done, Refuse, step, after, check}
+use Rattle.asmap_program.proofs.Tree.{View, view}
+use Rattle.asmap_program.proofs.Depth.{one-more, Room, Reached, begins, goes, room}
+use Rattle.asmap_program.proofs.Loop.{moved, result, result-step, result-start}
+use Rattle.asmap_codes.specs.Instruction.{mapOf}
+use Rattle.asmap_check.specs.Check.{checkOf}
+use Rattle.asmap_codes.proofs.MapLaws.{laws, map-bits}
+
+module _ (m : List ℕ) (w : ℕ) where
+  pub record Standing (s : State) : Type 0 where
+    pub reached : Reached (mapOf m) w s
+    pub same : check (mapOf m) w ≡ result (mapOf m) s
+
+  pub standing-start : Standing (start w)
+  standing-start = record { reached = begins; same = result-start (mapOf m) (laws m) w }
+
+  answer : (s : State) → Standing s → (o : Outcome) → step (mapOf m) s ≡ o → check (mapOf m) w ≡ after (result (mapOf m)) o
+  answer s h o e = h .same ∙ result-step (mapOf m) (laws m) s ∙ ap (after (result (mapOf m))) e
+
+  pub standing-on : (s : State) → Standing s → (i : Instruction) (s′ : State) → step (mapOf m) s ≡ Next i s′ → Standing s′
+  standing-on s h i s′ e = record { reached = goes (h .reached) e; same = answer s h (Next i s′) e }
+
+  pub standing-done : (s : State) → Standing s → (i : Instruction) (c d : ℕ) → step (mapOf m) s ≡ Done i c d → Accepted c d ≡ check (mapOf m) w
+  standing-done s h i c d e = sym (answer s h (Done i c d) e)
+
+  pub standing-refused : (s : State) → Standing s → (n : ℕ) → step (mapOf m) s ≡ Refuse n → Refused n ≡ check (mapOf m) w
+  standing-refused s h n e = sym (answer s h (Refuse n) e)
+
+  -- a step goes forward, inside the map, and counts one
+  pub record Onward (s s′ : State) : Type 0 where
+    pub forward : s .at < s′ .at
+    pub inside : s′ .at ≤ 8 * length m
+    pub counted : s′ .count ≡ suc (s .count)
+
+  pub onward : (s s′ : State) (i : Instruction) → step (mapOf m) s ≡ Next i s′ → Onward s s′
+  onward s s′ i e =
+      let v = subst (View (mapOf m) s) e (view (mapOf m) s) in
+      let a = laws m .stands _ _ (v .0) in
+      let n = moved (mapOf m) (v .1) in
+      let b = map-bits m in
+      record { forward = omega (arith, a .here, a .some, n); inside = omega (arith, a .here, a .fits, n, b); counted = one-more (mapOf m) (v .1) }
+
+  -- an instruction has a bit at least: the count stays below the place
+  few : {s : State} → Reached (mapOf m) w s → (s .count ≤ s .at) × (s .at ≤ 8 * length m)
+  few begins = (omega arith, omega arith)
+  few (goes {s} {s′} {i} r e) =
+      let f = few r in
+      let o = onward s s′ i e in
+      (omega (arith, f .0, o .forward, o .counted), o .inside)
+
+  pub count-few : (s : State) → Standing s → (s .count ≤ s .at) × (s .at ≤ 8 * length m)
+  count-few s h = few (h .reached)
+
+  -- open jumps and bits left are at most w
+  pub standing-room : (s : State) → Standing s → Room w s
+  standing-room s h = room (mapOf m) w (h .reached)
+
+  -- the limit comes first
+  pub checked-long : 16777216 < length m → Refused 1 ≡ checkOf m w
+  checked-long h = rw (lt-ltb 16777216 (length m) h)
+
+  pub checked : length m ≤ 16777216 → check (mapOf m) w ≡ checkOf m w
+  checked h = rw (le-ltb 16777216 (length m) h)

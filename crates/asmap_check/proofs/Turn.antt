@@ -1,0 +1,102 @@
+-- One turn of the check's loop: where each act leaves it.
+-- Assumes nothing.
+use Prim.Native.Nat.{ℕ, suc, _+_, _-_, _*_, _≤_, _<_, max}
+use mathlib.Core.Path.{_≡_, refl, sym, ap, subst, _∙_}
+use mathlib.Core.List.{List, _∷_}
+use native.Mathlib.Omega.{arith}
+use native.Mathlib.Numerals.{add-one}
+use lib.ListN.{length, getD}
+use Rattle.asmap_program.specs.declared.Previous.{Previous}
+use Rattle.asmap_program.specs.declared.Previous.the-variants.{Other, Default}
+use Rattle.asmap_program.specs.declared.Verdict.the-variants.{Accepted, Refused}
+use Rattle.asmap_program.specs.Check.{Open, State, afterMatch, Next, step, check}
+use Rattle.asmap_codes.specs.Instruction.{mapOf}
+use Rattle.asmap_check.specs.declared.CheckState.{CheckState}
+use Rattle.asmap_check.specs.State.{opensOf, opens, top, stateOf}
+use Rattle.asmap_check.specs.Act.{acts}
+use Rattle.asmap_check.specs.declared.Act.{Act}
+use Rattle.asmap_check.specs.declared.Act.the-variants.{Opens, Closes, Uses, Keeps, Accepts, Refuses}
+use Rattle.asmap_check.proofs.StateLaws.{length-opens, opens-pop}
+use Rattle.asmap_check.proofs.ActLaws.{here, closed, applied, act-is, end-is, Sure, sure}
+use Rattle.asmap_check.proofs.Standing.{Standing, standing-on, standing-done, standing-refused, onward, standing-room}
+
+same-state : {a b : State} → a .at ≡ b .at → a .left ≡ b .left → a .before ≡ b .before → a .opens ≡ b .opens → a .count ≡ b .count → a .deepest ≡ b .deepest → a ≡ b
+same-state p q r s t u = λ i. record { at = p i; left = q i; before = r i; opens = s i; count = t i; deepest = u i }
+
+-- the loop stands inside the map, and a is what the instruction there asks
+pub record Turn (m : List ℕ) (w : ℕ) (st : CheckState) (pos : ℕ) (prev : Previous) (count deepest : ℕ) (a : Act) : Type 0 where
+  pub standing : Standing m w (stateOf st pos prev count deepest)
+  pub inside : pos < 8 * length m
+  pub asked : acts m prev (st .bits) (st .depth) (top (st .targets) (st .depth)) pos ≡ a
+
+-- where a turn leaves the loop: it stands further on
+pub record Turned (m : List ℕ) (w pos : ℕ) (s : State) : Type 0 where
+  pub standing : Standing m w s
+  pub forward : pos < s .at
+
+pub turn-end : (m : List ℕ) (w : ℕ) (st : CheckState) (pos : ℕ) (prev : Previous) (count deepest : ℕ)
+    → Standing m w (stateOf st pos prev count deepest) → 8 * length m ≤ pos → Refused 2 ≡ check (mapOf m) w
+turn-end m w st pos prev count deepest h k =
+    standing-refused m w _ h 2 (end-is m (st .targets) (st .saved) (st .bits) pos prev count deepest (st .depth) k)
+
+module _ {m : List ℕ} {w : ℕ} {st : CheckState} {pos : ℕ} {prev : Previous} {count deepest : ℕ} {a : Act} (T : Turn m w st pos prev count deepest a) where
+  abbrev s : State
+  s = stateOf st pos prev count deepest
+
+  step-is : (b : Act) → a ≡ b → step (mapOf m) s ≡ applied s (here m pos) b
+  step-is b e =
+      act-is m (st .targets) (st .saved) (st .bits) pos prev count deepest (st .depth) (T .inside)
+      ∙ ap (applied s (here m pos)) (T .asked ∙ e)
+
+  pub certain : (b : Act) → a ≡ b → Sure (st .bits) (st .depth) b
+  certain b e = subst (Sure (st .bits) (st .depth)) (T .asked ∙ e) (sure m prev (st .bits) (top (st .targets) (st .depth)) (st .depth) pos)
+
+  turned : (s′ : State) → step (mapOf m) s ≡ Next (here m pos) s′ → Turned m w pos s′
+  turned s′ e = record { standing = standing-on m w s (T .standing) (here m pos) s′ e; forward = onward m w s s′ (here m pos) e .forward }
+
+  pub less : {s′ : State} → Turned m w pos s′ → 8 * length m - s′ .at < 8 * length m - pos
+  less z = omega (arith, z .forward, T .inside)
+
+  opened : (n t : ℕ) → a ≡ Opens n t → Turned m w pos (record {
+    at = n;
+    left = st .bits - 1;
+    before = Other;
+    opens = record { target = t; saved = st .bits - 1 } ∷ opens st;
+    count = suc count;
+    deepest = max deepest (suc (length (opens st)));
+  })
+  opened n t e = turned _ (step-is (Opens n t) e)
+
+  -- there is room for a jump that opens
+  pub room-opens : (n t : ℕ) → a ≡ Opens n t → st .depth < w
+  room-opens n t e =
+      omega (arith, standing-room m w _ (opened n t e .standing) .now, length-opens (st .targets) (st .saved) (st .depth))
+
+  pub turn-opens : (n t : ℕ) → a ≡ Opens n t → (r : CheckState) (deep : ℕ)
+      → r .bits ≡ st .bits - 1 → opens r ≡ record { target = t; saved = st .bits - 1 } ∷ opens st → deep ≡ max deepest (st .depth + 1)
+      → Turned m w pos (stateOf r n Other (count + 1) deep)
+  turn-opens n t e r deep b o d =
+      subst (Turned m w pos) (sym (same-state refl b refl o (add-one count) (omega (arith, d, length-opens (st .targets) (st .saved) (st .depth))))) (opened n t e)
+
+  pub turn-closes : (n : ℕ) → a ≡ Closes n → (r : CheckState)
+      → r ≡ record { targets = st .targets; saved = st .saved; depth = st .depth - 1; bits = getD (st .saved) (st .depth - 1) 0 }
+      → Turned m w pos (stateOf r n Other (count + 1) deepest)
+  turn-closes n e r q =
+      let p = opens-pop (st .targets) (st .saved) (st .depth) (certain (Closes n) e) in
+      let z : step (mapOf m) s ≡ Next (here m pos) (record { at = n; left = getD (st .saved) (st .depth - 1) 0; before = Other; opens = opensOf (st .targets) (st .saved) (st .depth - 1); count = suc count; deepest = deepest })
+      = step-is (Closes n) e ∙ ap (λ (os : List Open). closed s (here m pos) n os) p in
+      rw (q, add-one count) (turned _ z)
+
+  pub turn-uses : (n k : ℕ) → a ≡ Uses n k → (r : CheckState) (p : Previous)
+      → r ≡ record { targets = st .targets; saved = st .saved; depth = st .depth; bits = st .bits - k } → p ≡ afterMatch k
+      → Turned m w pos (stateOf r n p (count + 1) deepest)
+  turn-uses n k e r p q z = rw (q, z, add-one count) (turned _ (step-is (Uses n k) e))
+
+  pub turn-keeps : (n : ℕ) → a ≡ Keeps n → Turned m w pos (stateOf st n Default (count + 1) deepest)
+  turn-keeps n e = rw (add-one count) (turned _ (step-is (Keeps n) e))
+
+  pub turn-accepts : a ≡ Accepts → Accepted (count + 1) deepest ≡ check (mapOf m) w
+  turn-accepts e = rw (add-one count) (standing-done m w s (T .standing) (here m pos) (suc count) deepest (step-is Accepts e))
+
+  pub turn-refuses : (n : ℕ) → a ≡ Refuses n → Refused n ≡ check (mapOf m) w
+  turn-refuses n e = standing-refused m w s (T .standing) n (step-is (Refuses n) e)

@@ -1,0 +1,210 @@
+-- Each turn of the loop is a step of the definition (`Turn`); the check from where it stands is the check.
+-- Assumes nothing.
+use borrow.Author.Needs.{needs}
+use native.Mathlib.Omega.{arith}
+use mathlib.Core.Path.{_∙_, sym, ap}
+use Prim.Native.Nat.{ℕ, _+_, _-_, _*_, max}
+use mathlib.Core.List.{_∷_}
+use lib.ListN.{length}
+use Rattle.asmap_program.specs.declared.Previous.the-variants.{Other}
+use Rattle.asmap_check.specs.declared.CheckState.{CheckState}
+use Rattle.asmap_check.specs.declared.Act.the-variants.{Opens, Closes, Uses}
+use Rattle.asmap_check.specs.State.{opens, stateOf}
+use Rattle.asmap_check.specs.Act.{acts}
+use Rattle.asmap_check.proofs.Standing.{Standing, standing-start, count-few, standing-room, checked, checked-long}
+use Rattle.asmap_check.proofs.StateLaws.{length-opens}
+use Rattle.asmap_check.proofs.Turn.{Turn, Turned, turn-end, less, certain, room-opens, turn-opens, turn-closes, turn-uses, turn-keeps, turn-accepts, turn-refuses}
+use Rattle.asmap_check.proofs.sanity_check_bits.Statement.{statement}
+use Rattle.asmap_check.proofs.sanity_check_bits.Tie as tie
+use Rattle.asmap_check.proofs.sanity_check_bits.Reads as reads
+use Rattle.asmap_check.proofs.sanity_check_bits.Lts as lts
+use Rattle.asmap_check.proofs.CheckState.close_jump.Reads as close-jump-reads
+use Rattle.asmap_check.proofs.CheckState.new.Reads as new-reads
+use Rattle.asmap_check.proofs.CheckState.open_jump.Reads as open-jump-reads
+use Rattle.asmap_check.proofs.CheckState.use_bits.Reads as use-bits-reads
+use Rattle.asmap_check.proofs.after_match.Reads as after-match-reads
+use Rattle.asmap_check.proofs.innermost.Reads as innermost-reads
+use Rattle.asmap_check.proofs.larger.Reads as larger-reads
+use Rattle.asmap_check.proofs.sanity_act.Reads as sanity-act-reads
+
+abbrev Inv-loop : tie.InvT-loop
+Inv-loop map bits end state₀ pos₀ previous₀ count₀ deepest₀ state pos previous count deepest = Standing map bits (stateOf state pos previous count deepest)
+
+abbrev μ-loop : tie.MeasureT-loop
+μ-loop map bits end state₀ pos₀ previous₀ count₀ deepest₀ state pos previous count deepest = 8 * length map - pos
+
+-- what is known in a turn, said once: after `sanity_act`
+turn : (k : lts.After-sanity-act (new-reads.Asked, new-reads.Learnt, innermost-reads.Asked, innermost-reads.Learnt, sanity-act-reads.Asked, sanity-act-reads.Learnt, use-bits-reads.Asked, use-bits-reads.Learnt, open-jump-reads.Asked, open-jump-reads.Learnt, larger-reads.Asked, larger-reads.Learnt, close-jump-reads.Asked, close-jump-reads.Learnt, after-match-reads.Asked, after-match-reads.Learnt) reads.Pre reads.Post Inv-loop μ-loop)
+    → Turn (k .before .before .before .before .before .before .before .before .before .args .map .now) (k .before .before .before .before .before .before .before .before .before .args .bits) (k .before .before .before .before .before .loop .state) (k .before .before .before .before .before .loop .pos) (k .before .before .before .before .before .loop .previous) (k .before .before .before .before .before .loop .count) (k .before .before .before .before .before .loop .deepest) (k .sanity-act .result)
+turn k =
+    let l = k .before .before .before .before .before .loop in
+    record {
+      standing = l .inv;
+      inside = k .before .before .before .before .loop-test .taken;
+      asked = ap (λ (t : ℕ). acts (k .before .before .before .before .before .before .before .before .before .args .map .now) (l .previous) (l .state .bits) (l .state .depth) t (l .pos)) (sym (k .before .innermost .ensures)) ∙ sym (k .sanity-act .ensures);
+    }
+
+-- a jump has opened: `use_bits`, `open_jump`, `larger`
+opened : (k : lts.After-larger (new-reads.Asked, new-reads.Learnt, innermost-reads.Asked, innermost-reads.Learnt, sanity-act-reads.Asked, sanity-act-reads.Learnt, use-bits-reads.Asked, use-bits-reads.Learnt, open-jump-reads.Asked, open-jump-reads.Learnt, larger-reads.Asked, larger-reads.Learnt, close-jump-reads.Asked, close-jump-reads.Learnt, after-match-reads.Asked, after-match-reads.Learnt) reads.Pre reads.Post Inv-loop μ-loop)
+    → Turned (k .before .before .before .before .before .before .before .before .before .before .before .before .before .before .before .args .map .now) (k .before .before .before .before .before .before .before .before .before .before .before .before .before .before .before .args .bits) (k .before .before .before .before .before .before .before .before .before .before .before .loop .pos) (stateOf (k .before .open-jump .result) (k .before .before .before .before .asked .given .0 .0) Other (k .before .before .before .before .before .before .before .before .before .before .before .loop .count + 1) (k .larger .result))
+opened k =
+    let used = k .before .before .use-bits .ensures in
+    let made = k .before .open-jump .ensures in
+    turn-opens (turn (k .before .before .before .before .before .before)) _ _ (k .before .before .before .before .asked .given .1) (k .before .open-jump .result) (k .larger .result)
+    (made .bits ∙ ap (λ (x : CheckState). x .bits) used)
+    (made .opened ∙ ap (λ (x : CheckState). record { target = k .before .before .before .before .asked .given .0 .1 .0; saved = x .bits } ∷ opens x) used)
+    (k .larger .ensures ∙ ap (max (k .before .before .before .before .before .before .before .before .before .before .before .loop .deepest)) (made .depth ∙ ap (λ (x : CheckState). x .depth + 1) used))
+
+returns : tie.Need-returns Inv-loop μ-loop
+returns c = checked-long (c .before .before .args .map .now) (c .before .before .args .bits) (omega arith)
+
+mul-end : tie.Need-mul-end Inv-loop μ-loop
+mul-end c = omega arith
+
+new-requires : tie.Need-new-requires Inv-loop μ-loop
+new-requires c κs = tt
+
+loop-holds : tie.Need-loop-holds Inv-loop μ-loop
+loop-holds c = rw (c .new .ensures .0, c .new .ensures .1) (standing-start _ _)
+
+innermost-requires : tie.Need-innermost-requires Inv-loop μ-loop
+innermost-requires c κs =
+    let l = c .before .before .before .loop in
+    omega (arith, standing-room _ _ _ (l .inv) .now, length-opens (l .state .targets) (l .state .saved) (l .state .depth))
+
+sanity-act-requires : tie.Need-sanity-act-requires Inv-loop μ-loop
+sanity-act-requires c κs = (omega arith, omega arith)
+
+add-count : tie.Need-add-count Inv-loop μ-loop
+add-count c = omega (arith, count-few (c .before .before .before .before .before .before .before .before .before .args .map .now) (c .before .before .before .before .before .before .before .before .before .args .bits) _ (c .before .before .before .before .before .loop .inv))
+
+-- ---- JUMP
+
+enum-known-asked : tie.Need-enum-known-asked Inv-loop μ-loop
+enum-known-asked c = search needs
+
+use-bits-requires : tie.Need-use-bits-requires Inv-loop μ-loop
+use-bits-requires c κs = certain (turn (c .before .before .before)) (Opens _ _) (c .before .asked .given .1)
+
+open-jump-requires : tie.Need-open-jump-requires Inv-loop μ-loop
+open-jump-requires c κs =
+    omega (arith, room-opens (turn (c .before .before .before .before)) _ _ (c .before .before .asked .given .1), c .before .before .before .before .before .before .before .before .before .before .before .before .before .pre, ap (λ (x : CheckState). x .depth) (c .use-bits .ensures))
+
+larger-requires : tie.Need-larger-requires Inv-loop μ-loop
+larger-requires c κs = tt
+
+loop-less : tie.Need-loop-less Inv-loop μ-loop
+loop-less c = less (turn (c .before .before .before .before .before .before)) (opened c)
+
+loop-again : tie.Need-loop-again Inv-loop μ-loop
+loop-again c = opened c .standing
+
+-- ---- RETURN
+
+enum-known-asked-2 : tie.Need-enum-known-asked-2 Inv-loop μ-loop
+enum-known-asked-2 c = search needs
+
+sub-saved : tie.Need-sub-saved Inv-loop μ-loop
+sub-saved c = certain (turn (c .before .before .before)) (Closes _) (c .before .asked2 .given .1)
+
+element-copy-out-saved : tie.Need-element-copy-out-saved Inv-loop μ-loop
+element-copy-out-saved c =
+    let l = c .before .before .before .before .before .before .before .before .loop in
+    omega (arith, standing-room _ _ _ (l .inv) .now, length-opens (l .state .targets) (l .state .saved) (l .state .depth), c .before .before .before .before .before .before .before .before .before .before .before .before .pre)
+
+close-jump-requires : tie.Need-close-jump-requires Inv-loop μ-loop
+close-jump-requires c κs = certain (turn (c .before .before .before .before)) (Closes _) (c .before .before .asked2 .given .1)
+
+loop-less-2 : tie.Need-loop-less-2 Inv-loop μ-loop
+loop-less-2 c = less (turn (c .before .before .before .before .before)) (turn-closes (turn (c .before .before .before .before .before)) _ (c .before .before .before .asked2 .given .1) (c .close-jump .result) (c .close-jump .ensures))
+
+loop-again-2 : tie.Need-loop-again-2 Inv-loop μ-loop
+loop-again-2 c = turn-closes (turn (c .before .before .before .before .before)) _ (c .before .before .before .asked2 .given .1) (c .close-jump .result) (c .close-jump .ensures) .standing
+
+-- ---- MATCH
+
+enum-known-asked-3 : tie.Need-enum-known-asked-3 Inv-loop μ-loop
+enum-known-asked-3 c = search needs
+
+use-bits-requires-2 : tie.Need-use-bits-requires-2 Inv-loop μ-loop
+use-bits-requires-2 c κs = certain (turn (c .before .before .before)) (Uses _ _) (c .before .asked3 .given .1)
+
+after-match-requires : tie.Need-after-match-requires Inv-loop μ-loop
+after-match-requires c κs = tt
+
+loop-less-3 : tie.Need-loop-less-3 Inv-loop μ-loop
+loop-less-3 c = less (turn (c .before .before .before .before .before)) (turn-uses (turn (c .before .before .before .before .before)) _ _ (c .before .before .before .asked3 .given .1) (c .before .use-bits2 .result) (c .after-match .result) (c .before .use-bits2 .ensures) (c .after-match .ensures))
+
+loop-again-3 : tie.Need-loop-again-3 Inv-loop μ-loop
+loop-again-3 c = turn-uses (turn (c .before .before .before .before .before)) _ _ (c .before .before .before .asked3 .given .1) (c .before .use-bits2 .result) (c .after-match .result) (c .before .use-bits2 .ensures) (c .after-match .ensures) .standing
+
+-- ---- DEFAULT
+
+enum-known-asked-4 : tie.Need-enum-known-asked-4 Inv-loop μ-loop
+enum-known-asked-4 c = search needs
+
+loop-less-4 : tie.Need-loop-less-4 Inv-loop μ-loop
+loop-less-4 c = less (turn (c .before .before .before)) (turn-keeps (turn (c .before .before .before)) _ (c .before .asked4 .given .1))
+
+loop-again-4 : tie.Need-loop-again-4 Inv-loop μ-loop
+loop-again-4 c = turn-keeps (turn (c .before .before .before)) _ (c .before .asked4 .given .1) .standing
+
+-- ---- the answers
+
+enum-told : tie.Need-enum-told Inv-loop μ-loop
+enum-told c = search needs
+
+cast-greatest : tie.Need-cast-greatest Inv-loop μ-loop
+cast-greatest c = omega (arith, standing-room _ _ _ (c .before .before .before .before .before .before .before .loop .inv) .deep, c .before .before .before .before .before .before .before .before .before .before .before .pre)
+
+returns-2 : tie.Need-returns-2 Inv-loop μ-loop
+returns-2 c = turn-accepts (turn (c .before .before)) (c .enum-told .given .1) ∙ checked _ _ (omega arith)
+
+enum-known-asked-5 : tie.Need-enum-known-asked-5 Inv-loop μ-loop
+enum-known-asked-5 c = search needs
+
+returns-3 : tie.Need-returns-3 Inv-loop μ-loop
+returns-3 c = turn-refuses (turn (c .before .before .before)) _ (c .before .asked5 .given .1) ∙ checked _ _ (omega arith)
+
+returns-4 : tie.Need-returns-4 Inv-loop μ-loop
+returns-4 c = turn-end _ _ (c .before .loop .state) _ _ _ _ (c .before .loop .inv) (c .loop-test .left) ∙ checked _ _ (omega arith)
+
+pub sanity-check-bits-spec : {M : Type 1} → statement M
+sanity-check-bits-spec =
+    tie.close
+    (tie.spec
+    Inv-loop
+    μ-loop
+    returns
+    mul-end
+    new-requires
+    loop-holds
+    innermost-requires
+    sanity-act-requires
+    add-count
+    enum-known-asked
+    use-bits-requires
+    open-jump-requires
+    larger-requires
+    loop-less
+    loop-again
+    enum-known-asked-2
+    sub-saved
+    element-copy-out-saved
+    close-jump-requires
+    loop-less-2
+    loop-again-2
+    enum-known-asked-3
+    use-bits-requires-2
+    after-match-requires
+    loop-less-3
+    loop-again-3
+    enum-known-asked-4
+    loop-less-4
+    loop-again-4
+    enum-told
+    cast-greatest
+    returns-2
+    enum-known-asked-5
+    returns-3
+    returns-4)

@@ -1,0 +1,74 @@
+-- Each way out is what the tests make of the model.
+-- Assumes nothing.
+use native.Mathlib.Omega.{arith}
+use mathlib.Core.Path.{_≡_, _∙_, sym}
+use Rattle.asmap_codes.specs.Row.{matchRow}
+use Rattle.asmap_codes.proofs.Inside.{Inside, value-at}
+use lib.Dec.{lit<}
+use borrow.Author.Needs.{needs}
+use Rattle.asmap_codes.specs.Code.{codeAt}
+use Rattle.asmap_codes.specs.declared.Code.the-variants.{Value}
+use borrow.Author.Tests.{lt-ltb, le-ltb}
+use Rattle.asmap_check.specs.Act.{refusing}
+use Rattle.asmap_check.proofs.sanity_match.Statement.{statement}
+use Rattle.asmap_check.proofs.sanity_match.Tie as tie
+use Rattle.asmap_check.proofs.sanity_match.Reads as reads
+use Rattle.asmap_check.proofs.sanity_match.Lts as lts
+use Rattle.asmap_decode.proofs.match_at.Reads as match-at-reads
+use Rattle.asmap_program.proofs.match_length.Reads as match-length-reads
+use Rattle.asmap_check.proofs.short_again.Reads as short-again-reads
+
+-- what is known once the operand was read
+abbrev Operand-read : Type 0
+Operand-read = lts.After-known-told (match-at-reads.Asked, match-at-reads.Learnt, match-length-reads.Asked, match-length-reads.Learnt, short-again-reads.Asked, short-again-reads.Learnt) reads.Pre reads.Post
+
+operand : (k : Operand-read) → codeAt (k .before .before .before .before .before .args .map .now) (k .before .before .before .before .before .args .at) matchRow ≡ Value (k .before .got .given .0 .0) (k .before .got .given .0 .1 .0)
+operand k = sym (k .before .before .before .match-at .ensures) ∙ k .before .got .given .1
+
+inside : (k : Operand-read) → Inside (k .before .before .before .before .before .args .map .now) (k .before .before .before .before .before .args .at) matchRow (k .before .got .given .0 .0) (k .before .got .given .0 .1 .0)
+inside k = value-at _ _ matchRow _ _ (lit< tt) (operand k)
+
+match-at-requires : tie.Need-match-at-requires
+match-at-requires c κs = search needs
+
+enum-known-got : tie.Need-enum-known-got
+enum-known-got c = search needs
+
+enum-told : tie.Need-enum-told
+enum-told c = search needs
+
+returns : tie.Need-returns
+unfolding refusing
+returns c = rw (sym (c .before .before .match-at .ensures) ∙ c .enum-told .given .1)
+
+match-length-requires : tie.Need-match-length-requires
+match-length-requires c κs = omega (arith, inside c .above)
+
+short-again-requires : tie.Need-short-again-requires
+short-again-requires c κs = search needs
+
+returns-2 : tie.Need-returns-2
+unfolding refusing
+returns-2 c = rw (operand (c .before .before .before), ← c .before .before .match-length .ensures, sym (c .before .short-again .ensures) ∙ c .if1 .taken)
+
+returns-3 : tie.Need-returns-3
+unfolding refusing
+returns-3 c = rw (operand (c .before .before .before .before), ← c .before .before .before .match-length .ensures, sym (c .before .before .short-again .ensures) ∙ c .before .if1 .left, lt-ltb _ _ (c .if2 .taken))
+
+returns-4 : tie.Need-returns-4
+unfolding refusing
+returns-4 c = rw (operand (c .before .before .before .before), ← c .before .before .before .match-length .ensures, sym (c .before .before .short-again .ensures) ∙ c .before .if1 .left, le-ltb _ _ (c .if2 .left))
+
+pub sanity-match-spec : {M : Type 1} → statement M
+sanity-match-spec =
+    tie.close
+    (tie.spec
+    match-at-requires
+    enum-known-got
+    enum-told
+    returns
+    match-length-requires
+    short-again-requires
+    returns-2
+    returns-3
+    returns-4)

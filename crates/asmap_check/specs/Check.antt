@@ -1,0 +1,30 @@
+-- What the check answers for a list of bytes (document 01, Check and "What a call hands back").
+-- Assumes nothing.
+use Prim.Native.Nat.{ℕ, _≤_}
+use mathlib.Core.Bool.{Bool, true, false}
+use mathlib.Core.Path.{_≡_}
+use mathlib.Core.List.{List}
+use lib.Dec.{ltb}
+use lib.ListN.{length}
+use Rattle.asmap_program.specs.declared.Verdict.{Verdict}
+use Rattle.asmap_program.specs.declared.Verdict.the-variants.{Refused}
+use Rattle.asmap_program.specs.Map.{limit}
+use Rattle.asmap_program.specs.Check.{accepted, check}
+use Rattle.asmap_program.specs.Core.{coreCheck}
+use Rattle.asmap_codes.specs.Instruction.{mapOf}
+use Rattle.asmap_codes.specs.Core.{fileOf}
+
+-- refused 1 where the test holds
+abbrev pub unlessLong : Bool → Verdict → Verdict
+unlessLong true v = Refused 1
+unlessLong false v = v
+
+-- The check of a map's bytes over w address bits ("Order"): a map over the limit is 1, which comes before every other reason; any other
+-- map is checked instruction by instruction.
+abbrev pub checkOf : List ℕ → ℕ → Verdict
+checkOf m w = unlessLong (ltb limit (length m)) (check (mapOf m) w)
+
+-- Core's SanityCheckASMap (the paper core-asmap.md) over w address bits accepts a map within the limit exactly where r does. The limit is
+-- document 01's; Core has none.
+abbrev pub LikeCore : List ℕ → ℕ → Verdict → Type 0
+LikeCore m w r = length m ≤ limit → coreCheck (fileOf m) w ≡ accepted r

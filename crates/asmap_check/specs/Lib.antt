@@ -1,0 +1,4 @@
+pub mod State
+pub mod Act
+pub mod Check
+pub mod Examples
