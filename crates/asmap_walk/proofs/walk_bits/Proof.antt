@@ -1,0 +1,245 @@
+-- Each turn is a turn of the defined walk (`Walking`), and the bits of a MATCH are compared as it compares them (`Comparing`).
+-- Assumes nothing.
+use borrow.Author.Needs.{needs}
+use native.Mathlib.Omega.{arith}
+use mathlib.Core.Path.{_≡_, _∙_, sym}
+use Prim.Native.Nat.{ℕ, _-_, _^_}
+use Rattle.asmap_walk.proofs.Walking.{Walking, Taken, Comparing, walking-start, opcode-read, cut-opcode, cut-operand, read, returns-ends, jump-ends, jump-onward, jump-goes, match-some, match-ends, match-differs, match-goes, default-goes, comparing-start, bit-left, equal-goes, different-ends, all-equal}
+use Rattle.asmap_walk.proofs.walk_bits.Statement.{statement}
+use Rattle.asmap_walk.proofs.walk_bits.Tie as tie
+use Rattle.asmap_walk.proofs.walk_bits.Reads as reads
+use Rattle.asmap_walk.proofs.walk_bits.Lts as lts
+use Rattle.asmap_decode.proofs.operand_at.Reads as operand-at-reads
+use Rattle.asmap_decode.proofs.type_at.Reads as type-at-reads
+use Rattle.asmap_program.proofs.match_length.Reads as match-length-reads
+use Rattle.asmap_walk.proofs.abort.Reads as abort-reads
+use Rattle.asmap_walk.proofs.address_bit.Reads as address-bit-reads
+use Rattle.asmap_walk.proofs.finish.Reads as finish-reads
+use Rattle.asmap_walk.proofs.jump_to.Reads as jump-to-reads
+use Rattle.asmap_walk.proofs.operand_bit.Reads as operand-bit-reads
+
+abbrev Inv-loop : tie.InvT-loop
+Inv-loop map address width pos used₀ default count opcode at operand next left₀ used left = Comparing address width operand used₀ used left
+
+abbrev μ-loop : tie.MeasureT-loop
+μ-loop map address width pos used₀ default count opcode at operand next left₀ used left = left
+
+abbrev Inv-walk : tie.InvT-walk
+Inv-walk map address width pos₀ used₀ default₀ count₀ pos used default count = Walking map address width pos used default count
+
+abbrev μ-walk : tie.MeasureT-walk
+μ-walk map address width pos₀ used₀ default₀ count₀ pos used default count = 2 ^ 32 - pos
+
+-- ---- what is known where an instruction was read whole, said once
+
+abbrev WasRead : Type 0
+WasRead = lts.After-known-told2 (
+  type-at-reads.Asked,
+  type-at-reads.Learnt,
+  abort-reads.Asked,
+  abort-reads.Learnt,
+  operand-at-reads.Asked,
+  operand-at-reads.Learnt,
+  finish-reads.Asked,
+  finish-reads.Learnt,
+  address-bit-reads.Asked,
+  address-bit-reads.Learnt,
+  jump-to-reads.Asked,
+  jump-to-reads.Learnt,
+  match-length-reads.Asked,
+  match-length-reads.Learnt,
+  operand-bit-reads.Asked,
+  operand-bit-reads.Learnt,
+) reads.Pre reads.Post Inv-loop μ-loop Inv-walk μ-walk
+
+taken : (k : WasRead)
+    → Taken (k .before .before .before .before .before .before .before .before .before .before .before .args .map .now) (k .before .before .before .before .before .before .before .before .before .before .before .args .address .now) (k .before .before .before .before .before .before .before .before .before .before .before .args .width)
+    (k .before .before .before .before .before .before .before .before .walk .pos) (k .before .before .before .before .before .before .before .before .walk .used) (k .before .before .before .before .before .before .before .before .walk .default) (k .before .before .before .before .before .before .before .before .walk .count)
+    (k .before .before .before .before .before .first .given .0 .0) (k .before .before .before .before .before .first .given .0 .1 .0)
+    (k .before .second .given .0 .0) (k .before .second .given .0 .1 .0)
+taken k = record {
+  walking = k .before .before .before .before .before .before .before .before .walk .inv;
+  opcode = sym (k .before .before .before .before .before .before .before .type-at .ensures) ∙ k .before .before .before .before .before .first .given .1;
+  operand = sym (k .before .before .before .operand-at .ensures) ∙ k .before .second .given .1;
+}
+
+walk-holds : tie.Need-walk-holds Inv-loop μ-loop Inv-walk μ-walk
+walk-holds c = walking-start _ _ _ (c .before .before .pre .0) (c .before .before .pre .1) (omega arith)
+
+type-at-requires : tie.Need-type-at-requires Inv-loop μ-loop Inv-walk μ-walk
+type-at-requires c κs = let v = c .walk .inv in (v .fits, omega (arith, v .near))
+
+enum-known-first : tie.Need-enum-known-first Inv-loop μ-loop Inv-walk μ-walk
+enum-known-first c = search needs
+
+enum-told : tie.Need-enum-told Inv-loop μ-loop Inv-walk μ-walk
+enum-told c = search needs
+
+abort-requires : tie.Need-abort-requires Inv-loop μ-loop Inv-walk μ-walk
+abort-requires c κs = tt
+
+returns : tie.Need-returns Inv-loop μ-loop Inv-walk μ-walk
+returns c = c .abort .ensures ∙ cut-opcode (c .before .before .before .before .walk .inv) (sym (c .before .before .before .type-at .ensures) ∙ c .before .enum-told .given .1)
+
+operand-at-requires : tie.Need-operand-at-requires Inv-loop μ-loop Inv-walk μ-walk
+operand-at-requires c κs =
+    let v = c .before .before .before .before .walk .inv in
+    let r = opcode-read v (sym (c .before .before .before .type-at .ensures) ∙ c .before .first .given .1) in
+    (v .fits, omega (arith, r .0, v .fits), r .1)
+
+enum-known-second : tie.Need-enum-known-second Inv-loop μ-loop Inv-walk μ-walk
+enum-known-second c = search needs
+
+enum-told-2 : tie.Need-enum-told-2 Inv-loop μ-loop Inv-walk μ-walk
+enum-told-2 c = search needs
+
+abort-requires-2 : tie.Need-abort-requires-2 Inv-loop μ-loop Inv-walk μ-walk
+abort-requires-2 c κs = tt
+
+returns-2 : tie.Need-returns-2 Inv-loop μ-loop Inv-walk μ-walk
+returns-2 c =
+    c .abort2 .ensures
+    ∙ cut-operand (c .before .before .before .before .before .before .before .before .walk .inv) (sym (c .before .before .before .before .before .before .before .type-at .ensures) ∙ c .before .before .before .before .before .first .given .1) (sym (c .before .before .before .operand-at .ensures) ∙ c .before .enum-told2 .given .1)
+
+add-count : tie.Need-add-count Inv-loop μ-loop Inv-walk μ-walk
+add-count c = let r = read (taken c) in omega (arith, r .start, r .near, taken c .walking .few)
+
+finish-requires : tie.Need-finish-requires Inv-loop μ-loop Inv-walk μ-walk
+finish-requires c κs = tt
+
+returns-3 : tie.Need-returns-3 Inv-loop μ-loop Inv-walk μ-walk
+returns-3 c = c .finish .ensures ∙ returns-ends (taken (c .before .before)) (c .before .match3 .keys1)
+
+abort-requires-3 : tie.Need-abort-requires-3 Inv-loop μ-loop Inv-walk μ-walk
+abort-requires-3 c κs = tt
+
+returns-4 : tie.Need-returns-4 Inv-loop μ-loop Inv-walk μ-walk
+returns-4 c = c .abort3 .ensures ∙ jump-ends (taken (c .before .before .before)) (c .before .before .match3 .keys2) (c .before .if1 .taken)
+
+address-bit-requires : tie.Need-address-bit-requires Inv-loop μ-loop Inv-walk μ-walk
+address-bit-requires c κs = omega (arith, taken (c .before .before) .walking .width, c .if1 .left)
+
+jump-to-requires : tie.Need-jump-to-requires Inv-loop μ-loop Inv-walk μ-walk
+jump-to-requires c κs = omega (arith, read (taken (c .before .before .before)) .near)
+
+add-used : tie.Need-add-used Inv-loop μ-loop Inv-walk μ-walk
+add-used c = omega (arith, taken (c .before .before .before .before) .walking .narrow, c .before .before .if1 .left)
+
+walk-less : tie.Need-walk-less Inv-loop μ-loop Inv-walk μ-walk
+walk-less c =
+    let o = jump-onward (taken (c .before .before .before .before)) (c .before .before .before .match3 .keys2) _ (rw (c .before .address-bit .ensures) at (c .jump-to .ensures)) in
+    omega (arith, o .0, o .1)
+
+walk-again : tie.Need-walk-again Inv-loop μ-loop Inv-walk μ-walk
+walk-again c = jump-goes (taken (c .before .before .before .before)) (c .before .before .before .match3 .keys2) (omega (arith, c .before .before .if1 .left)) _ (rw (c .before .address-bit .ensures) at (c .jump-to .ensures))
+
+match-length-requires : tie.Need-match-length-requires Inv-loop μ-loop Inv-walk μ-walk
+match-length-requires c κs = omega (arith, match-some (taken (c .before)) (c .match3 .keys3))
+
+sub-if2 : tie.Need-sub-if2 Inv-loop μ-loop Inv-walk μ-walk
+sub-if2 c = omega (arith, taken (c .before .before) .walking .room)
+
+abort-requires-4 : tie.Need-abort-requires-4 Inv-loop μ-loop Inv-walk μ-walk
+abort-requires-4 c κs = tt
+
+returns-5 : tie.Need-returns-5 Inv-loop μ-loop Inv-walk μ-walk
+returns-5 c =
+    c .abort4 .ensures
+    ∙ match-ends (taken (c .before .before .before .before)) (c .before .before .before .match3 .keys3) (omega (arith, c .before .if2 .taken, c .before .before .match-length .ensures, taken (c .before .before .before .before) .walking .room))
+
+loop-holds : tie.Need-loop-holds Inv-loop μ-loop Inv-walk μ-walk
+loop-holds c = comparing-start (taken (c .before .before .before)) (c .before .before .match3 .keys3) _ (c .before .match-length .ensures) (omega (arith, c .if2 .left, taken (c .before .before .before) .walking .room))
+
+walk-less-2 : tie.Need-walk-less-2 Inv-loop μ-loop Inv-walk μ-walk
+walk-less-2 c = let r = read (taken (c .before .before .before .before .before)) in omega (arith, r .start, r .near)
+
+walk-again-2 : tie.Need-walk-again-2 Inv-loop μ-loop Inv-walk μ-walk
+walk-again-2 c =
+    let l = c .before .loop .inv in
+    let z : c .before .loop .left ≡ 0 = omega (arith, c .loop-test .left) in
+    match-goes (taken (c .before .before .before .before .before)) (c .before .before .before .before .match3 .keys3) (l .room) (all-equal l z) _ (omega (arith, l .place, z))
+
+sub-left : tie.Need-sub-left Inv-loop μ-loop Inv-walk μ-walk
+sub-left c = omega (arith, c .loop-test .taken)
+
+address-bit-requires-2 : tie.Need-address-bit-requires-2 Inv-loop μ-loop Inv-walk μ-walk
+address-bit-requires-2 c κs = omega (arith, bit-left (c .before .loop .inv) (c .loop-test .taken), taken (c .before .before .before .before .before) .walking .width)
+
+operand-bit-requires : tie.Need-operand-bit-requires Inv-loop μ-loop Inv-walk μ-walk
+operand-bit-requires c κs = omega (arith, c .before .before .loop .inv .short)
+
+add-used-2 : tie.Need-add-used-2 Inv-loop μ-loop Inv-walk μ-walk
+add-used-2 c = omega (arith, bit-left (c .before .before .before .before .loop .inv) (c .before .before .before .loop-test .taken), taken (c .before .before .before .before .before .before .before .before) .walking .narrow)
+
+loop-less : tie.Need-loop-less Inv-loop μ-loop Inv-walk μ-walk
+loop-less c = omega (arith, c .before .before .before .loop-test .taken)
+
+loop-again : tie.Need-loop-again Inv-loop μ-loop Inv-walk μ-walk
+loop-again c = equal-goes (c .before .before .before .before .loop .inv) (c .before .before .before .loop-test .taken) (sym (c .before .before .address-bit2 .ensures) ∙ c .if3 .left ∙ c .before .operand-bit .ensures)
+
+walk-less-3 : tie.Need-walk-less-3 Inv-loop μ-loop Inv-walk μ-walk
+walk-less-3 c = let r = read (taken (c .before)) in omega (arith, r .start, r .near)
+
+walk-again-3 : tie.Need-walk-again-3 Inv-loop μ-loop Inv-walk μ-walk
+walk-again-3 c = default-goes (taken (c .before)) (c .match3 .rest .0 .0 .1) (c .match3 .rest .0 .1) (c .match3 .rest .1)
+
+add-finish : tie.Need-add-finish Inv-loop μ-loop Inv-walk μ-walk
+add-finish c = omega (arith, bit-left (c .before .before .before .before .loop .inv) (c .before .before .before .loop-test .taken), taken (c .before .before .before .before .before .before .before .before) .walking .narrow)
+
+finish-requires-2 : tie.Need-finish-requires-2 Inv-loop μ-loop Inv-walk μ-walk
+finish-requires-2 c κs = tt
+
+returns-6 : tie.Need-returns-6 Inv-loop μ-loop Inv-walk μ-walk
+returns-6 c =
+    let l = c .before .before .before .before .before .loop .inv in
+    c .finish2 .ensures
+    ∙ match-differs (taken (c .before .before .before .before .before .before .before .before .before)) (c .before .before .before .before .before .before .before .before .match3 .keys3) (l .room) _
+    (different-ends l (c .before .before .before .before .loop-test .taken) (λ z. c .before .if3 .taken (c .before .before .before .address-bit2 .ensures ∙ z ∙ sym (c .before .before .operand-bit .ensures))))
+
+pub walk-bits-spec : {M : Type 1} → statement M
+walk-bits-spec =
+    tie.close
+    (tie.spec
+    Inv-loop
+    μ-loop
+    Inv-walk
+    μ-walk
+    walk-holds
+    type-at-requires
+    enum-known-first
+    enum-told
+    abort-requires
+    returns
+    operand-at-requires
+    enum-known-second
+    enum-told-2
+    abort-requires-2
+    returns-2
+    add-count
+    finish-requires
+    returns-3
+    abort-requires-3
+    returns-4
+    address-bit-requires
+    jump-to-requires
+    add-used
+    walk-less
+    walk-again
+    match-length-requires
+    sub-if2
+    abort-requires-4
+    returns-5
+    loop-holds
+    walk-less-2
+    walk-again-2
+    sub-left
+    address-bit-requires-2
+    operand-bit-requires
+    add-used-2
+    loop-less
+    loop-again
+    walk-less-3
+    walk-again-3
+    add-finish
+    finish-requires-2
+    returns-6)
