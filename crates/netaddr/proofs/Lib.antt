@@ -1,0 +1,5 @@
+mod Lengths
+mod Octets
+mod Order
+mod Truth
+mod Zeros

@@ -1,0 +1,5 @@
+pub mod Prefix
+pub mod Ranges
+pub mod Answer
+pub mod Filter
+pub mod Relay
