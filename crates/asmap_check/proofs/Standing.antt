@@ -1,10 +1,12 @@
 -- What the loop knows where it stands: a state that the check comes to, and that the answer from here is the answer.
 -- Assumes nothing.
 use Prim.Native.Nat.{ℕ, suc, _-_, _*_, _≤_, _<_}
-use mathlib.Core.Path.{_≡_, sym, ap, subst, _∙_}
+use mathlib.Core.Path.{_≡_, refl, sym, ap, subst, _∙_}
+use mathlib.Core.Bool.{Bool, true, false}
 use mathlib.Core.List.{List}
 use native.Mathlib.Omega.{arith}
-use borrow.Author.Tests.{lt-ltb, le-ltb}
+use borrow.Author.Tests.{lt-ltb, le-ltb, ltb-false}
+use lib.Dec.{ltb}
 use lib.ListN.{length}
 use Rattle.asmap_program.specs.declared.Instruction.{Instruction}
 use Rattle.asmap_program.specs.declared.Verdict.the-variants.{Accepted, Refused}
@@ -13,7 +15,7 @@ use Rattle.asmap_program.proofs.Tree.{View, view}
 use Rattle.asmap_program.proofs.Depth.{one-more, Room, Reached, begins, goes, room}
 use Rattle.asmap_program.proofs.Loop.{moved, result, result-step, result-start}
 use Rattle.asmap_codes.specs.Instruction.{mapOf}
-use Rattle.asmap_check.specs.Check.{checkOf}
+use Rattle.asmap_check.specs.Check.{unlessLong, checkOf}
 use Rattle.asmap_codes.proofs.MapLaws.{laws, map-bits}
 
 module _ (m : List ℕ) (w : ℕ) where
@@ -71,3 +73,11 @@ module _ (m : List ℕ) (w : ℕ) where
 
   pub checked : length m ≤ 16777216 → check (mapOf m) w ≡ checkOf m w
   checked h = rw (le-ltb 16777216 (length m) h)
+
+  -- an accepted map is within the limit
+  pub accepted-within : (c d : ℕ) → checkOf m w ≡ Accepted c d → (length m ≤ 16777216) × (check (mapOf m) w ≡ Accepted c d)
+  accepted-within c d e = go (ltb 16777216 (length m)) refl e
+    where
+      go : (b : Bool) → ltb 16777216 (length m) ≡ b → unlessLong b (check (mapOf m) w) ≡ Accepted c d → (length m ≤ 16777216) × (check (mapOf m) w ≡ Accepted c d)
+      go true h q = let z : _≡_ {A = ℕ} 0 1 = cc in absurd (omega arith)
+      go false h q = (ltb-false 16777216 (length m) h, q)

@@ -5,13 +5,11 @@ use Prim.Native.Nat.{ℕ, _+_, _*_, _≤_, _<_}
 use mathlib.Core.Path.{_≡_, refl, sym, ap, subst, _∙_}
 use mathlib.Core.Logic.{_≢_}
 use mathlib.Core.List.{List}
-use native.Mathlib.Decide.{decLt}
 use native.Mathlib.Omega.{arith}
 use borrow.Author.Tests.{eq-eqb, ne-eqb, lt-ltb, le-ltb}
 use lib.ListN.{length}
 use Rattle.asmap_program.specs.declared.Verdict.the-variants.{Accepted}
 use Rattle.asmap_program.specs.Map.{addressBit}
-use Rattle.asmap_program.specs.Check.{check}
 use Rattle.asmap_program.specs.Core.{Number, coreInterpret}
 use Rattle.asmap_program.proofs.Demand.{demand3, ended-not-aborted}
 use Rattle.asmap_codes.specs.Core.{fileOf}
@@ -19,6 +17,7 @@ use Rattle.asmap_codes.specs.Instruction.{mapOf}
 use Rattle.asmap_codes.proofs.CoreLaws.{number-of-bytes}
 use Rattle.asmap_codes.proofs.MapLaws.{laws}
 use Rattle.asmap_check.specs.Check.{checkOf}
+use Rattle.asmap_check.proofs.Standing.{accepted-within}
 use Rattle.asmap_walk.specs.Interpret.{walkOf, summary, interpretOf}
 use Rattle.asmap_walk.specs.Promise.{Kept, Demand3, CoreNumber}
 use Rattle.asmap_walk.specs.declared.Ending.{Ending}
@@ -26,14 +25,6 @@ use Rattle.asmap_walk.specs.declared.Interpreted.{Interpreted}
 use Rattle.asmap_walk.specs.declared.Interpreted.the-variants.{Ended, Refused}
 
 -- ---- over the width, for later layers
-
--- an accepted map is within the limit
-pub accepted-within : (m : List ℕ) (w c d : ℕ) → checkOf m w ≡ Accepted c d → (length m ≤ 16777216) × (check (mapOf m) w ≡ Accepted c d)
-accepted-within m w c d h = go (decLt 16777216 (length m))
-  where
-    go : Dec (16777216 < length m) → (length m ≤ 16777216) × (check (mapOf m) w ≡ Accepted c d)
-    go (yes k) = let e = rw (lt-ltb 16777216 (length m) k) at h in let z : _≡_ {A = ℕ} 0 1 = cc in absurd (omega arith)
-    go (no k) = (omega arith, rw (le-ltb 16777216 (length m) (omega arith)) at h)
 
 -- m: the map, a: the address, w: its bits
 module _ (m a : List ℕ) (w c d : ℕ) (accepted : checkOf m w ≡ Accepted c d) where

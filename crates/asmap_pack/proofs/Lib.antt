@@ -1,0 +1,4 @@
+pub mod WindowLaws
+pub mod WrittenLaws
+pub mod SizeLaws
+pub mod WriteLaws

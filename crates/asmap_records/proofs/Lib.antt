@@ -1,0 +1,10 @@
+pub mod ByteLaws
+pub mod RecordLaws
+pub mod OutputLaws
+pub mod PackLaws
+pub mod InstructionBits
+pub mod Listing
+pub mod UnpackLaws
+pub mod Reading
+pub mod RoundTrip
+pub mod Examples

@@ -1,0 +1,5 @@
+pub mod Bytes
+pub mod Record
+pub mod Output
+pub mod Pack
+pub mod Unpack
