@@ -1,0 +1,5 @@
+pub mod Sames
+pub mod Refusals
+pub mod Fetched
+pub mod Walked
+pub mod Calls

@@ -1,0 +1,18 @@
+-- What is known of the walk behind a group, where the check accepts the map.
+-- Assumes nothing.
+use Prim.Native.Nat.{ℕ}
+use mathlib.Core.Path.{_≡_}
+use mathlib.Core.Logic.{_≢_}
+use mathlib.Core.List.{List}
+use Rattle.asmap_program.specs.declared.Kind.the-variants.{Differed, Aborted}
+use Rattle.netgroup.specs.Group.{Numbering, byMap, byPrefixes, walkFor}
+
+-- the walk of the address did not abort, and its number is 0 only where it ended at a difference, with default 0
+pub record Finished (m c : List ℕ) : Type 0 where
+  pub unaborted : walkFor m c .kind ≢ Aborted
+  pub zero-differs : walkFor m c .number ≡ 0 → walkFor m c .kind ≡ Differed
+
+-- of a candidate's walk; without a map there is none
+abbrev pub Ended : Numbering → List ℕ → Type 0
+Ended (byMap m) c = Finished m c
+Ended byPrefixes c = Unit {0}

@@ -1,0 +1,5 @@
+pub mod Candidate
+pub mod Group
+pub mod Refusal
+pub mod Ended
+pub mod Netgroup

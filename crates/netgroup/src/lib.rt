@@ -1,0 +1,204 @@
+// The group of a peer (document 01, Groups and pick): one candidate, and a map or none.
+ghost use mathlib.Core.Path.{_≡_};
+ghost use Prim.Native.Nat.{ℕ, _+_, _-_, _*_, _≤_, _<_};
+ghost use lib.ListN.{length, take, drop, getD};
+ghost use Rattle.asmap_program.specs.Map.{limit};
+ghost use Rattle.netgroup.specs.Candidate.{same, mapped, valid};
+ghost use Rattle.netgroup.specs.Group.{numbering, walkFor, prefixGroup, groupedOf};
+ghost use Rattle.netgroup.specs.Refusal.{limitRefusal, checkRefusal};
+ghost use Rattle.netgroup.specs.Netgroup.{prefixGroupCall, netgroupOf, netgroupUnchecked, Whole};
+use asmap_program::MAX_MAP_BYTES;
+use asmap_program::Verdict;
+use asmap_walk::Interpreted;
+
+// Ten zero bytes and ff ff: what stands in front of the four bytes of an IPv4 address in its mapped form.
+const MAPPED_FRONT: [u8; 12] = [0, 0, 0, 0, 0, 0, 0, 0, 0, 0, 255, 255];
+
+// What numbers the groups: the prefixes of the addresses, or the map that is given beside. With `Prefixes` the map is not
+// looked at and may have any length.
+pub enum Grouping {
+    Prefixes,
+    Map,
+}
+
+// Whether a call is refused, and with which number of document 01.
+pub enum Refusal {
+    None,
+    Number(u8),
+}
+
+// A candidate's group, and the instructions of the walk that found it.
+pub struct Grouped {
+    pub group: u64,
+    pub count: u32,
+}
+
+// What a group call hands back.
+pub enum GroupAnswer {
+    Group(u64),
+    Refused(u8),
+}
+
+// Whether two rows of bytes are equal. It compares from the last byte down: candidates of one family share their first bytes.
+pub fn same_bytes(a: &[u8], b: &[u8]) -> bool
+    ensures { λ r. ⌜ r ≡ same (now (a .entry)) (now (b .entry)) ⌝ }
+{
+    if a.len() != b.len() {
+        return false;
+    }
+    let mut i = a.len();
+    while 0 < i {
+        i -= 1;
+        if a[i] != b[i] {
+            return false;
+        }
+    }
+    true
+}
+
+// Whether a candidate's address has the mapped form.
+fn is_mapped(candidate: &[u8]) -> bool
+    requires { ⌜ length (now candidate) ≡ 20 ⌝ }
+    ensures { λ r. ⌜ r ≡ mapped (now (candidate .entry)) ⌝ }
+{
+    same_bytes(&candidate[2..14], &MAPPED_FRONT)
+}
+
+// Whether bytes are a candidate: 20 of them, family 6, or 4 with the mapped form, and a zero.
+pub fn is_candidate(candidate: &[u8]) -> bool
+    ensures { λ r. ⌜ r ≡ valid (now (candidate .entry)) ⌝ }
+{
+    if candidate.len() != 20 {
+        return false;
+    }
+    if candidate[1] != 0 {
+        return false;
+    }
+    if candidate[0] == 6 {
+        return true;
+    }
+    if candidate[0] != 4 {
+        return false;
+    }
+    is_mapped(candidate)
+}
+
+fn wide(x: u8) -> u64
+    ensures { λ r. ⌜ (r ≡ x) × (r < 256) ⌝ }
+{
+    x as u64
+}
+
+// The group of a candidate by its prefix: IPv4 /16, IPv6 /32. The family decides, so a mapped address of family 6 gives 0.
+fn prefix_number(candidate: &[u8]) -> u64
+    requires { ⌜ length (now candidate) ≡ 20 ⌝ }
+    ensures { λ r. ⌜ r ≡ prefixGroup (now (candidate .entry)) ⌝ }
+{
+    if candidate[0] == 4 {
+        return 256 * wide(candidate[14]) + wide(candidate[15]);
+    }
+    let high = 256 * wide(candidate[2]) + wide(candidate[3]);
+    let low = 256 * wide(candidate[4]) + wide(candidate[5]);
+    65536 * high + low
+}
+
+// The group of a candidate by a map within the limit, with the walk's count.
+fn walked_group(candidate: &[u8], map: &[u8]) -> Grouped
+    requires { ⌜ (length (now candidate) ≡ 20) × (length (now map) ≤ limit) ⌝ }
+    ensures { λ r. ⌜ r ≡ record { group = walkFor (now (map .entry)) (now (candidate .entry)) .number; count = length (walkFor (now (map .entry)) (now (candidate .entry)) .read) } ⌝ }
+{
+    let walked = asmap_walk::interpret(map, &candidate[2..18]);
+    let Interpreted::Ended(ending) = walked else {
+        // never: the walk refuses only another length, and a map over the limit
+        return Grouped { group: 0, count: 0 };
+    };
+    Grouped {
+        group: ending.number as u64,
+        count: ending.count,
+    }
+}
+
+// The group of a candidate, for callers who have seen to the refusals: the calls below, and the pick.
+pub fn group_of(candidate: &[u8], grouping: Grouping, map: &[u8]) -> Grouped
+    requires { ⌜ (length (now candidate) ≡ 20) × (limitRefusal (numbering grouping (now map)) ≡ Refusal.None) ⌝ }
+    ensures { λ r. ⌜ r ≡ groupedOf (numbering grouping (now (map .entry))) (now (candidate .entry)) ⌝ }
+{
+    match grouping {
+        Grouping::Prefixes => Grouped {
+            group: prefix_number(candidate),
+            count: 0,
+        },
+        Grouping::Map => walked_group(candidate, map),
+    }
+}
+
+// Why a map that is taken as it is is refused: 1 over the limit, as the walk refuses it.
+pub fn limit_refusal(grouping: Grouping, map: &[u8]) -> Refusal
+    ensures { λ r. ⌜ r ≡ limitRefusal (numbering grouping (now (map .entry))) ⌝ }
+{
+    match grouping {
+        Grouping::Prefixes => Refusal::None,
+        Grouping::Map => {
+            if MAX_MAP_BYTES < map.len() {
+                return Refusal::Number(1);
+            }
+            Refusal::None
+        }
+    }
+}
+
+// Why the check refuses the map of a call: 1 to 10. It reads the whole map.
+pub fn check_refusal(grouping: Grouping, map: &[u8]) -> Refusal
+    ensures { λ r. ⌜ r ≡ checkRefusal (numbering grouping (now (map .entry))) ⌝ }
+{
+    match grouping {
+        Grouping::Prefixes => Refusal::None,
+        Grouping::Map => {
+            let verdict = asmap_check::sanity_check(map);
+            match verdict {
+                Verdict::Accepted(_, _) => Refusal::None,
+                Verdict::Refused(number) => Refusal::Number(number),
+            }
+        }
+    }
+}
+
+// The group of one candidate without a map. Refusal 13.
+pub fn prefix_group(candidate: &[u8]) -> GroupAnswer
+    ensures { λ r. ⌜ r ≡ prefixGroupCall (now (candidate .entry)) ⌝ }
+{
+    if !is_candidate(candidate) {
+        return GroupAnswer::Refused(13);
+    }
+    GroupAnswer::Group(prefix_number(candidate))
+}
+
+// The group of one candidate over a map taken as it is, for callers who checked it when they loaded it. Refusals 13, 1.
+pub fn netgroup_unchecked(candidate: &[u8], grouping: Grouping, map: &[u8]) -> GroupAnswer
+    ensures { λ r. ⌜ r ≡ netgroupUnchecked (numbering grouping (now (map .entry))) (now (candidate .entry)) ⌝ }
+{
+    if !is_candidate(candidate) {
+        return GroupAnswer::Refused(13);
+    }
+    let limited = limit_refusal(grouping, map);
+    if let Refusal::Number(number) = limited {
+        return GroupAnswer::Refused(number);
+    }
+    let grouped = group_of(candidate, grouping, map);
+    GroupAnswer::Group(grouped.group)
+}
+
+// The group of one candidate, with a map or none. Refusals 13, then with a map the check's, 1 to 10.
+pub fn netgroup(candidate: &[u8], grouping: Grouping, map: &[u8]) -> GroupAnswer
+    ensures { λ r. ⌜ r ≡ netgroupOf (numbering grouping (now (map .entry))) (now (candidate .entry)) ⌝ }
+    ensures unaborted { λ r. ⌜ Whole (numbering grouping (now (map .entry))) (now (candidate .entry)) r ⌝ }
+{
+    if !is_candidate(candidate) {
+        return GroupAnswer::Refused(13);
+    }
+    let checked = check_refusal(grouping, map);
+    if let Refusal::Number(number) = checked {
+        return GroupAnswer::Refused(number);
+    }
+    netgroup_unchecked(candidate, grouping, map)
+}

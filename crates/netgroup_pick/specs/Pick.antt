@@ -1,0 +1,77 @@
+-- The pick (document 01, Groups and pick; What a call hands back): what is answered, and what the two outputs hold then. The call
+-- of the paper checks its map; the other takes the map as it is.
+-- Assumes nothing.
+use Prim.Native.Nat.{ℕ, _+_}
+use mathlib.Core.List.{List, [], _∷_, _++_, map}
+use lib.ListN.{length, take, drop}
+use Rattle.netgroup.specs.declared.Refusal.{Refusal}
+use Rattle.netgroup.specs.declared.Refusal.the-variants.{None, Number}
+use Rattle.netgroup.specs.Group.{Numbering, groupOf, countOf}
+use Rattle.netgroup.specs.Refusal.{limitRefusal, checkRefusal}
+use Rattle.netgroup_pick.specs.declared.PickAnswer.{PickAnswer}
+use Rattle.netgroup_pick.specs.declared.PickAnswer.the-variants.{Picked, Refused}
+use Rattle.netgroup_pick.specs.declared.Totals.{Totals}
+use Rattle.netgroup_pick.specs.Candidates.{candidatesOf}
+use Rattle.netgroup_pick.specs.PickRefusal.{pickRefusal}
+use Rattle.netgroup_pick.specs.First.{Pass, firstPass}
+use Rattle.netgroup_pick.specs.Fill.{fill}
+
+-- the groups of candidates, place by place
+abbrev pub groupsOf : Numbering → List (List ℕ) → List ℕ
+groupsOf n cs = map (groupOf n) cs
+
+-- the instructions that finding each takes
+abbrev pub countsOf : Numbering → List (List ℕ) → List ℕ
+countsOf n cs = map (countOf n) cs
+
+abbrev pub sum : List ℕ → ℕ
+sum [] = 0
+sum (x ∷ xs) = x + sum xs
+
+-- all: the candidates in ranked order
+module _ (n : Numbering) (all : List (List ℕ)) (occupied : List ℕ) (max : ℕ) where
+  abbrev pub first : Pass
+  first = firstPass occupied max (groupsOf n all)
+
+  -- the places of all picks
+  abbrev pub places : List ℕ
+  places = fill all max (first .places)
+
+  -- of the candidates examined, each once for its place in the list
+  abbrev pub instructions : ℕ
+  instructions = sum (take (first .examined) (countsOf n all))
+
+  abbrev pub totals : Totals
+  totals = record { total = length places; first = length (first .places); examined = first .examined; instructions = instructions }
+
+-- a list written to the front of an output; what lies past it stays
+abbrev pub written : List ℕ → List ℕ → List ℕ
+written xs output = xs ++ drop (length xs) output
+
+-- the answer, and the two outputs at exit
+pub record Handed : Type 0 where
+  pub answer : PickAnswer
+  pub picks : List ℕ
+  pub groups : List ℕ
+
+abbrev pub handed : PickAnswer → List ℕ → List ℕ → Handed
+handed answer picks groups = record { answer = answer; picks = picks; groups = groups }
+
+-- a refusal leaves both outputs as they were; a pick writes all picks to the one, and the groups of the first pass to the other
+abbrev pub pickUnless : Refusal → Numbering → List (List ℕ) → List ℕ → ℕ → List ℕ → List ℕ → Handed
+pickUnless None n all occupied max picks groups =
+    handed (Picked (totals n all occupied max))
+    (written (places n all occupied max) picks)
+    (written (first n all occupied max .groups) groups)
+pickUnless (Number k) n all occupied max picks groups = handed (Refused k) picks groups
+
+-- ofMap: what is wrong with the map
+abbrev pub pickCall : Refusal → Numbering → List ℕ → List ℕ → ℕ → List ℕ → List ℕ → Handed
+pickCall ofMap n bytes occupied max picks groups =
+    pickUnless (pickRefusal ofMap bytes occupied max picks groups) n (candidatesOf bytes) occupied max picks groups
+
+abbrev pub selectDiverse : Numbering → List ℕ → List ℕ → ℕ → List ℕ → List ℕ → Handed
+selectDiverse n = pickCall (checkRefusal n) n
+
+abbrev pub selectUnchecked : Numbering → List ℕ → List ℕ → ℕ → List ℕ → List ℕ → Handed
+selectUnchecked n = pickCall (limitRefusal n) n
