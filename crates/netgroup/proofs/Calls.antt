@@ -1,23 +1,23 @@
 -- The ways out of a group call, and that the call which checks its map is made of the one that does not.
 -- Assumes nothing.
-use mathlib.Core.Path.{_≡_, _∙_, refl, sym, ap, subst}
+use mathlib.Core.Path.{_≡_, _∙_, refl, sym, subst}
 use mathlib.Core.List.{List}
 use mathlib.Core.Bool.{Bool, true, false}
 use Prim.Native.Nat.{ℕ}
 use borrow.Author.Tests.{eqb-true}
 use lib.Dec.{eqb}
-use lib.ListN.{length, getD}
+use lib.ListN.{length}
 use Rattle.netgroup.specs.declared.GroupAnswer.{GroupAnswer}
 use Rattle.netgroup.specs.declared.GroupAnswer.the-variants.{Group, Refused}
 use Rattle.netgroup.specs.declared.Refusal.{Refusal}
 use Rattle.netgroup.specs.declared.Refusal.the-variants.{None, Number}
-use Rattle.netgroup.specs.Candidate.{valid, family, mapped}
+use Rattle.netgroup.specs.Candidate.{valid}
 use Rattle.netgroup.specs.Group.{Numbering, groupOf}
 use Rattle.netgroup.specs.Refusal.{checkRefusal, limitRefusal}
 use Rattle.netgroup.specs.Netgroup.{groupCall, netgroupOf, netgroupUnchecked, Whole}
 use Rattle.netgroup.proofs.Refusals.{check-limit}
 use Rattle.netgroup.proofs.Walked.{ended}
-use mathlib.Core.Bool.{_&&_, false≢true}
+use mathlib.Core.Bool.{_&&_}
 
 and-left : (a b : Bool) → (a && b) ≡ true → a ≡ true
 and-left true b e = refl

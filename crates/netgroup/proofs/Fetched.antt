@@ -1,6 +1,6 @@
 -- A RETURN that stands in a map carries a number from 1 on, as the row of AS numbers has it; so a walk that returns ends with one.
 -- Assumes nothing.
-use mathlib.Core.Path.{_≡_, refl, ap, subst}
+use mathlib.Core.Path.{_≡_, refl}
 use mathlib.Core.List.{List}
 use mathlib.Core.Bool.{Bool, true, false}
 use Prim.Native.Nat.{ℕ, zero, suc, _+_, _≤_}

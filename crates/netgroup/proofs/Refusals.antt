@@ -1,8 +1,8 @@
 -- What follows where a call is not refused.
 -- Assumes nothing.
-use mathlib.Core.Path.{_≡_, _∙_, refl, sym, ap}
+use mathlib.Core.Path.{_≡_, refl}
 use mathlib.Core.List.{List}
-use mathlib.Core.Bool.{Bool, true, false, not}
+use mathlib.Core.Bool.{Bool, true, false}
 use Prim.Native.Nat.{ℕ, _≤_}
 use native.Mathlib.Omega.{arith}
 use borrow.Author.Tests.{ltb-false, le-ltb, lt-ltb}
@@ -13,7 +13,6 @@ use Rattle.asmap_program.specs.declared.Verdict.{Verdict}
 use Rattle.asmap_program.specs.declared.Verdict.the-variants.{Accepted, Refused}
 use Rattle.asmap_program.specs.Check.{check}
 use Rattle.asmap_codes.specs.Instruction.{mapOf}
-use Rattle.asmap_check.specs.Check.{checkOf}
 use Rattle.netgroup.specs.declared.Grouping.{Grouping}
 use Rattle.netgroup.specs.declared.Grouping.the-variants.{Prefixes, Map}
 use Rattle.netgroup.specs.declared.Refusal.{Refusal}

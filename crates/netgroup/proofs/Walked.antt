@@ -1,11 +1,10 @@
 -- The walk behind a group: what the call of the walk hands back, and how it ends where the check accepts the map. The second
 -- rests on demand 3 of the walk (asmap_program, `demand3`).
 -- Assumes nothing.
-use mathlib.Core.Path.{_≡_, _∙_, refl, sym, ap}
+use mathlib.Core.Path.{_≡_}
 use mathlib.Core.Logic.{_⊎_, inl, inr, ⊎-elim}
-use mathlib.Core.List.{List, []}
-use mathlib.Core.Bool.{Bool, true, false}
-use Prim.Native.Nat.{ℕ, zero, suc, _+_, _≤_}
+use mathlib.Core.List.{List}
+use Prim.Native.Nat.{ℕ, _≤_}
 use native.Mathlib.Omega.{arith}
 use borrow.Author.Tests.{eq-eqb, le-ltb}
 use lib.ListN.{length}
@@ -17,10 +16,10 @@ use Rattle.asmap_program.proofs.Demand.{demand3, ended-not-aborted}
 use Rattle.asmap_codes.specs.Instruction.{mapOf}
 use Rattle.asmap_codes.proofs.MapLaws.{laws}
 use Rattle.asmap_walk.specs.Interpret.{walkOf, summary, interpretOf}
-use Rattle.asmap_walk.specs.declared.Interpreted.the-variants.{Ended as Walks, Refused}
+use Rattle.asmap_walk.specs.declared.Interpreted.the-variants.{Ended as Walks}
 use Rattle.netgroup.specs.declared.Refusal.the-variants.{None}
 use Rattle.netgroup.specs.Candidate.{address}
-use Rattle.netgroup.specs.Group.{Numbering, byMap, byPrefixes, walkFor}
+use Rattle.netgroup.specs.Group.{Numbering, byMap, byPrefixes}
 use Rattle.netgroup.specs.Refusal.{checkRefusal}
 use Rattle.netgroup.specs.Ended.{Finished, Ended}
 use Rattle.netgroup.proofs.Refusals.{Passes, none-check}

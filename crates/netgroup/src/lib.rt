@@ -1,7 +1,7 @@
 // The group of a peer (document 01, Groups and pick): one candidate, and a map or none.
 ghost use mathlib.Core.Path.{_≡_};
-ghost use Prim.Native.Nat.{ℕ, _+_, _-_, _*_, _≤_, _<_};
-ghost use lib.ListN.{length, take, drop, getD};
+ghost use Prim.Native.Nat.{_+_, _*_, _≤_, _<_};
+ghost use lib.ListN.{length};
 ghost use Rattle.asmap_program.specs.Map.{limit};
 ghost use Rattle.netgroup.specs.Candidate.{same, mapped, valid};
 ghost use Rattle.netgroup.specs.Group.{numbering, walkFor, prefixGroup, groupedOf};

@@ -8,3 +8,4 @@ pub mod Beginnings
 pub mod Fills
 pub mod PickRefusals
 pub mod Picks
+pub mod Examples

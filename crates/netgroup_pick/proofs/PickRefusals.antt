@@ -1,8 +1,8 @@
 -- The refusals of a pick: which comes first, and what follows where there is none.
 -- Assumes nothing.
-use mathlib.Core.Path.{_≡_, refl}
+use mathlib.Core.Path.{_≡_}
 use mathlib.Core.List.{List}
-use mathlib.Core.Bool.{Bool, not}
+use mathlib.Core.Bool.{not}
 use Prim.Native.Nat.{ℕ, _/_, _%_, _≤_, min}
 use lib.Dec.{eqb, ltb}
 use lib.ListN.{length}

@@ -1,14 +1,14 @@
 -- The whole pick from its two passes; demand 3; and that the call which checks its map is made of the one that does not.
 -- Assumes nothing.
 use mathlib.Core.Path.{_≡_, _∙_, refl, sym, ap, subst}
-use mathlib.Core.List.{List, [], _∷_, map}
-use Prim.Native.Nat.{ℕ, zero, suc, _+_, _/_, _≤_}
+use mathlib.Core.List.{List, [], _∷_}
+use Prim.Native.Nat.{ℕ, zero, suc, _/_, _≤_}
 use native.Mathlib.Omega.{arith}
 use lib.ListN.{length, take, drop, length-append}
 use lib.Seq.{take-append-le}
 use Rattle.netgroup.specs.declared.Refusal.{Refusal}
 use Rattle.netgroup.specs.declared.Refusal.the-variants.{None, Number}
-use Rattle.netgroup.specs.Group.{Numbering, byMap, byPrefixes, countOf}
+use Rattle.netgroup.specs.Group.{Numbering, byMap, byPrefixes}
 use Rattle.netgroup.specs.Refusal.{limitRefusal, checkRefusal}
 use Rattle.netgroup.proofs.Refusals.{check-limit}
 use Rattle.netgroup_pick.specs.declared.PickAnswer.the-variants.{Picked, Refused}
@@ -18,7 +18,7 @@ use Rattle.netgroup_pick.specs.Candidates.{candidatesOf}
 use Rattle.netgroup_pick.specs.Fill.{fill}
 use Rattle.netgroup_pick.specs.Places.{Places}
 use Rattle.netgroup_pick.specs.PickRefusal.{listRefusal, pickRefusal}
-use Rattle.netgroup_pick.specs.Pick.{groupsOf, countsOf, sum, first, places, instructions, written, Handed, handed, pickUnless, pickCall, selectDiverse, selectUnchecked}
+use Rattle.netgroup_pick.specs.Pick.{groupsOf, countsOf, sum, first, places, instructions, written, handed, pickUnless, pickCall, selectDiverse, selectUnchecked}
 use Rattle.netgroup_pick.specs.Passed.{PassedFirst, Filled}
 use Rattle.netgroup_pick.specs.Demand.{walkCounts, FirstPassed}
 use Rattle.netgroup_pick.proofs.Lists.{length-candidates, length-groups}
@@ -26,7 +26,7 @@ use Rattle.netgroup_pick.proofs.Outputs.{take-written, written-over}
 use Rattle.netgroup_pick.proofs.Passes.{first-places, first-even}
 use Rattle.netgroup_pick.proofs.Fills.{fill-begins}
 use Rattle.netgroup_pick.proofs.Beginnings.{Begins, begins-length, begins-take}
-use Rattle.netgroup_pick.proofs.PickRefusals.{first-list, then-map, then-room}
+use Rattle.netgroup_pick.proofs.PickRefusals.{then-room}
 
 -- a refusal: its number, and both outputs as they were
 pub refused : (ofMap : Refusal) (n : Numbering) (bytes occupied : List ℕ) (max : ℕ) (picks groups : List ℕ) (k : ℕ)

@@ -1,9 +1,8 @@
 // The pick of peers that are spread over groups (document 01, Groups and pick).
 ghost use mathlib.Core.Path.{_≡_};
-ghost use mathlib.Core.Bool.{Bool};
-ghost use mathlib.Core.List.{List, []};
-ghost use Prim.Native.Nat.{ℕ, _+_, _-_, _*_, _/_, _%_, _≤_, _<_, min};
-ghost use lib.ListN.{length, take, drop, getD};
+ghost use mathlib.Core.List.{[]};
+ghost use Prim.Native.Nat.{_+_, _*_, _/_, _%_, _≤_, _<_, min};
+ghost use lib.ListN.{length, take, getD};
 ghost use Rattle.netgroup.specs.Group.{numbering};
 ghost use Rattle.netgroup.specs.Refusal.{limitRefusal, checkRefusal};
 ghost use Rattle.netgroup_pick.specs.Candidates.{candidatesOf, allValid};

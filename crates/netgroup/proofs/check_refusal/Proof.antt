@@ -1,8 +1,7 @@
 -- `check_refusal` is `checkRefusal`: the verdict, by its cases.
 -- Assumes nothing.
-use mathlib.Core.Path.{_≡_, _∙_, refl, sym, ap}
-use Rattle.netgroup.specs.Refusal.{verdictRefusal, checkRefusal}
-use Rattle.netgroup.specs.Group.{numbering}
+use mathlib.Core.Path.{_∙_, sym, ap}
+use Rattle.netgroup.specs.Refusal.{verdictRefusal}
 use borrow.Author.Needs.{needs}
 use Rattle.netgroup.proofs.check_refusal.Statement.{statement}
 use Rattle.netgroup.proofs.check_refusal.Tie as tie

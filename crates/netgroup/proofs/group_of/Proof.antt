@@ -1,8 +1,6 @@
 -- `group_of` is `groupedOf`, by a map or by prefixes.
 -- Assumes nothing.
-use mathlib.Core.Path.{_≡_, _∙_, refl, sym, ap}
-use native.Mathlib.Omega.{arith}
-use Rattle.netgroup.specs.declared.Grouped.{Grouped}
+use mathlib.Core.Path.{ap}
 use Prim.Native.Nat.{ℕ}
 use Rattle.netgroup.proofs.Refusals.{none-limit}
 use borrow.Author.Needs.{needs}

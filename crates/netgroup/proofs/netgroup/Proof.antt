@@ -1,11 +1,10 @@
 -- `netgroup` is the group call over a map that is checked; no walk behind a group aborts (`call-checked`).
 -- Assumes nothing.
-use mathlib.Core.Path.{_≡_, _∙_, refl, sym, ap}
+use mathlib.Core.Path.{_∙_, sym}
 use borrow.Author.Tests.{not-true, not-false}
-use Rattle.netgroup.specs.declared.Refusal.the-variants.{None}
-use Rattle.netgroup.specs.Group.{numbering, byPrefixes, groupOf}
-use Rattle.netgroup.specs.Refusal.{limitRefusal, checkRefusal}
-use Rattle.netgroup.proofs.Calls.{valid-length, call-invalid, call-refused, call-group, call-checked}
+use Rattle.netgroup.specs.Group.{numbering}
+use Rattle.netgroup.specs.Refusal.{checkRefusal}
+use Rattle.netgroup.proofs.Calls.{call-invalid, call-refused, call-checked}
 use borrow.Author.Needs.{needs}
 use Rattle.netgroup.proofs.netgroup.Statement.{statement}
 use Rattle.netgroup.proofs.netgroup.Tie as tie

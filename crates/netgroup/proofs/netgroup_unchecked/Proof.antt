@@ -1,13 +1,12 @@
 -- `netgroup_unchecked` is the group call over a map taken as it is.
 -- Assumes nothing.
-use mathlib.Core.Path.{_≡_, _∙_, refl, sym, ap}
+use mathlib.Core.Path.{_∙_, sym, ap}
 use borrow.Author.Tests.{not-true, not-false}
-use Rattle.netgroup.specs.declared.Refusal.the-variants.{None}
 use Rattle.netgroup.specs.declared.GroupAnswer.the-variants.{Group}
 use Rattle.netgroup.specs.declared.Grouped.{Grouped}
-use Rattle.netgroup.specs.Group.{numbering, byPrefixes, groupOf}
-use Rattle.netgroup.specs.Refusal.{limitRefusal, checkRefusal}
-use Rattle.netgroup.proofs.Calls.{valid-length, call-invalid, call-refused, call-group, call-checked}
+use Rattle.netgroup.specs.Group.{numbering}
+use Rattle.netgroup.specs.Refusal.{limitRefusal}
+use Rattle.netgroup.proofs.Calls.{valid-length, call-invalid, call-refused, call-group}
 use borrow.Author.Needs.{needs}
 use Rattle.netgroup.proofs.netgroup_unchecked.Statement.{statement}
 use Rattle.netgroup.proofs.netgroup_unchecked.Tie as tie

@@ -1,11 +1,11 @@
 -- `prefix_group` is the group call by prefixes.
 -- Assumes nothing.
-use mathlib.Core.Path.{_≡_, _∙_, refl, sym, ap}
+use mathlib.Core.Path.{_∙_, refl, sym, ap}
 use borrow.Author.Tests.{not-true, not-false}
 use Rattle.netgroup.specs.declared.Refusal.the-variants.{None}
 use Rattle.netgroup.specs.declared.GroupAnswer.the-variants.{Group}
-use Rattle.netgroup.specs.Group.{numbering, byPrefixes, groupOf}
-use Rattle.netgroup.proofs.Calls.{valid-length, call-invalid, call-refused, call-group, call-checked}
+use Rattle.netgroup.specs.Group.{byPrefixes}
+use Rattle.netgroup.proofs.Calls.{valid-length, call-invalid, call-group}
 use borrow.Author.Needs.{needs}
 use Rattle.netgroup.proofs.prefix_group.Statement.{statement}
 use Rattle.netgroup.proofs.prefix_group.Tie as tie

@@ -1,11 +1,11 @@
 -- `walked_group` hands on what the walk ended with: a map within the limit is walked (`walk-ends`).
 -- Assumes nothing.
-use mathlib.Core.Path.{_≡_, _∙_, refl, sym, ap}
+use mathlib.Core.Path.{_≡_, _∙_, sym, ap}
 use native.Mathlib.Omega.{arith}
 use Prim.Native.Nat.{ℕ}
-use lib.ListN.{length, length-take, length-drop}
+use lib.ListN.{length-take, length-drop}
 use Rattle.asmap_walk.specs.declared.Ending.{Ending}
-use Rattle.asmap_walk.specs.Interpret.{walkOf, summary}
+use Rattle.asmap_walk.specs.Interpret.{summary}
 use Rattle.netgroup.specs.Candidate.{address}
 use Rattle.netgroup.specs.Group.{walkFor}
 use Rattle.netgroup.proofs.Walked.{walk-ends}

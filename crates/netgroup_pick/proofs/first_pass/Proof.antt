@@ -9,7 +9,7 @@ use Prim.Native.Nat.{_-_, _/_, _≤_, _<_}
 use native.Mathlib.Omega.{arith}
 use lib.ListN.{length, getD}
 use Rattle.netgroup.specs.declared.Grouped.{Grouped}
-use Rattle.netgroup.specs.Group.{numbering, groupOf, countOf, groupedOf}
+use Rattle.netgroup.specs.Group.{numbering, groupedOf}
 use Rattle.netgroup_pick.specs.Candidates.{candidatesOf}
 use Rattle.netgroup_pick.specs.Pick.{groupsOf, countsOf}
 use Rattle.netgroup_pick.proofs.Passes.{Passing, passing-start, passing-take, passing-over, passing-full, passing-done}

@@ -1,7 +1,7 @@
 -- `is_free` is `free`.
 -- Assumes nothing.
-use mathlib.Core.Path.{_≡_, _∙_, refl, sym, ap}
-use mathlib.Core.Bool.{Bool, not}
+use mathlib.Core.Path.{_∙_, sym, ap}
+use mathlib.Core.Bool.{not}
 use borrow.Author.Needs.{needs}
 use Rattle.netgroup_pick.proofs.is_free.Statement.{statement}
 use Rattle.netgroup_pick.proofs.is_free.Tie as tie

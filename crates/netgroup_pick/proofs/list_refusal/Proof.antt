@@ -1,6 +1,6 @@
 -- `list_refusal` is `listRefusal`, by the tests that led to each return.
 -- Assumes nothing.
-use mathlib.Core.Path.{_≡_, _∙_, refl, sym, ap}
+use mathlib.Core.Path.{_∙_, sym}
 use native.Mathlib.Omega.{arith}
 use borrow.Author.Tests.{eq-eqb, ne-eqb, lt-ltb, le-ltb}
 use Prim.Native.Nat.{_/_, _%_}

@@ -1,6 +1,6 @@
 -- `pick_refusal` is `pickRefusal` of a map taken as it is: the first refusal that there is.
 -- Assumes nothing.
-use mathlib.Core.Path.{_≡_, _∙_, refl, sym, ap}
+use mathlib.Core.Path.{_∙_, sym}
 use Rattle.netgroup.specs.Group.{numbering}
 use Rattle.netgroup.specs.Refusal.{limitRefusal}
 use Rattle.netgroup_pick.proofs.PickRefusals.{first-list, then-map, then-room}

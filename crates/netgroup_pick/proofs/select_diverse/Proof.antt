@@ -1,6 +1,6 @@
 -- `select_diverse` is the pick over a map that is checked; past the check it is the pick over the map as it is.
 -- Assumes nothing.
-use mathlib.Core.Path.{_≡_, _∙_, refl, sym, ap}
+use mathlib.Core.Path.{_∙_, sym}
 use Rattle.netgroup.specs.Group.{numbering}
 use Rattle.netgroup.specs.Refusal.{checkRefusal}
 use Rattle.netgroup_pick.proofs.PickRefusals.{first-list, then-map}

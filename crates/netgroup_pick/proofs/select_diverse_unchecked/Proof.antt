@@ -1,6 +1,6 @@
 -- `select_diverse_unchecked` is the pick over a map taken as it is; demand 3 follows from what the first pass leaves.
 -- Assumes nothing.
-use mathlib.Core.Path.{_≡_, _∙_, refl, sym, ap}
+use mathlib.Core.Path.{_∙_, sym}
 use mathlib.Core.List.{[]}
 use native.Mathlib.Omega.{arith}
 use lib.ListN.{getD}
