@@ -13,3 +13,37 @@ pub mod error {
         Encode(String),
     }
 }
+
+pub mod document;
+
+/// The test maps, by name.
+pub const MAPS: [(&str, &[u8]); 11] = [
+    ("TWO_PREFIX_ASMAP", asmap::TWO_PREFIX_ASMAP),
+    ("LOOPBACK_ASMAP", asmap::LOOPBACK_ASMAP),
+    ("LONE_RETURN_ASMAP", asmap::LONE_RETURN_ASMAP),
+    ("ASMAP_SECOND_DEFAULT", asmap::ASMAP_SECOND_DEFAULT),
+    ("ASMAP_TRAILING_ONE", asmap::ASMAP_TRAILING_ONE),
+    ("ASMAP_EIGHT_TRAILING_ZEROS", asmap::ASMAP_EIGHT_TRAILING_ZEROS),
+    ("ASMAP_TWO_SHORT_MATCHES", asmap::ASMAP_TWO_SHORT_MATCHES),
+    ("ASMAP_MATCH_PAST_END", asmap::ASMAP_MATCH_PAST_END),
+    ("ASMAP_JUMP_PAST_FILE", asmap::ASMAP_JUMP_PAST_FILE),
+    ("ASMAP_JUMP_SHORT_TAIL", asmap::ASMAP_JUMP_SHORT_TAIL),
+    ("ASMAP_JUMP_OFF_END", asmap::ASMAP_JUMP_OFF_END),
+];
+
+/// Bytes written in hexadecimal, with spaces between them.
+pub fn bytes(hex: &str) -> Vec<u8> {
+    hex.split_whitespace().map(|byte| u8::from_str_radix(byte, 16).expect("two digits")).collect()
+}
+
+/// The original's writer of an opcode and an operand of its row. It has no DEFAULT of its own.
+pub fn instruction(opcode: u32, operand: u32) -> Vec<bool> {
+    use asmap::*;
+    let mut bits = encode_bits(opcode, 0, &TYPE_BIT_SIZES);
+    bits.extend(match opcode {
+        JUMP => encode_bits(operand, 17, &JUMP_BIT_SIZES),
+        MATCH => encode_bits(operand, 2, &MATCH_BIT_SIZES),
+        _ => encode_bits(operand, 1, &ASN_BIT_SIZES),
+    });
+    bits
+}

@@ -1,6 +1,7 @@
 //! What the original says to each case of the program `codes_vectors`, in that program's format: its output is
 //! crates/codes_vectors/stdout.
 use oracle::asmap::{self, *};
+use oracle::{instruction, MAPS};
 use std::panic;
 
 struct Row {
@@ -15,20 +16,6 @@ const ROWS: [Row; 4] = [
     Row { name: "asn", least: 1, sizes: &ASN_BIT_SIZES, read: decode_asn },
     Row { name: "match", least: 2, sizes: &MATCH_BIT_SIZES, read: decode_match },
     Row { name: "jump", least: 17, sizes: &JUMP_BIT_SIZES, read: decode_jump },
-];
-
-const MAPS: [(&str, &[u8]); 11] = [
-    ("TWO_PREFIX_ASMAP", TWO_PREFIX_ASMAP),
-    ("LOOPBACK_ASMAP", LOOPBACK_ASMAP),
-    ("LONE_RETURN_ASMAP", LONE_RETURN_ASMAP),
-    ("ASMAP_SECOND_DEFAULT", ASMAP_SECOND_DEFAULT),
-    ("ASMAP_TRAILING_ONE", ASMAP_TRAILING_ONE),
-    ("ASMAP_EIGHT_TRAILING_ZEROS", ASMAP_EIGHT_TRAILING_ZEROS),
-    ("ASMAP_TWO_SHORT_MATCHES", ASMAP_TWO_SHORT_MATCHES),
-    ("ASMAP_MATCH_PAST_END", ASMAP_MATCH_PAST_END),
-    ("ASMAP_JUMP_PAST_FILE", ASMAP_JUMP_PAST_FILE),
-    ("ASMAP_JUMP_SHORT_TAIL", ASMAP_JUMP_SHORT_TAIL),
-    ("ASMAP_JUMP_OFF_END", ASMAP_JUMP_OFF_END),
 ];
 
 /// The first bit lowest.
@@ -120,9 +107,7 @@ fn instructions(name: &str, map: &[u8]) {
             println!("  {place}: refused 4");
             return;
         }
-        let row = operand_row(opcode);
-        let mut bits = encode_bits(opcode, 0, &TYPE_BIT_SIZES);
-        bits.extend(encode_bits(operand, row.least, row.sizes));
+        let bits = instruction(opcode, operand);
         assert_eq!(bits.len(), pos - place);
         println!("  {place}: opcode {opcode} operand {operand} length {} bits {}", pos - place, word(&bits));
     }

@@ -1,0 +1,182 @@
+//! Document 01's check and walk, worked through step by step from its text, on the original's decoders. They say what the original
+//! does not: reasons, counts, depth, kinds of end and bits. Where the original has a say, the programs of `bin` hold them to it.
+use crate::asmap::*;
+
+#[derive(Clone, Copy, PartialEq)]
+pub enum Verdict {
+    Accepted { count: u32, depth: usize },
+    Refused(u32),
+}
+
+/// One step of the check: on, or the answer.
+struct Check<'a> {
+    map: &'a [u8],
+    pos: usize,
+    left: u32,
+    previous: u32,
+    short_before: bool,
+    open: Vec<(usize, u32)>,
+    count: u32,
+    depth: usize,
+}
+
+impl Check<'_> {
+    fn end(&self) -> usize {
+        8 * self.map.len()
+    }
+
+    fn at_or_past_innermost(&self, place: usize) -> bool {
+        self.open.last().is_some_and(|&(target, _)| place >= target)
+    }
+
+    fn number(&mut self) -> Result<(), Verdict> {
+        if self.previous == DEFAULT {
+            return Err(Verdict::Refused(5));
+        }
+        match decode_asn(&mut self.pos, self.map) {
+            INVALID => Err(Verdict::Refused(4)),
+            _ => Ok(()),
+        }
+    }
+
+    fn step_return(&mut self) -> Result<(), Verdict> {
+        self.number()?;
+        self.count += 1;
+        let Some((target, saved)) = self.open.pop() else {
+            let padding = self.pos..self.end();
+            let one = padding.clone().any(|bit| self.map[bit / 8] >> (bit % 8) & 1 == 1);
+            if padding.len() > 7 || one {
+                return Err(Verdict::Refused(6));
+            }
+            return Err(Verdict::Accepted { count: self.count, depth: self.depth });
+        };
+        if self.pos != target {
+            return Err(Verdict::Refused(7));
+        }
+        self.left = saved;
+        self.previous = JUMP;
+        Ok(())
+    }
+
+    fn step_jump(&mut self) -> Result<(), Verdict> {
+        let operand = decode_jump(&mut self.pos, self.map);
+        if operand == INVALID {
+            return Err(Verdict::Refused(4));
+        }
+        if self.left == 0 {
+            return Err(Verdict::Refused(8));
+        }
+        let target = self.pos + operand as usize;
+        if self.at_or_past_innermost(target) {
+            return Err(Verdict::Refused(9));
+        }
+        self.left -= 1;
+        self.open.push((target, self.left));
+        self.depth = self.depth.max(self.open.len());
+        self.count += 1;
+        self.previous = JUMP;
+        Ok(())
+    }
+
+    fn step_match(&mut self, short_before: bool) -> Result<(), Verdict> {
+        let operand = decode_match(&mut self.pos, self.map);
+        if operand == INVALID {
+            return Err(Verdict::Refused(4));
+        }
+        let length = bit_width(operand) - 1;
+        if length < 8 && short_before {
+            return Err(Verdict::Refused(10));
+        }
+        if length > self.left {
+            return Err(Verdict::Refused(8));
+        }
+        self.left -= length;
+        self.short_before = length < 8;
+        self.count += 1;
+        self.previous = MATCH;
+        Ok(())
+    }
+
+    fn step_default(&mut self) -> Result<(), Verdict> {
+        self.number()?;
+        self.count += 1;
+        self.previous = DEFAULT;
+        Ok(())
+    }
+
+    fn step(&mut self) -> Result<(), Verdict> {
+        if self.pos == self.end() {
+            return Err(Verdict::Refused(2));
+        }
+        if self.at_or_past_innermost(self.pos) {
+            return Err(Verdict::Refused(3));
+        }
+        let short_before = std::mem::replace(&mut self.short_before, false);
+        match decode_type(&mut self.pos, self.map) {
+            RETURN => self.step_return(),
+            JUMP => self.step_jump(),
+            MATCH => self.step_match(short_before),
+            DEFAULT => self.step_default(),
+            _ => Err(Verdict::Refused(4)),
+        }
+    }
+}
+
+/// The check over 128 address bits.
+pub fn check(map: &[u8]) -> Verdict {
+    let (previous, short_before) = (JUMP, false);
+    let mut check = Check { map, pos: 0, left: 128, previous, short_before, open: vec![], count: 0, depth: 0 };
+    loop {
+        if let Err(verdict) = check.step() {
+            return verdict;
+        }
+    }
+}
+
+pub struct Walk {
+    pub kind: &'static str,
+    pub number: u32,
+    pub count: u32,
+    pub bits: usize,
+}
+
+/// The walk of any map by 16 address bytes.
+pub fn walk(map: &[u8], address: &[u8; 16]) -> Walk {
+    let bit = |u: usize| address[u / 8] as u32 >> (7 - u % 8) & 1;
+    let (mut pos, mut used, mut default, mut count) = (0, 0, 0, 0);
+    loop {
+        let opcode = decode_type(&mut pos, map);
+        let operand = match opcode {
+            JUMP => decode_jump(&mut pos, map),
+            MATCH => decode_match(&mut pos, map),
+            RETURN | DEFAULT => decode_asn(&mut pos, map),
+            _ => INVALID,
+        };
+        let abort = |count, bits| Walk { kind: "abort", number: 0, count, bits };
+        if operand == INVALID {
+            return abort(count, used);
+        }
+        count += 1;
+        match opcode {
+            RETURN => return Walk { kind: "return", number: operand, count, bits: used },
+            DEFAULT => default = operand,
+            JUMP if used == 128 => return abort(count, used),
+            JUMP => {
+                pos += operand as usize * bit(used) as usize;
+                used += 1;
+            }
+            _ => {
+                let length = bit_width(operand) as usize - 1;
+                if used + length > 128 {
+                    return abort(count, used);
+                }
+                for k in (0..length).rev() {
+                    used += 1;
+                    if bit(used - 1) != operand >> k & 1 {
+                        return Walk { kind: "difference", number: default, count, bits: used };
+                    }
+                }
+            }
+        }
+    }
+}
