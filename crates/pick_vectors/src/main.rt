@@ -135,10 +135,20 @@ fn say_answer(answer: PickAnswer) {
     }
 }
 
-fn say_max(max: usize) {
+fn say_head(name: &[u8], max: usize, answer: PickAnswer) {
+    say(name);
     say(b" max ");
     number(max as u64);
     say(b": ");
+    say_answer(answer);
+}
+
+fn say_outputs(picks: &[u16], groups: &[u64]) {
+    say(b"; picks");
+    say_picks(picks);
+    say(b"; groups");
+    say_groups(groups);
+    say(b"\n");
 }
 
 // ---- groups
@@ -235,14 +245,8 @@ fn pick(
         picks,
         groups,
     );
-    say(name);
-    say_max(max);
-    say_answer(answer);
-    say(b"; picks");
-    say_picks(picks);
-    say(b"; groups");
-    say_groups(groups);
-    say(b"\n");
+    say_head(name, max, answer);
+    say_outputs(picks, groups);
 }
 
 // Into outputs of twelve places.
@@ -291,14 +295,8 @@ fn unchecked(name: &[u8], candidates: &[u8], max: usize, map: &[u8]) {
         &mut picks,
         &mut groups,
     );
-    say(name);
-    say_max(max);
-    say_answer(answer);
-    say(b"; picks");
-    say_picks(&picks);
-    say(b"; groups");
-    say_groups(&groups);
-    say(b"\n");
+    say_head(name, max, answer);
+    say_outputs(&picks, &groups);
 }
 
 // ---- as many candidates as there may be, and one more
@@ -371,9 +369,7 @@ fn pick_many(
         picks,
         groups,
     );
-    say(name);
-    say_max(max);
-    say_answer(answer);
+    say_head(name, max, answer);
     say(b"; sum ");
     number(fold(picks, groups));
     say(b"\n");
@@ -500,210 +496,119 @@ fn more(two: &[u8]) {
 
 // ---- refusals, each with all that comes after it wrong too
 
-fn refusals(mixed: &[u8], two: &[u8], none: &[u8]) {
+// By a map, into picks one place too short.
+fn refused(name: &[u8], candidates: &[u8], map: &[u8]) {
     let mut picks = [0u16; 2];
     let mut groups = [0u64; 3];
     pick(
-        b"length, map, room",
-        &twenty_one(),
+        name,
+        candidates,
         &nothing(),
         3,
         Grouping::Map,
-        none,
-        &mut picks,
-        &mut groups,
-    );
-    pick(
-        b"family, map, room",
-        &other_family(),
-        &nothing(),
-        3,
-        Grouping::Map,
-        none,
-        &mut picks,
-        &mut groups,
-    );
-    pick(
-        b"second byte, map, room",
-        &second_byte(),
-        &nothing(),
-        3,
-        Grouping::Map,
-        none,
-        &mut picks,
-        &mut groups,
-    );
-    pick(
-        b"mapped form, map, room",
-        &not_mapped(),
-        &nothing(),
-        3,
-        Grouping::Map,
-        none,
-        &mut picks,
-        &mut groups,
-    );
-    pick(
-        b"map, room",
-        mixed,
-        &nothing(),
-        3,
-        Grouping::Map,
-        none,
-        &mut picks,
-        &mut groups,
-    );
-    pick(
-        b"room",
-        mixed,
-        &nothing(),
-        3,
-        Grouping::Map,
-        two,
+        map,
         &mut picks,
         &mut groups,
     );
 }
 
-// The check's reasons, and that without a map what stands in its place is not looked at.
-fn reasons(mixed: &[u8], none: &[u8]) {
-    pick12(b"empty map", mixed, &nothing(), 3, Grouping::Map, &empty());
-    pick12(
+fn refusals(mixed: &[u8], two: &[u8], none: &[u8]) {
+    refused(b"length, map, room", &twenty_one(), none);
+    refused(b"family, map, room", &other_family(), none);
+    refused(b"second byte, map, room", &second_byte(), none);
+    refused(b"mapped form, map, room", &not_mapped(), none);
+    refused(b"map, room", mixed, none);
+    refused(b"room", mixed, two);
+}
+
+// The check's reasons.
+fn checked(name: &[u8], mixed: &[u8], map: &[u8]) {
+    pick12(name, mixed, &nothing(), 3, Grouping::Map, map);
+}
+
+fn reasons(mixed: &[u8]) {
+    checked(b"empty map", mixed, &empty());
+    checked(
         b"second default",
         mixed,
-        &nothing(),
-        3,
-        Grouping::Map,
         &asmap_test_maps::asmap_second_default(),
     );
-    pick12(
+    checked(
         b"trailing zeros",
         mixed,
-        &nothing(),
-        3,
-        Grouping::Map,
         &asmap_test_maps::asmap_eight_trailing_zeros(),
     );
-    pick12(
+    checked(
         b"jump past file",
         mixed,
-        &nothing(),
-        3,
-        Grouping::Map,
         &asmap_test_maps::asmap_jump_past_file(),
     );
-    pick12(
+    checked(
         b"match past end",
         mixed,
-        &nothing(),
-        3,
-        Grouping::Map,
         &asmap_test_maps::asmap_match_past_end(),
     );
-    pick12(
+    checked(
         b"two short matches",
         mixed,
-        &nothing(),
-        3,
-        Grouping::Map,
         &asmap_test_maps::asmap_two_short_matches(),
-    );
-    pick12(
-        b"no map asked for",
-        mixed,
-        &nothing(),
-        3,
-        Grouping::Prefixes,
-        none,
     );
 }
 
-// Outputs just long enough, and one short.
+// Outputs just long enough, and one short. Without a map what stands in its place is not looked at.
+fn room(name: &[u8], mixed: &[u8], max: usize, none: &[u8], picks: &mut [u16], groups: &mut [u64]) {
+    pick(
+        name,
+        mixed,
+        &nothing(),
+        max,
+        Grouping::Prefixes,
+        none,
+        picks,
+        groups,
+    );
+}
+
 fn room3(mixed: &[u8], none: &[u8]) {
     let mut picks2 = [0u16; 2];
     let mut picks3 = [0u16; 3];
     let mut groups2 = [0u64; 2];
     let mut groups3 = [0u64; 3];
-    pick(
-        b"room",
-        mixed,
-        &nothing(),
-        3,
-        Grouping::Prefixes,
-        none,
-        &mut picks3,
-        &mut groups3,
-    );
-    pick(
-        b"picks short",
-        mixed,
-        &nothing(),
-        3,
-        Grouping::Prefixes,
-        none,
-        &mut picks2,
-        &mut groups3,
-    );
-    pick(
-        b"groups short",
-        mixed,
-        &nothing(),
-        3,
-        Grouping::Prefixes,
-        none,
-        &mut picks3,
-        &mut groups2,
-    );
+    room(b"room", mixed, 3, none, &mut picks3, &mut groups3);
+    room(b"picks short", mixed, 3, none, &mut picks2, &mut groups3);
+    room(b"groups short", mixed, 3, none, &mut picks3, &mut groups2);
 }
 
-// The same for a max above the list of ten; max 0 needs no place.
+// For a max above the list of ten.
 fn room10(mixed: &[u8], none: &[u8]) {
-    let mut picks0 = [0u16; 0];
     let mut picks9 = [0u16; 9];
     let mut picks10 = [0u16; 10];
-    let mut groups0 = [0u64; 0];
     let mut groups9 = [0u64; 9];
     let mut groups10 = [0u64; 10];
-    pick(
-        b"room",
-        mixed,
-        &nothing(),
-        LARGEST,
-        Grouping::Prefixes,
-        none,
-        &mut picks10,
-        &mut groups10,
-    );
-    pick(
+    room(b"room", mixed, LARGEST, none, &mut picks10, &mut groups10);
+    room(
         b"picks short",
         mixed,
-        &nothing(),
         LARGEST,
-        Grouping::Prefixes,
         none,
         &mut picks9,
         &mut groups10,
     );
-    pick(
+    room(
         b"groups short",
         mixed,
-        &nothing(),
         LARGEST,
-        Grouping::Prefixes,
         none,
         &mut picks10,
         &mut groups9,
     );
-    pick(
-        b"no room",
-        mixed,
-        &nothing(),
-        0,
-        Grouping::Prefixes,
-        none,
-        &mut picks0,
-        &mut groups0,
-    );
+}
+
+// Max 0 needs no place.
+fn room0(mixed: &[u8], none: &[u8]) {
+    let mut picks = [0u16; 0];
+    let mut groups = [0u64; 0];
+    room(b"no room", mixed, 0, none, &mut picks, &mut groups);
 }
 
 // ---- groups and picks over the lists and maps above
@@ -751,8 +656,6 @@ fn all_picks(mixed: &[u8], loopback: &[u8], two: &[u8], loops: &[u8], none: &[u8
         loops,
     );
     picks(b"nobody", &empty(), &some(), Grouping::Map, two);
-    unchecked(b"unchecked", mixed, 4, two);
-    unchecked(b"unchecked, no map", mixed, 4, none);
 }
 
 fn over_the_maps() {
@@ -763,16 +666,19 @@ fn over_the_maps() {
     let none = no_map();
     all_groups(&mixed, &loopback, &two, &loops, &none);
     all_picks(&mixed, &loopback, &two, &loops, &none);
+    unchecked(b"unchecked", &mixed, 4, &two);
+    unchecked(b"unchecked, no map", &mixed, 4, &none);
 }
 
-fn refused() {
+fn refused_or_short() {
     let mixed = mixed();
     let two = asmap_test_maps::two_prefix_asmap();
     let none = no_map();
     refusals(&mixed, &two, &none);
-    reasons(&mixed, &none);
+    reasons(&mixed);
     room3(&mixed, &none);
     room10(&mixed, &none);
+    room0(&mixed, &none);
 }
 
 fn many() {
@@ -784,6 +690,6 @@ fn many() {
 
 fn main() {
     over_the_maps();
-    refused();
+    refused_or_short();
     many();
 }

@@ -1,8 +1,7 @@
 -- `fold` is safe and ends.
 -- Assumes nothing.
 use borrow.Author.Needs.{needs}
-use mathlib.Core.Path.{_≡_}
-use Prim.Native.Nat.{_-_, _/_, _≤_}
+use Prim.Native.Nat.{_-_, _≤_}
 use lib.ListN.{length}
 use Rattle.pick_vectors.proofs.fold.Statement.{statement}
 use Rattle.pick_vectors.proofs.fold.Tie as tie
