@@ -5,6 +5,8 @@ pub mod asmap;
 #[allow(dead_code)]
 #[path = "../../../shared/docs/src/crates/rbitcoin-net/src/netaddr.rs"]
 pub mod netaddr;
+#[path = "../../../shared/docs/src/crates/rbitcoin-net/src/netgroup.rs"]
+pub mod netgroup;
 
 /// Stands in for the original's error.rs, which names further crates: the one error that netaddr.rs makes.
 pub mod error {
