@@ -2,7 +2,10 @@
 //! does not: reasons, counts, depth, kinds of end and bits. Where the original has a say, the programs of `bin` hold them to it.
 use crate::asmap::*;
 
-#[derive(Clone, Copy, PartialEq)]
+/// A number of document 01's table.
+pub type Refusal = u32;
+
+#[derive(Clone, Copy, Debug, PartialEq)]
 pub enum Verdict {
     Accepted { count: u32, depth: usize },
     Refused(u32),

@@ -17,6 +17,8 @@ pub mod error {
 }
 
 pub mod document;
+pub mod picks;
+pub mod records;
 
 /// The test maps, by name.
 pub const MAPS: [(&str, &[u8]); 11] = [

@@ -1,21 +1,9 @@
-//! What document 01 says to each group and pick of the program `pick_vectors`, worked through here from its text. Groups over accepted maps
-//! and without a map are held to the original's `netgroup`; the picks and the number of candidates examined to its `select_diverse`. The
-//! output is crates/pick_vectors/stdout.
-use oracle::asmap::{self, AsMap, LOOPBACK_ASMAP, TWO_PREFIX_ASMAP};
-use oracle::document::{check, walk, Verdict};
-use oracle::netgroup;
-use std::cell::Cell;
-use std::net::{IpAddr, Ipv4Addr, Ipv6Addr, SocketAddr};
-
-/// No map, a map that is checked, or a map taken as it is.
-#[derive(Clone, Copy)]
-enum By<'a> {
-    Prefixes,
-    Map(&'a [u8]),
-    Unchecked(&'a [u8]),
-}
-
-type Refusal = u32;
+//! What document 01 says to each group and pick of the program `pick_vectors`; `oracle::picks` holds it to the original. The output is
+//! crates/pick_vectors/stdout.
+use oracle::asmap::{self, LOOPBACK_ASMAP, TWO_PREFIX_ASMAP};
+use oracle::document::Refusal;
+use oracle::picks::{pick, By, Groups};
+use std::net::SocketAddr;
 
 fn candidate(text: &str) -> Vec<u8> {
     let socket: SocketAddr = text.parse().expect("an address and a port");
@@ -30,117 +18,6 @@ fn list(texts: &[&str]) -> Vec<u8> {
     texts.iter().flat_map(|text| candidate(text)).collect()
 }
 
-fn address(candidate: &[u8]) -> [u8; 16] {
-    candidate[2..18].try_into().expect("16 bytes")
-}
-
-fn socket(candidate: &[u8]) -> SocketAddr {
-    let ip = match candidate[0] {
-        4 => IpAddr::from(<[u8; 4]>::try_from(&candidate[14..18]).map(Ipv4Addr::from).expect("4 bytes")),
-        _ => IpAddr::from(Ipv6Addr::from(address(candidate))),
-    };
-    SocketAddr::new(ip, u16::from_be_bytes([candidate[18], candidate[19]]))
-}
-
-fn valid(candidate: &[u8]) -> bool {
-    let mapped = |c: &[u8]| c[2..12].iter().all(|&b| b == 0) && c[12..14] == [255, 255];
-    candidate.len() == 20 && candidate[1] == 0 && (candidate[0] == 6 || candidate[0] == 4 && mapped(candidate))
-}
-
-fn map_refusal(by: By) -> Result<(), Refusal> {
-    match by {
-        By::Map(map) => match check(map) {
-            Verdict::Accepted { .. } => Ok(()),
-            Verdict::Refused(reason) => Err(reason),
-        },
-        _ => Ok(()),
-    }
-}
-
-/// A candidate's group, and the instructions of its walk.
-fn grouped(candidate: &[u8], by: By) -> (u64, u64) {
-    let (By::Map(map) | By::Unchecked(map)) = by else {
-        return (netgroup::netgroup(socket(candidate), None), 0);
-    };
-    let walked = walk(map, &address(candidate));
-    if let Some(accepted) = AsMap::from_bytes(map.to_vec()) {
-        assert_eq!(u64::from(walked.number), netgroup::netgroup(socket(candidate), Some(&accepted)));
-    }
-    (walked.number.into(), walked.count.into())
-}
-
-fn group(candidate: &[u8], by: By) -> Result<u64, Refusal> {
-    if !valid(candidate) {
-        return Err(13);
-    }
-    map_refusal(by).map(|()| grouped(candidate, by).0)
-}
-
-#[derive(Default)]
-struct Pick {
-    places: Vec<usize>,
-    groups: Vec<u64>,
-    examined: usize,
-    instructions: u64,
-}
-
-fn refusal(bytes: &[u8], occupied: &[u64], max: usize, by: By, rooms: [usize; 2]) -> Result<(), Refusal> {
-    if bytes.len() % 20 != 0 {
-        return Err(13);
-    }
-    let n = bytes.len() / 20;
-    if n > 4096 || occupied.len() > 4096 {
-        return Err(12);
-    }
-    if !bytes.chunks(20).all(valid) {
-        return Err(13);
-    }
-    map_refusal(by)?;
-    if rooms.iter().any(|&room| room < max.min(n)) {
-        return Err(14);
-    }
-    Ok(())
-}
-
-/// Both passes; the first-pass groups are as many as its picks.
-fn pick(bytes: &[u8], occupied: &[u64], max: usize, by: By, rooms: [usize; 2]) -> Result<Pick, Refusal> {
-    refusal(bytes, occupied, max, by, rooms)?;
-    let all: Vec<&[u8]> = bytes.chunks(20).collect();
-    let found: Vec<(u64, u64)> = all.iter().map(|c| grouped(c, by)).collect();
-    let mut pick = Pick::default();
-    for (place, &(group, count)) in found.iter().enumerate() {
-        if pick.places.len() == max {
-            break;
-        }
-        pick.examined += 1;
-        pick.instructions += count;
-        if !occupied.contains(&group) && !pick.groups.contains(&group) {
-            pick.places.push(place);
-            pick.groups.push(group);
-        }
-    }
-    for place in 0..all.len() {
-        if pick.places.len() < max && !pick.places.iter().any(|&p| all[p] == all[place]) {
-            pick.places.push(place);
-        }
-    }
-    hold_to_original(&all, &found, occupied, max, &pick);
-    Ok(pick)
-}
-
-fn hold_to_original(all: &[&[u8]], found: &[(u64, u64)], occupied: &[u64], max: usize, pick: &Pick) {
-    let ranked: Vec<SocketAddr> = all.iter().map(|c| socket(c)).collect();
-    let calls = Cell::new(0);
-    let group_of = |_: SocketAddr| {
-        calls.set(calls.get() + 1);
-        found[calls.get() - 1].0
-    };
-    let theirs = netgroup::select_diverse(&ranked, max, &occupied.iter().copied().collect(), group_of);
-    let ours: Vec<SocketAddr> = pick.places.iter().map(|&place| ranked[place]).collect();
-    assert_eq!(theirs, ours, "the original's picks");
-    assert_eq!(calls.get(), pick.examined, "the candidates that the original examines");
-}
-
 // ---- what is printed
 
 fn said(answer: Result<u64, Refusal>) -> String {
@@ -148,8 +25,8 @@ fn said(answer: Result<u64, Refusal>) -> String {
 }
 
 fn show_group(name: &str, candidate: &[u8], map: &[u8]) {
-    let prefix = said(group(candidate, By::Prefixes));
-    let (mapped, unchecked) = (said(group(candidate, By::Map(map))), said(group(candidate, By::Unchecked(map))));
+    let group = |by| said(Groups::new(by).group(candidate));
+    let (prefix, mapped, unchecked) = (group(By::Prefixes), group(By::Map(map)), group(By::Unchecked(map)));
     println!("{name}: prefix {prefix} {prefix} map {mapped} {unchecked}");
 }
 
@@ -160,7 +37,7 @@ fn show_groups(name: &str, bytes: &[u8], map: &[u8]) {
 /// The head of a line, and the two outputs, in which 999 and 888 are what was not written.
 fn line(name: &str, bytes: &[u8], occupied: &[u64], max: usize, by: By, rooms: [usize; 2]) -> (String, Vec<u64>, Vec<u64>) {
     let mut outputs = (vec![999; rooms[0]], vec![888; rooms[1]]);
-    let head = match pick(bytes, occupied, max, by, rooms) {
+    let head = match pick(bytes, occupied, max, &Groups::new(by), rooms) {
         Err(reason) => format!("refused {reason}"),
         Ok(pick) => {
             pick.places.iter().enumerate().for_each(|(i, &place)| outputs.0[i] = place as u64);
