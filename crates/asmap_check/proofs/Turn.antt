@@ -5,7 +5,7 @@ use mathlib.Core.Path.{_≡_, refl, sym, ap, subst, _∙_}
 use mathlib.Core.List.{List, _∷_}
 use native.Mathlib.Omega.{arith}
 use native.Mathlib.Numerals.{add-one}
-use lib.ListN.{length, getD}
+use lib.ListN.{length, getD, set}
 use Rattle.asmap_program.specs.declared.Previous.{Previous}
 use Rattle.asmap_program.specs.declared.Previous.the-variants.{Other, Default}
 use Rattle.asmap_program.specs.declared.Verdict.the-variants.{Accepted, Refused}
@@ -16,7 +16,7 @@ use Rattle.asmap_check.specs.State.{opensOf, opens, top, stateOf}
 use Rattle.asmap_check.specs.Act.{acts}
 use Rattle.asmap_check.specs.declared.Act.{Act}
 use Rattle.asmap_check.specs.declared.Act.the-variants.{Opens, Closes, Uses, Keeps, Accepts, Refuses}
-use Rattle.asmap_check.proofs.StateLaws.{length-opens, opens-pop}
+use Rattle.asmap_check.proofs.StateLaws.{length-opens, opens-push, opens-pop}
 use Rattle.asmap_check.proofs.ActLaws.{here, closed, applied, act-is, end-is, Sure, sure}
 use Rattle.asmap_check.proofs.Standing.{Standing, standing-on, standing-done, standing-refused, onward, standing-room}
 
@@ -72,11 +72,15 @@ module _ {m : List ℕ} {w : ℕ} {st : CheckState} {pos : ℕ} {prev : Previous
   room-opens n t e =
       omega (arith, standing-room m w _ (opened n t e .standing) .now, length-opens (st .targets) (st .saved) (st .depth))
 
-  pub turn-opens : (n t : ℕ) → a ≡ Opens n t → (r : CheckState) (deep : ℕ)
-      → r .bits ≡ st .bits - 1 → opens r ≡ record { target = t; saved = st .bits - 1 } ∷ opens st → deep ≡ max deepest (st .depth + 1)
+  pub turn-opens : (n t : ℕ) → a ≡ Opens n t → st .depth < length (st .targets) → st .depth < length (st .saved) → (r : CheckState) (deep : ℕ)
+      → r ≡ record { targets = set (st .targets) (st .depth) t; saved = set (st .saved) (st .depth) (st .bits - 1); depth = st .depth + 1; bits = st .bits - 1 }
+      → deep ≡ max deepest (st .depth + 1)
       → Turned m w pos (stateOf r n Other (count + 1) deep)
-  turn-opens n t e r deep b o d =
-      subst (Turned m w pos) (sym (same-state refl b refl o (add-one count) (omega (arith, d, length-opens (st .targets) (st .saved) (st .depth))))) (opened n t e)
+  turn-opens n t e h k r deep q d =
+      let p = opens-push (st .targets) (st .saved) t (st .bits - 1) (st .depth) h k in
+      subst (Turned m w pos)
+      (sym (same-state refl (ap (λ (x : CheckState). x .bits) q) refl (ap opens q ∙ ap (opensOf (set (st .targets) (st .depth) t) (set (st .saved) (st .depth) (st .bits - 1))) (add-one (st .depth)) ∙ p) (add-one count) (omega (arith, d, length-opens (st .targets) (st .saved) (st .depth)))))
+      (opened n t e)
 
   pub turn-closes : (n : ℕ) → a ≡ Closes n → (r : CheckState)
       → r ≡ record { targets = st .targets; saved = st .saved; depth = st .depth - 1; bits = getD (st .saved) (st .depth - 1) 0 }

@@ -1,14 +1,18 @@
 -- The check's state as code holds it, two arrays and a depth, and the definition's state that it stands for.
 -- Assumes nothing.
-use Prim.Native.Nat.{ℕ, zero, suc, _+_, _-_}
+use Prim.Native.Nat.{ℕ, zero, suc, _-_}
 use mathlib.Core.Bool.{Bool, _&&_}
 use mathlib.Core.Path.{_≡_}
 use mathlib.Core.List.{List, [], _∷_}
 use lib.Dec.{leb, ltb}
-use lib.ListN.{getD}
+use lib.ListN.{length, getD}
 use Rattle.asmap_program.specs.declared.Previous.{Previous}
 use Rattle.asmap_program.specs.Check.{Open, State}
 use Rattle.asmap_check.specs.declared.CheckState.{CheckState}
+
+-- both arrays have 128 places, as their types say
+abbrev pub Arrays : CheckState → Type 0
+Arrays s = (length (s .targets) ≡ 128) × (length (s .saved) ≡ 128)
 
 -- the open jumps, innermost first: both arrays below the depth
 abbrev pub opensOf : List ℕ → List ℕ → ℕ → List Open
@@ -29,9 +33,3 @@ pastTop d t p = ltb 0 d && leb t p
 -- the definition's state that the loop's locals stand for
 abbrev pub stateOf : CheckState → ℕ → Previous → ℕ → ℕ → State
 stateOf s at before count deepest = record { at = at; left = s .bits; before = before; opens = opens s; count = count; deepest = deepest }
-
--- one more open jump, which saves the bits left
-pub record Opened (s : CheckState) (target : ℕ) (r : CheckState) : Type 0 where
-  pub bits : r .bits ≡ s .bits
-  pub depth : r .depth ≡ s .depth + 1
-  pub opened : opens r ≡ record { target = target; saved = s .bits } ∷ opens s

@@ -2,7 +2,8 @@
 //
 // Two kinds of function. The arms (`sanity_act` and those it calls) read an instruction and answer an `Act`; they take the map and
 // numbers but never the state, which a call copies with both its arrays. The loop (`sanity_check_bits`) carries the act out; the state
-// passes through three methods alone, and only `open_jump` touches an array there.
+// passes through three methods alone, which touch its numbers only. A method that indexed an array would have both arrays, 640 bytes,
+// copied to it and back at each call; so the loop itself stores an open jump and reads it.
 ghost use mathlib.Core.Path.{_≡_};
 ghost use mathlib.Core.Bool.{_&&_};
 ghost use lib.Dec.{ltb};
@@ -13,7 +14,8 @@ ghost use Rattle.asmap_program.specs.Check.{isDefault, isShort, afterMatch};
 ghost use Rattle.asmap_codes.specs.Row.{asnRow, jumpRow, matchRow};
 ghost use Rattle.asmap_codes.specs.Code.{codeAt};
 ghost use Rattle.asmap_codes.specs.Instruction.{paddedFrom};
-ghost use Rattle.asmap_check.specs.State.{opens, top, pastTop, Opened};
+ghost use Rattle.asmap_decode.specs.Window.{Holds};
+ghost use Rattle.asmap_check.specs.State.{Arrays, top, pastTop};
 ghost use Rattle.asmap_check.specs.Act.{onReturn, onJump, onMatch, onDefault, acts};
 ghost use Rattle.asmap_check.specs.Check.{checkOf, LikeCore};
 use asmap_codes::Code;
@@ -46,20 +48,16 @@ impl CheckState {
         }
     }
 
-    // A jump opens and saves the bits left.
-    fn open_jump(mut self, target: u32) -> CheckState
+    // The jump that the loop has stored at the depth, its target and the bits that it saves, opens.
+    fn open_jump(mut self) -> CheckState
         requires { ⌜ self .depth < 128 ⌝ }
-        ensures { λ r. ⌜ Opened self target r ⌝ }
+        ensures { λ r. ⌜ r ≡ record { targets = self .targets; saved = self .saved; depth = self .depth + 1; bits = self .bits } ⌝ }
     {
-        let depth = self.depth;
-        let bits = self.bits;
-        self.targets[depth] = target;
-        self.saved[depth] = bits;
-        self.depth = depth + 1;
+        self.depth = self.depth + 1;
         self
     }
 
-    // The innermost jump closes. `bits` are those that it saved: the loop reads them, so that no array is touched here.
+    // The innermost jump closes. `bits` are those that it saved: the loop reads them.
     fn close_jump(mut self, bits: u8) -> CheckState
         requires { ⌜ 1 ≤ self .depth ⌝ }
         ensures { λ r. ⌜ r ≡ record { targets = self .targets; saved = self .saved; depth = self .depth - 1; bits = bits } ⌝ }
@@ -69,10 +67,10 @@ impl CheckState {
         self
     }
 
-    // Address bits are used.
+    // Address bits are used. The loop stores into the arrays after this, and learns here that they have 128 places.
     fn use_bits(mut self, n: u8) -> CheckState
         requires { ⌜ n ≤ self .bits ⌝ }
-        ensures { λ r. ⌜ r ≡ record { targets = self .targets; saved = self .saved; depth = self .depth; bits = self .bits - n } ⌝ }
+        ensures { λ r. ⌜ (r ≡ record { targets = self .targets; saved = self .saved; depth = self .depth; bits = self .bits - n }) × Arrays self ⌝ }
     {
         self.bits = self.bits - n;
         self
@@ -181,17 +179,17 @@ fn padded(map: &[u8], at: usize) -> bool
     true
 }
 
-// ---- the arms: an operand that starts at bit `at`, and the tests in document 01's order
+// ---- the arms: an operand that starts at bit `at`, in the window `w`, and the tests in document 01's order
 
 // RETURN: 5 after DEFAULT, 4 cut; with no open jump 6 where no padding follows, with one 7 where it does not end at the target.
-fn sanity_return(map: &[u8], at: usize, previous: Previous, depth: usize, top: u32) -> Act
-    requires { ⌜ (length (now map) ≤ limit) × (at < 2 ^ 34) ⌝ }
+fn sanity_return(map: &[u8], w: u64, at: usize, previous: Previous, depth: usize, top: u32) -> Act
+    requires { ⌜ (length (now map) ≤ limit) × (at < 2 ^ 34) × Holds asnRow (now map) at w ⌝ }
     ensures { λ r. ⌜ r ≡ onReturn (now (map .entry)) previous depth top (codeAt (now (map .entry)) at asnRow) ⌝ }
 {
     if is_default(previous) {
         return Act::Refuses(5);
     }
-    let got = asmap_decode::asn_at(map, at);
+    let got = asmap_decode::asn_in(w, at, 8 * map.len());
     let Code::Value(_, next) = got else {
         return Act::Refuses(4);
     };
@@ -208,11 +206,11 @@ fn sanity_return(map: &[u8], at: usize, previous: Previous, depth: usize, top: u
 }
 
 // JUMP: 4 cut, 8 with no bit left, 9 where its target is at or past the innermost. The target is counted from the JUMP's end.
-fn sanity_jump(map: &[u8], at: usize, bits: u8, depth: usize, top: u32) -> Act
-    requires { ⌜ (length (now map) ≤ limit) × (at < 2 ^ 34) ⌝ }
+fn sanity_jump(map: &[u8], w: u64, at: usize, bits: u8, depth: usize, top: u32) -> Act
+    requires { ⌜ (length (now map) ≤ limit) × (at < 2 ^ 34) × Holds jumpRow (now map) at w ⌝ }
     ensures { λ r. ⌜ r ≡ onJump bits depth top (codeAt (now (map .entry)) at jumpRow) ⌝ }
 {
-    let got = asmap_decode::jump_at(map, at);
+    let got = asmap_decode::jump_in(w, at, 8 * map.len());
     let Code::Value(offset, next) = got else {
         return Act::Refuses(4);
     };
@@ -227,11 +225,11 @@ fn sanity_jump(map: &[u8], at: usize, bits: u8, depth: usize, top: u32) -> Act
 }
 
 // MATCH: 4 cut, 10 short after short, 8 where it is longer than the bits left.
-fn sanity_match(map: &[u8], at: usize, previous: Previous, bits: u8) -> Act
-    requires { ⌜ (length (now map) ≤ limit) × (at < 2 ^ 34) ⌝ }
+fn sanity_match(map: &[u8], w: u64, at: usize, previous: Previous, bits: u8) -> Act
+    requires { ⌜ (length (now map) ≤ limit) × (at < 2 ^ 34) × Holds matchRow (now map) at w ⌝ }
     ensures { λ r. ⌜ r ≡ onMatch previous bits (codeAt (now (map .entry)) at matchRow) ⌝ }
 {
-    let got = asmap_decode::match_at(map, at);
+    let got = asmap_decode::match_in(w, at, 8 * map.len());
     let Code::Value(operand, next) = got else {
         return Act::Refuses(4);
     };
@@ -246,14 +244,14 @@ fn sanity_match(map: &[u8], at: usize, previous: Previous, bits: u8) -> Act
 }
 
 // DEFAULT: 5 after DEFAULT, 4 cut.
-fn sanity_default(map: &[u8], at: usize, previous: Previous) -> Act
-    requires { ⌜ (length (now map) ≤ limit) × (at < 2 ^ 34) ⌝ }
+fn sanity_default(map: &[u8], w: u64, at: usize, previous: Previous) -> Act
+    requires { ⌜ (length (now map) ≤ limit) × (at < 2 ^ 34) × Holds asnRow (now map) at w ⌝ }
     ensures { λ r. ⌜ r ≡ onDefault previous (codeAt (now (map .entry)) at asnRow) ⌝ }
 {
     if is_default(previous) {
         return Act::Refuses(5);
     }
-    let got = asmap_decode::asn_at(map, at);
+    let got = asmap_decode::asn_in(w, at, 8 * map.len());
     let Code::Value(_, next) = got else {
         return Act::Refuses(4);
     };
@@ -268,20 +266,22 @@ fn sanity_act(map: &[u8], pos: usize, previous: Previous, bits: u8, depth: usize
     if past(depth, top, pos) {
         return Act::Refuses(3);
     }
-    let got = asmap_decode::type_at(map, pos);
+    let w = asmap_decode::window(map, pos);
+    let got = asmap_decode::type_in(w, pos, 8 * map.len());
     let Code::Value(opcode, at) = got else {
         return Act::Refuses(4);
     };
+    let rest = asmap_decode::operand_window(map, w, pos, opcode, at);
     if opcode == asmap_program::RETURN {
-        return sanity_return(map, at, previous, depth, top);
+        return sanity_return(map, rest, at, previous, depth, top);
     }
     if opcode == asmap_program::JUMP {
-        return sanity_jump(map, at, bits, depth, top);
+        return sanity_jump(map, rest, at, bits, depth, top);
     }
     if opcode == asmap_program::MATCH {
-        return sanity_match(map, at, previous, bits);
+        return sanity_match(map, rest, at, previous, bits);
     }
-    sanity_default(map, at, previous)
+    sanity_default(map, rest, at, previous)
 }
 
 // The check over a number of address bits, which the public calls fix: the arrays hold as many jumps as there are bits.
@@ -306,7 +306,10 @@ fn sanity_check_bits(map: &[u8], bits: u8) -> Verdict
         match asked {
             Act::Opens(next, target) => {
                 state = state.use_bits(1);
-                state = state.open_jump(target);
+                let left = state.bits;
+                state.targets[depth] = target;
+                state.saved[depth] = left;
+                state = state.open_jump();
                 let opened = state.depth;
                 deepest = larger(deepest, opened);
                 previous = Previous::Other;

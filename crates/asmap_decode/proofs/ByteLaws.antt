@@ -18,8 +18,8 @@ abbrev pub AllBytes : List ℕ → Type 0
 AllBytes [] = Unit {0}
 AllBytes (b ∷ bs) = (b < 256) × AllBytes bs
 
--- what stands above a byte does not change its bits
-bit-below : (b r i : ℕ) → i < 8 → (b + 256 * r) / 2 ^ i % 2 ≡ b / 2 ^ i % 2
+-- a byte and what stands above it: the bits of each
+pub bit-below : (b r i : ℕ) → i < 8 → (b + 256 * r) / 2 ^ i % 2 ≡ b / 2 ^ i % 2
 bit-below b r zero h = omega arith
 bit-below b r (suc zero) h = omega arith
 bit-below b r (suc (suc zero)) h = omega arith
@@ -30,7 +30,7 @@ bit-below b r (suc (suc (suc (suc (suc (suc zero)))))) h = omega arith
 bit-below b r (suc (suc (suc (suc (suc (suc (suc zero))))))) h = omega arith
 bit-below b r (suc (suc (suc (suc (suc (suc (suc (suc i)))))))) h = absurd (omega arith)
 
-bit-above : (b r j : ℕ) → b < 256 → (b + 256 * r) / 2 ^ (8 + j) % 2 ≡ r / 2 ^ j % 2
+pub bit-above : (b r j : ℕ) → b < 256 → (b + 256 * r) / 2 ^ (8 + j) % 2 ≡ r / 2 ^ j % 2
 bit-above b r j h =
     let e : (b + 256 * r) / 2 ^ 8 ≡ r = omega arith in
     ap (λ (k : ℕ). k % 2) (sym (shr-shr (b + 256 * r) 8 j) ∙ ap (λ (k : ℕ). k / 2 ^ j) e)

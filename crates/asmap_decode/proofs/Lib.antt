@@ -1,2 +1,3 @@
 pub mod WindowLaws
 pub mod ByteLaws
+pub mod OperandLaws

@@ -11,7 +11,7 @@ use lib.ListN.{length, getD, take, drop, drop-of-length-le}
 use Rattle.asmap_codes.specs.Bits.{low, mapBits}
 use Rattle.asmap_codes.specs.Row.{Row, longest}
 use Rattle.asmap_codes.specs.Code.{tail, code, codeAt}
-use Rattle.asmap_decode.specs.Window.{Window, tailIn, codeIn}
+use Rattle.asmap_decode.specs.Window.{Window, Holds, tailIn, codeIn, rowIn}
 use Rattle.asmap_codes.specs.declared.Code.the-variants.{Cut}
 use Rattle.asmap_codes.proofs.BitLaws.{length-left}
 use Rattle.asmap_codes.proofs.CodeLaws.{heads}
@@ -99,11 +99,15 @@ code-window ss v at end w n bs e k r h = go (decLe at end)
     go (yes l) = inside ss v at end w n bs e l r h
     go (no l) = beyond ss k r bs (omega arith) h (omega arith)
 
--- a window of a map, for a row whose codes it holds whole
-pub row-window : (m : List ℕ) (at w : ℕ) (row : Row) → 1 < length (row .sizes) → longest (row .sizes) ≤ 57 → Window 57 w (drop at (mapBits m))
-    → codeIn (row .sizes) (row .least) at (8 * length m) w ≡ codeAt m at row
-row-window m at w row k r h =
-    code-window (row .sizes) (row .least) at (8 * length m) w 57 (drop at (mapBits m)) (length-left m at) k r h
+-- a window of a map that holds the row's code
+pub row-window : (m : List ℕ) (at w : ℕ) (row : Row) → 1 < length (row .sizes) → Holds row m at w
+    → rowIn row at (8 * length m) w ≡ codeAt m at row
+row-window m at w row k h =
+    code-window (row .sizes) (row .least) at (8 * length m) w (longest (row .sizes)) (drop at (mapBits m)) (length-left m at) k (omega arith) h
+
+-- a window of 57 bits holds the code of each row
+pub window-holds : (m : List ℕ) (at w : ℕ) (row : Row) → longest (row .sizes) ≤ 55 → Window 57 w (drop at (mapBits m)) → Holds row m at w
+window-holds m at w row l h = window-less 57 (longest (row .sizes)) w (drop at (mapBits m)) (omega arith) h
 
 -- ---- the decoder's turns
 

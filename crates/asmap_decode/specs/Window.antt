@@ -5,8 +5,9 @@ use Prim.Native.Nat.{ℕ, _+_, _*_, _/_, _%_, _^_, _≤_, _<_}
 use mathlib.Core.Path.{_≡_}
 use mathlib.Core.List.{List, [], _∷_}
 use lib.Dec.{leb, eqb}
-use lib.ListN.{length, getD}
-use Rattle.asmap_codes.specs.Bits.{low, number}
+use lib.ListN.{length, getD, drop}
+use Rattle.asmap_codes.specs.Bits.{low, number, mapBits}
+use Rattle.asmap_codes.specs.Row.{Row, longest}
 use Rattle.asmap_codes.specs.Code.{pick}
 use Rattle.asmap_decode.specs.declared.Prefix.{Prefix}
 use Rattle.asmap_codes.specs.declared.Code.{Code}
@@ -15,6 +16,10 @@ use Rattle.asmap_codes.specs.declared.Code.the-variants.{Value, Cut}
 -- the n lowest bits of w are the first n of the bits, with zeros past their end
 abbrev pub Window : ℕ → ℕ → List ℕ → Type 0
 Window n w bs = (i : ℕ) → i < n → w / 2 ^ i % 2 ≡ getD bs i 0
+
+-- the window w has every bit that a row's code may have at bit `at` of a map
+abbrev pub Holds : Row → List ℕ → ℕ → ℕ → Type 0
+Holds row m at w = Window (longest (row .sizes)) w (drop at (mapBits m))
 
 -- bytes as one number, the first byte lowest
 abbrev pub fromBytes : List ℕ → ℕ
@@ -30,6 +35,10 @@ codeIn [] v at end w = Cut
 codeIn (s ∷ []) v at end w = tailIn s v at end w
 codeIn (s ∷ t ∷ ss) v at end w =
     pick (eqb (w % 2) 0) (tailIn s v (at + 1) end (w / 2)) (codeIn (t ∷ ss) (v + 2 ^ s) (at + 1) end (w / 2))
+
+-- the code of a row
+abbrev pub rowIn : Row → ℕ → ℕ → ℕ → Code
+rowIn row at end w = codeIn (row .sizes) (row .least) at end w
 
 -- where the prefix of a code in a window ends: what is left of the code is the bits of one size
 pub record Stopped (ss : List ℕ) (v w : ℕ) (r : Prefix) : Type 0 where

@@ -9,7 +9,8 @@ ghost use Rattle.asmap_codes.specs.Bits.{mapBits, number, low};
 ghost use Rattle.asmap_codes.specs.Row.{typeRow, asnRow, matchRow, jumpRow, operandRow, span, Fit};
 ghost use Rattle.asmap_codes.specs.Code.{codeAt, readCode};
 ghost use Rattle.asmap_codes.specs.Instruction.{readInstruction};
-ghost use Rattle.asmap_decode.specs.Window.{Window, tailIn, codeIn, Stopped};
+ghost use Rattle.asmap_codes.specs.declared.Code.the-variants.{Value};
+ghost use Rattle.asmap_decode.specs.Window.{Window, Holds, tailIn, codeIn, rowIn, Stopped};
 use asmap_codes::ASN_BIT_SIZES;
 use asmap_codes::Code;
 use asmap_codes::Decoded;
@@ -84,8 +85,8 @@ fn load_tail(map: &[u8], b: usize) -> u64
 }
 
 // At least 57 bits from bit `at` on, the first lowest, with zeros past the map's end. Eight bytes hold 64 bits, of which at
-// most 7 stand before `at` in its byte; the longest code, a JUMP's operand, has 55.
-fn window(map: &[u8], at: usize) -> u64
+// most 7 stand before `at` in its byte; the longest instruction, a JUMP, has 57. So an instruction is read from one window.
+pub fn window(map: &[u8], at: usize) -> u64
     ensures { λ r. ⌜ Window 57 r (drop at (mapBits (now (map .entry)))) ⌝ }
 {
     let b = at / 8;
@@ -178,63 +179,63 @@ fn decode_bits(w: u64, at: usize, end: usize, least: u32, sizes: &[u8]) -> Code
     payload(stop.left, at + stop.read, end, stop.value, sizes[index])
 }
 
-// The code of a row at a bit of a map within the limit.
-fn row_at(map: &[u8], at: usize, least: u32, sizes: &[u8]) -> Code
-    requires { ⌜ (length (now map) ≤ limit) × (at < 2 ^ 34) × Fit (record { least = least; sizes = now sizes }) ⌝ }
-    ensures { λ r. ⌜ r ≡ codeAt (now (map .entry)) at (record { least = least; sizes = now (sizes .entry) }) ⌝ }
-{
-    let w = window(map, at);
-    decode_bits(w, at, 8 * map.len(), least, sizes)
-}
-
-// ---- a call for each row, in a map within the limit. A walk may stand past the map's end, where each is Cut: the end is at
-// most bit 134,217,728, an instruction has at most 57 bits, and a JUMP skips at most 2,147,483,632 more, so that a place is
-// below 2 ^ 32.
+// ---- a call for each row: the code at a window's first bit, which is bit `at` of a map of `end` bits. Where the window holds
+// the code this is the code of the map (`proofs/WindowLaws.antt`, `row-window`). They take numbers only: a slice that is handed on
+// goes through memory. A walk may stand past the map's end, where each is Cut: the end is at most bit 134,217,728, an instruction
+// has at most 57 bits, and a JUMP skips at most 2,147,483,632 more, so that a place is below 2 ^ 32.
 
 // An opcode.
-pub fn type_at(map: &[u8], at: usize) -> Code
-    requires { ⌜ (length (now map) ≤ limit) × (at < 2 ^ 34) ⌝ }
-    ensures { λ r. ⌜ r ≡ codeAt (now (map .entry)) at typeRow ⌝ }
+pub fn type_in(w: u64, at: usize, end: usize) -> Code
+    requires { ⌜ at < 2 ^ 34 ⌝ }
+    ensures { λ r. ⌜ r ≡ rowIn typeRow at end w ⌝ }
 {
-    row_at(map, at, 0, &TYPE_BIT_SIZES)
+    decode_bits(w, at, end, 0, &TYPE_BIT_SIZES)
+}
+
+// The window of an operand: that of its instruction without the opcode, which was read from bit `pos` to bit `at`.
+pub fn operand_window(map: &[u8], w: u64, pos: usize, opcode: u32, at: usize) -> u64
+    requires { ⌜ Window 57 w (drop pos (mapBits (now map))) × (codeAt (now map) pos typeRow ≡ Value opcode at) ⌝ }
+    ensures { λ r. ⌜ Holds (operandRow opcode) (now (map .entry)) at r ⌝ }
+{
+    w >> (at - pos)
 }
 
 // An AS number.
-pub fn asn_at(map: &[u8], at: usize) -> Code
-    requires { ⌜ (length (now map) ≤ limit) × (at < 2 ^ 34) ⌝ }
-    ensures { λ r. ⌜ r ≡ codeAt (now (map .entry)) at asnRow ⌝ }
+pub fn asn_in(w: u64, at: usize, end: usize) -> Code
+    requires { ⌜ at < 2 ^ 34 ⌝ }
+    ensures { λ r. ⌜ r ≡ rowIn asnRow at end w ⌝ }
 {
-    row_at(map, at, 1, &ASN_BIT_SIZES)
+    decode_bits(w, at, end, 1, &ASN_BIT_SIZES)
 }
 
 // A MATCH operand.
-pub fn match_at(map: &[u8], at: usize) -> Code
-    requires { ⌜ (length (now map) ≤ limit) × (at < 2 ^ 34) ⌝ }
-    ensures { λ r. ⌜ r ≡ codeAt (now (map .entry)) at matchRow ⌝ }
+pub fn match_in(w: u64, at: usize, end: usize) -> Code
+    requires { ⌜ at < 2 ^ 34 ⌝ }
+    ensures { λ r. ⌜ r ≡ rowIn matchRow at end w ⌝ }
 {
-    row_at(map, at, 2, &MATCH_BIT_SIZES)
+    decode_bits(w, at, end, 2, &MATCH_BIT_SIZES)
 }
 
 // A JUMP operand.
-pub fn jump_at(map: &[u8], at: usize) -> Code
-    requires { ⌜ (length (now map) ≤ limit) × (at < 2 ^ 34) ⌝ }
-    ensures { λ r. ⌜ r ≡ codeAt (now (map .entry)) at jumpRow ⌝ }
+pub fn jump_in(w: u64, at: usize, end: usize) -> Code
+    requires { ⌜ at < 2 ^ 34 ⌝ }
+    ensures { λ r. ⌜ r ≡ rowIn jumpRow at end w ⌝ }
 {
-    row_at(map, at, 17, &JUMP_BIT_SIZES)
+    decode_bits(w, at, end, 17, &JUMP_BIT_SIZES)
 }
 
 // The operand of an opcode, at the bit after it.
-pub fn operand_at(map: &[u8], opcode: u32, at: usize) -> Code
-    requires { ⌜ (length (now map) ≤ limit) × (at < 2 ^ 34) × (opcode < 4) ⌝ }
-    ensures { λ r. ⌜ r ≡ codeAt (now (map .entry)) at (operandRow opcode) ⌝ }
+pub fn operand_in(w: u64, opcode: u32, at: usize, end: usize) -> Code
+    requires { ⌜ at < 2 ^ 34 ⌝ }
+    ensures { λ r. ⌜ r ≡ rowIn (operandRow opcode) at end w ⌝ }
 {
     if opcode == asmap_program::JUMP {
-        return jump_at(map, at);
+        return jump_in(w, at, end);
     }
     if opcode == asmap_program::MATCH {
-        return match_at(map, at);
+        return match_in(w, at, end);
     }
-    asn_at(map, at)
+    asn_in(w, at, end)
 }
 
 // ---- the public calls: any map, any bit; 1 for a map over the limit, then 4
@@ -251,7 +252,8 @@ fn decode_row(map: &[u8], at: usize, least: u32, sizes: &[u8]) -> Decoded
     if 8 * bytes <= at {
         return Decoded::Refused(4);
     }
-    let got = row_at(map, at, least, sizes);
+    let w = window(map, at);
+    let got = decode_bits(w, at, 8 * bytes, least, sizes);
     let Code::Value(value, next) = got else {
         return Decoded::Refused(4);
     };
@@ -293,14 +295,17 @@ pub fn decode_instruction(map: &[u8], at: usize) -> DecodedInstruction
     if MAX_MAP_BYTES < map.len() {
         return DecodedInstruction::Refused(1);
     }
-    if 8 * map.len() <= at {
+    let bits = 8 * map.len();
+    if bits <= at {
         return DecodedInstruction::Refused(4);
     }
-    let first = type_at(map, at);
+    let w = window(map, at);
+    let first = type_in(w, at, bits);
     let Code::Value(opcode, middle) = first else {
         return DecodedInstruction::Refused(4);
     };
-    let second = operand_at(map, opcode, middle);
+    let rest = operand_window(map, w, at, opcode, middle);
+    let second = operand_in(rest, opcode, middle, bits);
     let Code::Value(operand, end) = second else {
         return DecodedInstruction::Refused(4);
     };

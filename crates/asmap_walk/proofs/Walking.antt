@@ -183,6 +183,7 @@ module _ {m a : List ℕ} {w pos used default count op at x n : ℕ} (R : Taken 
 
 -- From `used₀` on, the MATCH of x was met by the address bits up to `used`; the `left` lowest bits of x are still to be compared.
 pub record Comparing (a : List ℕ) (w x used₀ used left : ℕ) : Type 0 where
+  pub from : used₀ ≤ used
   pub place : used + left ≡ used₀ + lengthOf x
   pub room : used₀ + lengthOf x ≤ w
   pub short : left ≤ 8
@@ -190,11 +191,17 @@ pub record Comparing (a : List ℕ) (w x used₀ used left : ℕ) : Type 0 where
 
 pub comparing-start : {m a : List ℕ} {w pos used default count at x n : ℕ} {op : ℕ} → Taken m a w pos used default count op at x n → op ≡ 2
     → (left : ℕ) → left ≡ lengthOf x → used + left ≤ w → Comparing a w x used used left
-comparing-start R o left e h = record { place = omega arith; room = omega arith; short = omega (arith, match-most R o); rest = rw e }
+comparing-start R o left e h = record { from = omega arith; place = omega arith; room = omega arith; short = omega (arith, match-most R o); rest = rw e }
 
 module _ {a : List ℕ} {w x used₀ used left : ℕ} (C : Comparing a w x used₀ used left) where
   pub bit-left : 0 < left → used < w
   bit-left h = omega (arith, C .place, C .room)
+
+  -- of the bits that the MATCH compares, taken out as one number b, the next is that of the address
+  pub next-bit : 0 < left → (n b : ℕ) → n ≡ lengthOf x → ((k : ℕ) → k < n → bitOf b k ≡ addressBit a (used₀ + (n - 1 - k))) → bitOf b (left - 1) ≡ addressBit a used
+  next-bit h n b e f =
+      let z : used₀ + (n - 1 - (left - 1)) ≡ used = omega (arith, C .from, C .place) in
+      f (left - 1) (omega (arith, C .from, C .place)) ∙ ap (addressBit a) z
 
   one-less : 0 < left → left ≡ suc (left - 1)
   one-less h = omega arith
@@ -208,6 +215,7 @@ module _ {a : List ℕ} {w x used₀ used left : ℕ} (C : Comparing a w x used�
   equal-goes h e =
       let z : suc used ≡ used + 1 = omega arith in
       record {
+        from = omega (arith, C .from);
         place = omega (arith, C .place);
         room = C .room;
         short = omega (arith, C .short);

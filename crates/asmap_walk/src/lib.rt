@@ -4,7 +4,7 @@ ghost use mathlib.Core.Bool.{cond};
 ghost use mathlib.Core.List.{[], _∷_};
 ghost use Prim.Native.Nat.{ℕ, _+_, _-_, _*_, _^_, _≤_, _<_};
 ghost use lib.Dec.{eqb};
-ghost use lib.ListN.{length};
+ghost use lib.ListN.{length, getD};
 ghost use Rattle.asmap_program.specs.Map.{limit, addressBit, bitOf, ipv4Mapped};
 ghost use Rattle.asmap_walk.specs.Interpret.{walkOf, summary, interpretOf};
 ghost use Rattle.asmap_walk.specs.Promise.{Demand3, CoreNumber};
@@ -46,12 +46,34 @@ fn address_bit(address: &[u8], at: u8) -> u32
     (byte >> (7 - place % 8)) % 2
 }
 
-// A bit of a MATCH's operand, by its weight 2 ^ k.
-fn operand_bit(operand: u32, k: u8) -> u32
-    requires { ⌜ k < 32 ⌝ }
-    ensures { λ r. ⌜ r ≡ bitOf operand k ⌝ }
+// A byte of the address as a number, 0 past its end.
+fn address_byte(address: &[u8], at: usize) -> u32
+    ensures { λ r. ⌜ (r ≡ getD (now (address .entry)) at 0) × (r < 256) ⌝ }
 {
-    (operand >> k) % 2
+    if at < address.len() {
+        return address[at] as u32;
+    }
+    0
+}
+
+// The address bits that a MATCH of length n compares, at most 8 from bit `at` on, in one number: the last of them is its lowest bit.
+// They stand in two bytes. Taken out once, they cost the loop that compares them no load and no division.
+fn address_bits(address: &[u8], at: u8, n: u8) -> u32
+    requires { ⌜ n ≤ 8 ⌝ }
+    ensures { λ r. ⌜ ((k : ℕ) → k < n → bitOf r k ≡ addressBit (now (address .entry)) (at + (n - 1 - k))) ⌝ }
+{
+    let place = at as usize;
+    let first = address_byte(address, place / 8);
+    let second = address_byte(address, place / 8 + 1);
+    (first * 256 + second) >> (16 - place % 8 - n as usize)
+}
+
+// A bit of a number, by its weight 2 ^ k.
+fn bit_of(x: u32, k: u8) -> u32
+    requires { ⌜ k < 32 ⌝ }
+    ensures { λ r. ⌜ r ≡ bitOf x k ⌝ }
+{
+    (x >> k) % 2
 }
 
 // Where a JUMP that ends at `next` goes on: there, or `offset` bits further where the address bit is 1. That may lie past the map's
@@ -89,17 +111,20 @@ fn walk_bits(map: &[u8], address: &[u8], width: u8) -> Ending
     requires { ⌜ (length (now map) ≤ limit) × (width ≤ 8 * length (now address)) ⌝ }
     ensures { λ r. ⌜ r ≡ summary (walkOf (now (map .entry)) (now (address .entry)) width) ⌝ }
 {
+    let end = 8 * map.len();
     let mut pos: usize = 0;
     let mut used: u8 = 0;
     // A default holds until the walk reads another: no JUMP ends it.
     let mut default: u32 = 0;
     let mut count: u32 = 0;
     'walk: loop {
-        let first = asmap_decode::type_at(map, pos);
+        let w = asmap_decode::window(map, pos);
+        let first = asmap_decode::type_in(w, pos, end);
         let Code::Value(opcode, at) = first else {
             return abort(count, used);
         };
-        let second = asmap_decode::operand_at(map, opcode, at);
+        let rest = asmap_decode::operand_window(map, w, pos, opcode, at);
+        let second = asmap_decode::operand_in(rest, opcode, at, end);
         let Code::Value(operand, next) = second else {
             return abort(count, used);
         };
@@ -119,9 +144,10 @@ fn walk_bits(map: &[u8], address: &[u8], width: u8) -> Ending
                 if width - used < left {
                     return abort(count, used);
                 }
+                let bits = address_bits(address, used, left);
                 while 0 < left {
                     left -= 1;
-                    if address_bit(address, used) != operand_bit(operand, left) {
+                    if bit_of(bits, left) != bit_of(operand, left) {
                         break 'walk;
                     }
                     used += 1;

@@ -3,13 +3,12 @@
 use borrow.Author.Needs.{needs}
 use native.Mathlib.Omega.{arith}
 use mathlib.Core.Path.{_∙_, sym, ap}
-use Prim.Native.Nat.{ℕ, _+_, _-_, _*_, max}
-use mathlib.Core.List.{_∷_}
-use lib.ListN.{length}
+use Prim.Native.Nat.{ℕ, _+_, _-_, _*_, _<_, max}
+use lib.ListN.{length, set}
 use Rattle.asmap_program.specs.declared.Previous.the-variants.{Other}
 use Rattle.asmap_check.specs.declared.CheckState.{CheckState}
 use Rattle.asmap_check.specs.declared.Act.the-variants.{Opens, Closes, Uses}
-use Rattle.asmap_check.specs.State.{opens, stateOf}
+use Rattle.asmap_check.specs.State.{stateOf}
 use Rattle.asmap_check.specs.Act.{acts}
 use Rattle.asmap_check.proofs.Standing.{Standing, standing-start, count-few, standing-room, checked, checked-long}
 use Rattle.asmap_check.proofs.StateLaws.{length-opens}
@@ -44,16 +43,22 @@ turn k =
       asked = ap (λ (t : ℕ). acts (k .before .before .before .before .before .before .before .before .before .args .map .now) (l .previous) (l .state .bits) (l .state .depth) t (l .pos)) (sym (k .before .innermost .ensures)) ∙ sym (k .sanity-act .ensures);
     }
 
--- a jump has opened: `use_bits`, `open_jump`, `larger`
+-- the arrays have room for a jump that opens
+space : (k : lts.After-use-bits (new-reads.Asked, new-reads.Learnt, innermost-reads.Asked, innermost-reads.Learnt, sanity-act-reads.Asked, sanity-act-reads.Learnt, use-bits-reads.Asked, use-bits-reads.Learnt, open-jump-reads.Asked, open-jump-reads.Learnt, larger-reads.Asked, larger-reads.Learnt, close-jump-reads.Asked, close-jump-reads.Learnt, after-match-reads.Asked, after-match-reads.Learnt) reads.Pre reads.Post Inv-loop μ-loop) → k .before .before .before .before .before .before .before .before .before .loop .state .depth < 128
+space k = omega (arith, room-opens (turn (k .before .before .before .before)) _ _ (k .before .before .asked .given .1), k .before .before .before .before .before .before .before .before .before .before .before .before .before .pre)
+
+-- a jump has opened: `use_bits`, the stores, `open_jump`, `larger`
 opened : (k : lts.After-larger (new-reads.Asked, new-reads.Learnt, innermost-reads.Asked, innermost-reads.Learnt, sanity-act-reads.Asked, sanity-act-reads.Learnt, use-bits-reads.Asked, use-bits-reads.Learnt, open-jump-reads.Asked, open-jump-reads.Learnt, larger-reads.Asked, larger-reads.Learnt, close-jump-reads.Asked, close-jump-reads.Learnt, after-match-reads.Asked, after-match-reads.Learnt) reads.Pre reads.Post Inv-loop μ-loop)
     → Turned (k .before .before .before .before .before .before .before .before .before .before .before .before .before .before .before .args .map .now) (k .before .before .before .before .before .before .before .before .before .before .before .before .before .before .before .args .bits) (k .before .before .before .before .before .before .before .before .before .before .before .loop .pos) (stateOf (k .before .open-jump .result) (k .before .before .before .before .asked .given .0 .0) Other (k .before .before .before .before .before .before .before .before .before .before .before .loop .count + 1) (k .larger .result))
 opened k =
+    let l = k .before .before .before .before .before .before .before .before .before .before .before .loop in
+    let target = k .before .before .before .before .asked .given .0 .1 .0 in
     let used = k .before .before .use-bits .ensures in
     let made = k .before .open-jump .ensures in
-    turn-opens (turn (k .before .before .before .before .before .before)) _ _ (k .before .before .before .before .asked .given .1) (k .before .open-jump .result) (k .larger .result)
-    (made .bits ∙ ap (λ (x : CheckState). x .bits) used)
-    (made .opened ∙ ap (λ (x : CheckState). record { target = k .before .before .before .before .asked .given .0 .1 .0; saved = x .bits } ∷ opens x) used)
-    (k .larger .ensures ∙ ap (max (k .before .before .before .before .before .before .before .before .before .before .before .loop .deepest)) (made .depth ∙ ap (λ (x : CheckState). x .depth + 1) used))
+    let d = space (k .before .before) in
+    turn-opens (turn (k .before .before .before .before .before .before)) _ _ (k .before .before .before .before .asked .given .1) (omega (arith, d, used .1 .0)) (omega (arith, d, used .1 .1)) (k .before .open-jump .result) (k .larger .result)
+    (made ∙ ap (λ (x : CheckState). record { targets = set (x .targets) (l .state .depth) target; saved = set (x .saved) (l .state .depth) (x .bits); depth = x .depth + 1; bits = x .bits }) (used .0))
+    (k .larger .ensures ∙ ap (max (l .deepest)) (ap (λ (x : CheckState). x .depth) made ∙ ap (λ (x : CheckState). x .depth + 1) (used .0)))
 
 returns : tie.Need-returns Inv-loop μ-loop
 returns c = checked-long (c .before .before .args .map .now) (c .before .before .args .bits) (omega arith)
@@ -86,9 +91,17 @@ enum-known-asked c = search needs
 use-bits-requires : tie.Need-use-bits-requires Inv-loop μ-loop
 use-bits-requires c κs = certain (turn (c .before .before .before)) (Opens _ _) (c .before .asked .given .1)
 
+mul-state : tie.Need-mul-state Inv-loop μ-loop
+mul-state c = omega (arith, space c)
+
+element-write-state : tie.Need-element-write-state Inv-loop μ-loop
+element-write-state c = space c
+
+element-write-state-2 : tie.Need-element-write-state-2 Inv-loop μ-loop
+element-write-state-2 c = space c
+
 open-jump-requires : tie.Need-open-jump-requires Inv-loop μ-loop
-open-jump-requires c κs =
-    omega (arith, room-opens (turn (c .before .before .before .before)) _ _ (c .before .before .asked .given .1), c .before .before .before .before .before .before .before .before .before .before .before .before .before .pre, ap (λ (x : CheckState). x .depth) (c .use-bits .ensures))
+open-jump-requires c κs = omega (arith, space c, ap (λ (x : CheckState). x .depth) (c .use-bits .ensures .0))
 
 larger-requires : tie.Need-larger-requires Inv-loop μ-loop
 larger-requires c κs = tt
@@ -133,10 +146,10 @@ after-match-requires : tie.Need-after-match-requires Inv-loop μ-loop
 after-match-requires c κs = tt
 
 loop-less-3 : tie.Need-loop-less-3 Inv-loop μ-loop
-loop-less-3 c = less (turn (c .before .before .before .before .before)) (turn-uses (turn (c .before .before .before .before .before)) _ _ (c .before .before .before .asked3 .given .1) (c .before .use-bits2 .result) (c .after-match .result) (c .before .use-bits2 .ensures) (c .after-match .ensures))
+loop-less-3 c = less (turn (c .before .before .before .before .before)) (turn-uses (turn (c .before .before .before .before .before)) _ _ (c .before .before .before .asked3 .given .1) (c .before .use-bits2 .result) (c .after-match .result) (c .before .use-bits2 .ensures .0) (c .after-match .ensures))
 
 loop-again-3 : tie.Need-loop-again-3 Inv-loop μ-loop
-loop-again-3 c = turn-uses (turn (c .before .before .before .before .before)) _ _ (c .before .before .before .asked3 .given .1) (c .before .use-bits2 .result) (c .after-match .result) (c .before .use-bits2 .ensures) (c .after-match .ensures) .standing
+loop-again-3 c = turn-uses (turn (c .before .before .before .before .before)) _ _ (c .before .before .before .asked3 .given .1) (c .before .use-bits2 .result) (c .after-match .result) (c .before .use-bits2 .ensures .0) (c .after-match .ensures) .standing
 
 -- ---- DEFAULT
 
@@ -184,6 +197,9 @@ sanity-check-bits-spec =
     add-count
     enum-known-asked
     use-bits-requires
+    mul-state
+    element-write-state
+    element-write-state-2
     open-jump-requires
     larger-requires
     loop-less

@@ -1,10 +1,22 @@
 -- Each way out is what the tests make of the model.
 -- Assumes nothing.
-use mathlib.Core.Path.{_∙_, sym}
+use mathlib.Core.Path.{_≡_, _∙_, sym}
+use lib.Dec.{lit<}
+use Rattle.asmap_codes.specs.Row.{asnRow}
+use Rattle.asmap_codes.specs.Code.{codeAt}
 use Rattle.asmap_check.specs.Act.{refusing}
+use Rattle.asmap_decode.proofs.WindowLaws.{row-window}
 use borrow.Author.Needs.{needs}
 use Rattle.asmap_check.proofs.sanity_default.Statement.{statement}
 use Rattle.asmap_check.proofs.sanity_default.Tie as tie
+use Rattle.asmap_check.proofs.sanity_default.Reads as reads
+use Rattle.asmap_check.proofs.sanity_default.Lts as lts
+use Rattle.asmap_check.proofs.is_default.Reads as is-default-reads
+use Rattle.asmap_decode.proofs.asn_in.Reads as asn-in-reads
+
+-- what was read is the code of the map
+code : (k : lts.After-asn-in (is-default-reads.Asked, is-default-reads.Learnt, asn-in-reads.Asked, asn-in-reads.Learnt) reads.Pre reads.Post) → codeAt (k .before .before .before .before .args .map .now) (k .before .before .before .before .args .at) asnRow ≡ k .asn-in .result
+code k = let a = k .before .before .before .before .args in sym (k .asn-in .ensures ∙ row-window (a .map .now) (a .at) (a .w) asnRow (lit< tt) (k .before .before .before .before .pre .2))
 
 is-default-requires : tie.Need-is-default-requires
 is-default-requires c κs = search needs
@@ -13,8 +25,11 @@ returns : tie.Need-returns
 unfolding refusing
 returns c = rw (sym (c .before .is-default .ensures) ∙ c .if1 .taken)
 
-asn-at-requires : tie.Need-asn-at-requires
-asn-at-requires c κs = search needs
+mul-asn-in : tie.Need-mul-asn-in
+mul-asn-in c = search needs
+
+asn-in-requires : tie.Need-asn-in-requires
+asn-in-requires c κs = search needs
 
 enum-known-got : tie.Need-enum-known-got
 enum-known-got c = search needs
@@ -25,12 +40,12 @@ enum-told c = search needs
 returns-2 : tie.Need-returns-2
 unfolding refusing
 returns-2 c =
-    rw (sym (c .before .before .before .before .is-default .ensures) ∙ c .before .before .before .if1 .left, sym (c .before .before .asn-at .ensures) ∙ c .enum-told .given .1)
+    rw (sym (c .before .before .before .before .is-default .ensures) ∙ c .before .before .before .if1 .left, code (c .before .before) ∙ c .enum-told .given .1)
 
 returns-3 : tie.Need-returns-3
 unfolding refusing
 returns-3 c =
-    rw (sym (c .before .before .before .before .before .is-default .ensures) ∙ c .before .before .before .before .if1 .left, sym (c .before .before .before .asn-at .ensures) ∙ c .before .got .given .1)
+    rw (sym (c .before .before .before .before .before .is-default .ensures) ∙ c .before .before .before .before .if1 .left, code (c .before .before .before) ∙ c .before .got .given .1)
 
 pub sanity-default-spec : {M : Type 1} → statement M
 sanity-default-spec =
@@ -38,7 +53,8 @@ sanity-default-spec =
     (tie.spec
     is-default-requires
     returns
-    asn-at-requires
+    mul-asn-in
+    asn-in-requires
     enum-known-got
     enum-told
     returns-2

@@ -5,6 +5,7 @@ use mathlib.Core.Path.{_≡_, _∙_, sym}
 use Rattle.asmap_codes.specs.Row.{jumpRow}
 use Rattle.asmap_codes.proofs.Inside.{Inside, value-at}
 use lib.Dec.{lit<}
+use Rattle.asmap_decode.proofs.WindowLaws.{row-window}
 use borrow.Author.Needs.{needs}
 use Rattle.asmap_codes.specs.Code.{codeAt}
 use Rattle.asmap_codes.specs.declared.Code.the-variants.{Value}
@@ -14,21 +15,28 @@ use Rattle.asmap_check.proofs.sanity_jump.Statement.{statement}
 use Rattle.asmap_check.proofs.sanity_jump.Tie as tie
 use Rattle.asmap_check.proofs.sanity_jump.Reads as reads
 use Rattle.asmap_check.proofs.sanity_jump.Lts as lts
-use Rattle.asmap_decode.proofs.jump_at.Reads as jump-at-reads
+use Rattle.asmap_decode.proofs.jump_in.Reads as jump-in-reads
 use Rattle.asmap_check.proofs.past.Reads as past-reads
+
+-- what was read is the code of the map
+code : (k : lts.After-jump-in (jump-in-reads.Asked, jump-in-reads.Learnt, past-reads.Asked, past-reads.Learnt) reads.Pre reads.Post) → codeAt (k .before .before .args .map .now) (k .before .before .args .at) jumpRow ≡ k .jump-in .result
+code k = let a = k .before .before .args in sym (k .jump-in .ensures ∙ row-window (a .map .now) (a .at) (a .w) jumpRow (lit< tt) (k .before .before .pre .2))
 
 -- what is known once the operand was read
 abbrev Operand-read : Type 0
-Operand-read = lts.After-known-told (jump-at-reads.Asked, jump-at-reads.Learnt, past-reads.Asked, past-reads.Learnt) reads.Pre reads.Post
+Operand-read = lts.After-known-told (jump-in-reads.Asked, jump-in-reads.Learnt, past-reads.Asked, past-reads.Learnt) reads.Pre reads.Post
 
 operand : (k : Operand-read) → codeAt (k .before .before .before .before .before .args .map .now) (k .before .before .before .before .before .args .at) jumpRow ≡ Value (k .before .got .given .0 .0) (k .before .got .given .0 .1 .0)
-operand k = sym (k .before .before .before .jump-at .ensures) ∙ k .before .got .given .1
+operand k = code (k .before .before .before) ∙ k .before .got .given .1
 
 inside : (k : Operand-read) → Inside (k .before .before .before .before .before .args .map .now) (k .before .before .before .before .before .args .at) jumpRow (k .before .got .given .0 .0) (k .before .got .given .0 .1 .0)
 inside k = value-at _ _ jumpRow _ _ (lit< tt) (operand k)
 
-jump-at-requires : tie.Need-jump-at-requires
-jump-at-requires c κs = search needs
+mul-jump-in : tie.Need-mul-jump-in
+mul-jump-in c = search needs
+
+jump-in-requires : tie.Need-jump-in-requires
+jump-in-requires c κs = search needs
 
 enum-known-got : tie.Need-enum-known-got
 enum-known-got c = search needs
@@ -38,7 +46,7 @@ enum-told c = search needs
 
 returns : tie.Need-returns
 unfolding refusing
-returns c = rw (sym (c .before .before .jump-at .ensures) ∙ c .enum-told .given .1)
+returns c = rw (code (c .before .before) ∙ c .enum-told .given .1)
 
 returns-2 : tie.Need-returns-2
 unfolding refusing
@@ -68,7 +76,8 @@ pub sanity-jump-spec : {M : Type 1} → statement M
 sanity-jump-spec =
     tie.close
     (tie.spec
-    jump-at-requires
+    mul-jump-in
+    jump-in-requires
     enum-known-got
     enum-told
     returns

@@ -5,6 +5,7 @@ use mathlib.Core.Path.{_≡_, _∙_, sym}
 use Rattle.asmap_codes.specs.Row.{matchRow}
 use Rattle.asmap_codes.proofs.Inside.{Inside, value-at}
 use lib.Dec.{lit<}
+use Rattle.asmap_decode.proofs.WindowLaws.{row-window}
 use borrow.Author.Needs.{needs}
 use Rattle.asmap_codes.specs.Code.{codeAt}
 use Rattle.asmap_codes.specs.declared.Code.the-variants.{Value}
@@ -14,22 +15,29 @@ use Rattle.asmap_check.proofs.sanity_match.Statement.{statement}
 use Rattle.asmap_check.proofs.sanity_match.Tie as tie
 use Rattle.asmap_check.proofs.sanity_match.Reads as reads
 use Rattle.asmap_check.proofs.sanity_match.Lts as lts
-use Rattle.asmap_decode.proofs.match_at.Reads as match-at-reads
+use Rattle.asmap_decode.proofs.match_in.Reads as match-in-reads
 use Rattle.asmap_program.proofs.match_length.Reads as match-length-reads
 use Rattle.asmap_check.proofs.short_again.Reads as short-again-reads
 
+-- what was read is the code of the map
+code : (k : lts.After-match-in (match-in-reads.Asked, match-in-reads.Learnt, match-length-reads.Asked, match-length-reads.Learnt, short-again-reads.Asked, short-again-reads.Learnt) reads.Pre reads.Post) → codeAt (k .before .before .args .map .now) (k .before .before .args .at) matchRow ≡ k .match-in .result
+code k = let a = k .before .before .args in sym (k .match-in .ensures ∙ row-window (a .map .now) (a .at) (a .w) matchRow (lit< tt) (k .before .before .pre .2))
+
 -- what is known once the operand was read
 abbrev Operand-read : Type 0
-Operand-read = lts.After-known-told (match-at-reads.Asked, match-at-reads.Learnt, match-length-reads.Asked, match-length-reads.Learnt, short-again-reads.Asked, short-again-reads.Learnt) reads.Pre reads.Post
+Operand-read = lts.After-known-told (match-in-reads.Asked, match-in-reads.Learnt, match-length-reads.Asked, match-length-reads.Learnt, short-again-reads.Asked, short-again-reads.Learnt) reads.Pre reads.Post
 
 operand : (k : Operand-read) → codeAt (k .before .before .before .before .before .args .map .now) (k .before .before .before .before .before .args .at) matchRow ≡ Value (k .before .got .given .0 .0) (k .before .got .given .0 .1 .0)
-operand k = sym (k .before .before .before .match-at .ensures) ∙ k .before .got .given .1
+operand k = code (k .before .before .before) ∙ k .before .got .given .1
 
 inside : (k : Operand-read) → Inside (k .before .before .before .before .before .args .map .now) (k .before .before .before .before .before .args .at) matchRow (k .before .got .given .0 .0) (k .before .got .given .0 .1 .0)
 inside k = value-at _ _ matchRow _ _ (lit< tt) (operand k)
 
-match-at-requires : tie.Need-match-at-requires
-match-at-requires c κs = search needs
+mul-match-in : tie.Need-mul-match-in
+mul-match-in c = search needs
+
+match-in-requires : tie.Need-match-in-requires
+match-in-requires c κs = search needs
 
 enum-known-got : tie.Need-enum-known-got
 enum-known-got c = search needs
@@ -39,7 +47,7 @@ enum-told c = search needs
 
 returns : tie.Need-returns
 unfolding refusing
-returns c = rw (sym (c .before .before .match-at .ensures) ∙ c .enum-told .given .1)
+returns c = rw (code (c .before .before) ∙ c .enum-told .given .1)
 
 match-length-requires : tie.Need-match-length-requires
 match-length-requires c κs = omega (arith, inside c .above)
@@ -63,7 +71,8 @@ pub sanity-match-spec : {M : Type 1} → statement M
 sanity-match-spec =
     tie.close
     (tie.spec
-    match-at-requires
+    mul-match-in
+    match-in-requires
     enum-known-got
     enum-told
     returns

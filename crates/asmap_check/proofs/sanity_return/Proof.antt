@@ -5,6 +5,7 @@ use mathlib.Core.Path.{_≡_, _∙_, sym}
 use Rattle.asmap_codes.specs.Row.{asnRow}
 use Rattle.asmap_codes.proofs.Inside.{Inside, value-at}
 use lib.Dec.{lit<}
+use Rattle.asmap_decode.proofs.WindowLaws.{row-window}
 use borrow.Author.Needs.{needs}
 use Rattle.asmap_codes.specs.Code.{codeAt}
 use Rattle.asmap_codes.specs.declared.Code.the-variants.{Value}
@@ -17,15 +18,19 @@ use Rattle.asmap_check.proofs.sanity_return.Tie as tie
 use Rattle.asmap_check.proofs.sanity_return.Reads as reads
 use Rattle.asmap_check.proofs.sanity_return.Lts as lts
 use Rattle.asmap_check.proofs.is_default.Reads as is-default-reads
-use Rattle.asmap_decode.proofs.asn_at.Reads as asn-at-reads
+use Rattle.asmap_decode.proofs.asn_in.Reads as asn-in-reads
 use Rattle.asmap_check.proofs.padded.Reads as padded-reads
+
+-- what was read is the code of the map
+code : (k : lts.After-asn-in (is-default-reads.Asked, is-default-reads.Learnt, asn-in-reads.Asked, asn-in-reads.Learnt, padded-reads.Asked, padded-reads.Learnt) reads.Pre reads.Post) → codeAt (k .before .before .before .before .args .map .now) (k .before .before .before .before .args .at) asnRow ≡ k .asn-in .result
+code k = let a = k .before .before .before .before .args in sym (k .asn-in .ensures ∙ row-window (a .map .now) (a .at) (a .w) asnRow (lit< tt) (k .before .before .before .before .pre .2))
 
 -- what is known once the operand was read
 abbrev Operand-read : Type 0
-Operand-read = lts.After-known-told (is-default-reads.Asked, is-default-reads.Learnt, asn-at-reads.Asked, asn-at-reads.Learnt, padded-reads.Asked, padded-reads.Learnt) reads.Pre reads.Post
+Operand-read = lts.After-known-told (is-default-reads.Asked, is-default-reads.Learnt, asn-in-reads.Asked, asn-in-reads.Learnt, padded-reads.Asked, padded-reads.Learnt) reads.Pre reads.Post
 
 operand : (k : Operand-read) → codeAt (k .before .before .before .before .before .before .before .args .map .now) (k .before .before .before .before .before .before .before .args .at) asnRow ≡ Value (k .before .got .given .0 .0) (k .before .got .given .0 .1 .0)
-operand k = sym (k .before .before .before .asn-at .ensures) ∙ k .before .got .given .1
+operand k = code (k .before .before .before) ∙ k .before .got .given .1
 
 inside : (k : Operand-read) → Inside (k .before .before .before .before .before .before .before .args .map .now) (k .before .before .before .before .before .before .before .args .at) asnRow (k .before .got .given .0 .0) (k .before .got .given .0 .1 .0)
 inside k = value-at _ _ asnRow _ _ (lit< tt) (operand k)
@@ -40,8 +45,11 @@ returns : tie.Need-returns
 unfolding refusing
 returns c = rw (sym (c .before .is-default .ensures) ∙ c .if1 .taken)
 
-asn-at-requires : tie.Need-asn-at-requires
-asn-at-requires c κs = search needs
+mul-asn-in : tie.Need-mul-asn-in
+mul-asn-in c = search needs
+
+asn-in-requires : tie.Need-asn-in-requires
+asn-in-requires c κs = search needs
 
 enum-known-got : tie.Need-enum-known-got
 enum-known-got c = search needs
@@ -52,7 +60,7 @@ enum-told c = search needs
 returns-2 : tie.Need-returns-2
 unfolding refusing
 returns-2 c =
-    rw (sym (c .before .before .before .before .is-default .ensures) ∙ c .before .before .before .if1 .left, sym (c .before .before .asn-at .ensures) ∙ c .enum-told .given .1)
+    rw (sym (c .before .before .before .before .is-default .ensures) ∙ c .before .before .before .if1 .left, code (c .before .before) ∙ c .enum-told .given .1)
 
 padded-requires : tie.Need-padded-requires
 padded-requires c κs = (omega arith, inside (c .before) .inside)
@@ -79,7 +87,8 @@ sanity-return-spec =
     (tie.spec
     is-default-requires
     returns
-    asn-at-requires
+    mul-asn-in
+    asn-in-requires
     enum-known-got
     enum-told
     returns-2

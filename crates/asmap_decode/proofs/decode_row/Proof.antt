@@ -1,11 +1,27 @@
 -- The limit, the end, then the code, by its two cases.
 -- Assumes nothing.
-use mathlib.Core.Path.{_∙_, sym}
+use mathlib.Core.Path.{_≡_, _∙_, sym}
 use native.Mathlib.Omega.{arith}
+use Rattle.asmap_codes.specs.Row.{Row}
+use Rattle.asmap_codes.specs.Code.{codeAt}
 use Rattle.asmap_codes.proofs.Inside.{past-end, read-long, read-at}
+use Rattle.asmap_decode.proofs.WindowLaws.{row-window, window-holds}
 use borrow.Author.Needs.{needs}
 use Rattle.asmap_decode.proofs.decode_row.Statement.{statement}
 use Rattle.asmap_decode.proofs.decode_row.Tie as tie
+use Rattle.asmap_decode.proofs.decode_row.Reads as reads
+use Rattle.asmap_decode.proofs.decode_row.Lts as lts
+use Rattle.asmap_decode.proofs.decode_bits.Reads as decode-bits-reads
+use Rattle.asmap_decode.proofs.window.Reads as window-reads
+
+-- what was read is the code of the map
+read : (k : lts.After-decode-bits (window-reads.Asked, window-reads.Learnt, decode-bits-reads.Asked, decode-bits-reads.Learnt) reads.Pre reads.Post)
+    → codeAt (k .before .before .before .before .before .before .args .map .now) (k .before .before .before .before .before .before .args .at) (record { least = k .before .before .before .before .before .before .args .least; sizes = k .before .before .before .before .before .before .args .sizes .now }) ≡ k .decode-bits .result
+read k =
+    let a = k .before .before .before .before .before .before .args in
+    let f = k .before .before .before .before .before .before .pre in
+    let row : Row = record { least = a .least; sizes = a .sizes .now } in
+    sym (k .decode-bits .ensures ∙ row-window (a .map .now) (a .at) _ row (f .many) (window-holds (a .map .now) (a .at) _ row (f .short) (k .before .window .ensures)))
 
 returns : tie.Need-returns
 returns c = let a = c .before .before .before .args in sym (read-long (a .map .now) (a .at) (record { least = a .least; sizes = a .sizes .now }) (omega arith))
@@ -18,8 +34,14 @@ returns-2 c =
     let a = c .before .before .before .before .args in
     sym (read-at (a .map .now) (a .at) (record { least = a .least; sizes = a .sizes .now }) (omega arith) _ (past-end (a .map .now) (a .at) (record { least = a .least; sizes = a .sizes .now }) (c .before .before .before .before .pre .many) (omega arith)))
 
-row-at-requires : tie.Need-row-at-requires
-row-at-requires c κs = search needs
+window-requires : tie.Need-window-requires
+window-requires c κs = search needs
+
+mul-decode-bits : tie.Need-mul-decode-bits
+mul-decode-bits c = search needs
+
+decode-bits-requires : tie.Need-decode-bits-requires
+decode-bits-requires c κs = search needs
 
 enum-known-got : tie.Need-enum-known-got
 enum-known-got c = search needs
@@ -29,13 +51,13 @@ enum-told c = search needs
 
 returns-3 : tie.Need-returns-3
 returns-3 c =
-    let a = c .before .before .before .before .before .before .before .args in
-    sym (read-at (a .map .now) (a .at) (record { least = a .least; sizes = a .sizes .now }) (omega arith) _ (sym (c .before .before .row-at .ensures) ∙ c .enum-told .given .1))
+    let a = c .before .before .before .before .before .before .before .before .args in
+    sym (read-at (a .map .now) (a .at) (record { least = a .least; sizes = a .sizes .now }) (omega arith) _ (read (c .before .before) ∙ c .enum-told .given .1))
 
 returns-4 : tie.Need-returns-4
 returns-4 c =
-    let a = c .before .before .before .before .before .before .before .before .args in
-    sym (read-at (a .map .now) (a .at) (record { least = a .least; sizes = a .sizes .now }) (omega arith) _ (sym (c .before .before .before .row-at .ensures) ∙ c .before .got .given .1))
+    let a = c .before .before .before .before .before .before .before .before .before .args in
+    sym (read-at (a .map .now) (a .at) (record { least = a .least; sizes = a .sizes .now }) (omega arith) _ (read (c .before .before .before) ∙ c .before .got .given .1))
 
 pub decode-row-spec : {M : Type 1} → statement M
 decode-row-spec =
@@ -44,7 +66,9 @@ decode-row-spec =
     returns
     mul-if2
     returns-2
-    row-at-requires
+    window-requires
+    mul-decode-bits
+    decode-bits-requires
     enum-known-got
     enum-told
     returns-3

@@ -4,42 +4,55 @@ use borrow.Author.Needs.{needs}
 use native.Mathlib.Omega.{arith}
 use mathlib.Core.Path.{_≡_, _∙_, sym}
 use Prim.Native.Nat.{ℕ, _-_, _^_}
-use Rattle.asmap_walk.proofs.Walking.{Walking, Taken, Comparing, walking-start, opcode-read, cut-opcode, cut-operand, read, returns-ends, jump-ends, jump-onward, jump-goes, match-some, match-ends, match-differs, match-goes, default-goes, comparing-start, bit-left, equal-goes, different-ends, all-equal}
+use lib.Dec.{lit<, lit≤}
+use Rattle.asmap_program.specs.Map.{bitOf, addressBit}
+use Rattle.asmap_codes.specs.Row.{typeRow, operandRow}
+use Rattle.asmap_codes.specs.Code.{codeAt}
+use Rattle.asmap_codes.proofs.Inside.{long-operand}
+use Rattle.asmap_decode.proofs.WindowLaws.{row-window, window-holds}
+use Rattle.asmap_walk.proofs.Walking.{Walking, Taken, Comparing, walking-start, opcode-read, cut-opcode, cut-operand, read, returns-ends, jump-ends, jump-onward, jump-goes, match-some, match-most, match-ends, match-differs, match-goes, default-goes, comparing-start, bit-left, next-bit, equal-goes, different-ends, all-equal}
 use Rattle.asmap_walk.proofs.walk_bits.Statement.{statement}
 use Rattle.asmap_walk.proofs.walk_bits.Tie as tie
 use Rattle.asmap_walk.proofs.walk_bits.Reads as reads
 use Rattle.asmap_walk.proofs.walk_bits.Lts as lts
-use Rattle.asmap_decode.proofs.operand_at.Reads as operand-at-reads
-use Rattle.asmap_decode.proofs.type_at.Reads as type-at-reads
+use Rattle.asmap_decode.proofs.operand_in.Reads as operand-in-reads
+use Rattle.asmap_decode.proofs.operand_window.Reads as operand-window-reads
+use Rattle.asmap_decode.proofs.type_in.Reads as type-in-reads
+use Rattle.asmap_decode.proofs.window.Reads as window-reads
 use Rattle.asmap_program.proofs.match_length.Reads as match-length-reads
 use Rattle.asmap_walk.proofs.abort.Reads as abort-reads
 use Rattle.asmap_walk.proofs.address_bit.Reads as address-bit-reads
+use Rattle.asmap_walk.proofs.address_bits.Reads as address-bits-reads
+use Rattle.asmap_walk.proofs.bit_of.Reads as bit-of-reads
 use Rattle.asmap_walk.proofs.finish.Reads as finish-reads
 use Rattle.asmap_walk.proofs.jump_to.Reads as jump-to-reads
-use Rattle.asmap_walk.proofs.operand_bit.Reads as operand-bit-reads
 
 abbrev Inv-loop : tie.InvT-loop
-Inv-loop map address width pos used₀ default count opcode at operand next left₀ used left = Comparing address width operand used₀ used left
+Inv-loop map address width end pos used₀ default count w opcode at rest operand next left₀ bits used left = Comparing address width operand used₀ used left
 
 abbrev μ-loop : tie.MeasureT-loop
-μ-loop map address width pos used₀ default count opcode at operand next left₀ used left = left
+μ-loop map address width end pos used₀ default count w opcode at rest operand next left₀ bits used left = left
 
 abbrev Inv-walk : tie.InvT-walk
-Inv-walk map address width pos₀ used₀ default₀ count₀ pos used default count = Walking map address width pos used default count
+Inv-walk map address width end pos₀ used₀ default₀ count₀ pos used default count = Walking map address width pos used default count
 
 abbrev μ-walk : tie.MeasureT-walk
-μ-walk map address width pos₀ used₀ default₀ count₀ pos used default count = 2 ^ 32 - pos
+μ-walk map address width end pos₀ used₀ default₀ count₀ pos used default count = 2 ^ 32 - pos
 
 -- ---- what is known where an instruction was read whole, said once
 
-abbrev WasRead : Type 0
-WasRead = lts.After-known-told2 (
-  type-at-reads.Asked,
-  type-at-reads.Learnt,
+-- the opcode and the operand that were read are those of the map
+typed : (k : lts.After-type-in (
+  window-reads.Asked,
+  window-reads.Learnt,
+  type-in-reads.Asked,
+  type-in-reads.Learnt,
   abort-reads.Asked,
   abort-reads.Learnt,
-  operand-at-reads.Asked,
-  operand-at-reads.Learnt,
+  operand-window-reads.Asked,
+  operand-window-reads.Learnt,
+  operand-in-reads.Asked,
+  operand-in-reads.Learnt,
   finish-reads.Asked,
   finish-reads.Learnt,
   address-bit-reads.Asked,
@@ -48,26 +61,118 @@ WasRead = lts.After-known-told2 (
   jump-to-reads.Learnt,
   match-length-reads.Asked,
   match-length-reads.Learnt,
-  operand-bit-reads.Asked,
-  operand-bit-reads.Learnt,
+  address-bits-reads.Asked,
+  address-bits-reads.Learnt,
+  bit-of-reads.Asked,
+  bit-of-reads.Learnt,
+) reads.Pre reads.Post Inv-loop μ-loop Inv-walk μ-walk) → codeAt (k .before .before .before .before .before .args .map .now) (k .before .before .walk .pos) typeRow ≡ k .type-in .result
+typed k =
+    let m = k .before .before .before .before .before .args .map .now in
+    let p = k .before .before .walk .pos in
+    sym (k .type-in .ensures ∙ row-window m p _ typeRow (lit< tt) (window-holds m p _ typeRow (lit≤ tt) (k .before .window .ensures)))
+
+operand : (k : lts.After-operand-in (
+  window-reads.Asked,
+  window-reads.Learnt,
+  type-in-reads.Asked,
+  type-in-reads.Learnt,
+  abort-reads.Asked,
+  abort-reads.Learnt,
+  operand-window-reads.Asked,
+  operand-window-reads.Learnt,
+  operand-in-reads.Asked,
+  operand-in-reads.Learnt,
+  finish-reads.Asked,
+  finish-reads.Learnt,
+  address-bit-reads.Asked,
+  address-bit-reads.Learnt,
+  jump-to-reads.Asked,
+  jump-to-reads.Learnt,
+  match-length-reads.Asked,
+  match-length-reads.Learnt,
+  address-bits-reads.Asked,
+  address-bits-reads.Learnt,
+  bit-of-reads.Asked,
+  bit-of-reads.Learnt,
+) reads.Pre reads.Post Inv-loop μ-loop Inv-walk μ-walk) → codeAt (k .before .before .before .before .before .before .before .before .before .before .args .map .now) (k .before .before .before .first .given .0 .1 .0) (operandRow (k .before .before .before .first .given .0 .0)) ≡ k .operand-in .result
+operand k = let o = k .before .before .before .first .given .0 .0 in sym (k .operand-in .ensures ∙ row-window (k .before .before .before .before .before .before .before .before .before .before .args .map .now) _ _ (operandRow o) (long-operand o) (k .before .operand-window .ensures))
+
+abbrev WasRead : Type 0
+WasRead = lts.After-known-told2 (
+  window-reads.Asked,
+  window-reads.Learnt,
+  type-in-reads.Asked,
+  type-in-reads.Learnt,
+  abort-reads.Asked,
+  abort-reads.Learnt,
+  operand-window-reads.Asked,
+  operand-window-reads.Learnt,
+  operand-in-reads.Asked,
+  operand-in-reads.Learnt,
+  finish-reads.Asked,
+  finish-reads.Learnt,
+  address-bit-reads.Asked,
+  address-bit-reads.Learnt,
+  jump-to-reads.Asked,
+  jump-to-reads.Learnt,
+  match-length-reads.Asked,
+  match-length-reads.Learnt,
+  address-bits-reads.Asked,
+  address-bits-reads.Learnt,
+  bit-of-reads.Asked,
+  bit-of-reads.Learnt,
 ) reads.Pre reads.Post Inv-loop μ-loop Inv-walk μ-walk
 
 taken : (k : WasRead)
-    → Taken (k .before .before .before .before .before .before .before .before .before .before .before .args .map .now) (k .before .before .before .before .before .before .before .before .before .before .before .args .address .now) (k .before .before .before .before .before .before .before .before .before .before .before .args .width)
-    (k .before .before .before .before .before .before .before .before .walk .pos) (k .before .before .before .before .before .before .before .before .walk .used) (k .before .before .before .before .before .before .before .before .walk .default) (k .before .before .before .before .before .before .before .before .walk .count)
-    (k .before .before .before .before .before .first .given .0 .0) (k .before .before .before .before .before .first .given .0 .1 .0)
+    → Taken (k .before .before .before .before .before .before .before .before .before .before .before .before .before .args .map .now) (k .before .before .before .before .before .before .before .before .before .before .before .before .before .args .address .now) (k .before .before .before .before .before .before .before .before .before .before .before .before .before .args .width)
+    (k .before .before .before .before .before .before .before .before .before .before .walk .pos) (k .before .before .before .before .before .before .before .before .before .before .walk .used) (k .before .before .before .before .before .before .before .before .before .before .walk .default) (k .before .before .before .before .before .before .before .before .before .before .walk .count)
+    (k .before .before .before .before .before .before .first .given .0 .0) (k .before .before .before .before .before .before .first .given .0 .1 .0)
     (k .before .second .given .0 .0) (k .before .second .given .0 .1 .0)
 taken k = record {
-  walking = k .before .before .before .before .before .before .before .before .walk .inv;
-  opcode = sym (k .before .before .before .before .before .before .before .type-at .ensures) ∙ k .before .before .before .before .before .first .given .1;
-  operand = sym (k .before .before .before .operand-at .ensures) ∙ k .before .second .given .1;
+  walking = k .before .before .before .before .before .before .before .before .before .before .walk .inv;
+  opcode = typed (k .before .before .before .before .before .before .before .before) ∙ k .before .before .before .before .before .before .first .given .1;
+  operand = operand (k .before .before .before) ∙ k .before .second .given .1;
 }
+
+-- in the loop over a MATCH's bits: the next of those taken out is the next of the address
+next : (k : lts.In-loop (
+  window-reads.Asked,
+  window-reads.Learnt,
+  type-in-reads.Asked,
+  type-in-reads.Learnt,
+  abort-reads.Asked,
+  abort-reads.Learnt,
+  operand-window-reads.Asked,
+  operand-window-reads.Learnt,
+  operand-in-reads.Asked,
+  operand-in-reads.Learnt,
+  finish-reads.Asked,
+  finish-reads.Learnt,
+  address-bit-reads.Asked,
+  address-bit-reads.Learnt,
+  jump-to-reads.Asked,
+  jump-to-reads.Learnt,
+  match-length-reads.Asked,
+  match-length-reads.Learnt,
+  address-bits-reads.Asked,
+  address-bits-reads.Learnt,
+  bit-of-reads.Asked,
+  bit-of-reads.Learnt,
+) reads.Pre reads.Post Inv-loop μ-loop Inv-walk μ-walk)
+    → bitOf (k .before .before .address-bits .result) (k .before .loop .left - 1) ≡ addressBit (k .before .before .before .before .before .before .before .before .before .before .before .before .before .before .before .before .before .before .before .args .address .now) (k .before .loop .used)
+next k = next-bit (k .before .loop .inv) (k .loop-test .taken) _ _ (k .before .before .before .before .match-length .ensures) (k .before .before .address-bits .ensures)
+
+mul-end : tie.Need-mul-end Inv-loop μ-loop Inv-walk μ-walk
+mul-end c = omega arith
 
 walk-holds : tie.Need-walk-holds Inv-loop μ-loop Inv-walk μ-walk
 walk-holds c = walking-start _ _ _ (c .before .before .pre .0) (c .before .before .pre .1) (omega arith)
 
-type-at-requires : tie.Need-type-at-requires Inv-loop μ-loop Inv-walk μ-walk
-type-at-requires c κs = let v = c .walk .inv in (v .fits, omega (arith, v .near))
+window-requires : tie.Need-window-requires Inv-loop μ-loop Inv-walk μ-walk
+window-requires c κs = tt
+
+type-in-requires : tie.Need-type-in-requires Inv-loop μ-loop Inv-walk μ-walk
+type-in-requires c κs = omega (arith, c .before .walk .inv .near)
 
 enum-known-first : tie.Need-enum-known-first Inv-loop μ-loop Inv-walk μ-walk
 enum-known-first c = search needs
@@ -79,13 +184,15 @@ abort-requires : tie.Need-abort-requires Inv-loop μ-loop Inv-walk μ-walk
 abort-requires c κs = tt
 
 returns : tie.Need-returns Inv-loop μ-loop Inv-walk μ-walk
-returns c = c .abort .ensures ∙ cut-opcode (c .before .before .before .before .walk .inv) (sym (c .before .before .before .type-at .ensures) ∙ c .before .enum-told .given .1)
+returns c = c .abort .ensures ∙ cut-opcode (c .before .before .before .before .before .walk .inv) (typed (c .before .before .before) ∙ c .before .enum-told .given .1)
 
-operand-at-requires : tie.Need-operand-at-requires Inv-loop μ-loop Inv-walk μ-walk
-operand-at-requires c κs =
-    let v = c .before .before .before .before .walk .inv in
-    let r = opcode-read v (sym (c .before .before .before .type-at .ensures) ∙ c .before .first .given .1) in
-    (v .fits, omega (arith, r .0, v .fits), r .1)
+operand-window-requires : tie.Need-operand-window-requires Inv-loop μ-loop Inv-walk μ-walk
+operand-window-requires c κs = (c .before .before .before .before .window .ensures, typed (c .before .before .before) ∙ c .before .first .given .1)
+
+operand-in-requires : tie.Need-operand-in-requires Inv-loop μ-loop Inv-walk μ-walk
+operand-in-requires c κs =
+    let v = c .before .before .before .before .before .before .walk .inv in
+    omega (arith, opcode-read v (typed (c .before .before .before .before) ∙ c .before .before .first .given .1) .0, v .fits)
 
 enum-known-second : tie.Need-enum-known-second Inv-loop μ-loop Inv-walk μ-walk
 enum-known-second c = search needs
@@ -99,7 +206,7 @@ abort-requires-2 c κs = tt
 returns-2 : tie.Need-returns-2 Inv-loop μ-loop Inv-walk μ-walk
 returns-2 c =
     c .abort2 .ensures
-    ∙ cut-operand (c .before .before .before .before .before .before .before .before .walk .inv) (sym (c .before .before .before .before .before .before .before .type-at .ensures) ∙ c .before .before .before .before .before .first .given .1) (sym (c .before .before .before .operand-at .ensures) ∙ c .before .enum-told2 .given .1)
+    ∙ cut-operand (c .before .before .before .before .before .before .before .before .before .before .walk .inv) (typed (c .before .before .before .before .before .before .before .before) ∙ c .before .before .before .before .before .before .first .given .1) (operand (c .before .before .before) ∙ c .before .enum-told2 .given .1)
 
 add-count : tie.Need-add-count Inv-loop μ-loop Inv-walk μ-walk
 add-count c = let r = read (taken c) in omega (arith, r .start, r .near, taken c .walking .few)
@@ -147,35 +254,40 @@ returns-5 c =
     c .abort4 .ensures
     ∙ match-ends (taken (c .before .before .before .before)) (c .before .before .before .match3 .keys3) (omega (arith, c .before .if2 .taken, c .before .before .match-length .ensures, taken (c .before .before .before .before) .walking .room))
 
+address-bits-requires : tie.Need-address-bits-requires Inv-loop μ-loop Inv-walk μ-walk
+address-bits-requires c κs = omega (arith, match-most (taken (c .before .before .before)) (c .before .before .match3 .keys3), c .before .match-length .ensures)
+
 loop-holds : tie.Need-loop-holds Inv-loop μ-loop Inv-walk μ-walk
-loop-holds c = comparing-start (taken (c .before .before .before)) (c .before .before .match3 .keys3) _ (c .before .match-length .ensures) (omega (arith, c .if2 .left, taken (c .before .before .before) .walking .room))
+loop-holds c = comparing-start (taken (c .before .before .before .before)) (c .before .before .before .match3 .keys3) _ (c .before .before .match-length .ensures) (omega (arith, c .before .if2 .left, taken (c .before .before .before .before) .walking .room))
 
 walk-less-2 : tie.Need-walk-less-2 Inv-loop μ-loop Inv-walk μ-walk
-walk-less-2 c = let r = read (taken (c .before .before .before .before .before)) in omega (arith, r .start, r .near)
+walk-less-2 c = let r = read (taken (c .before .before .before .before .before .before)) in omega (arith, r .start, r .near)
 
 walk-again-2 : tie.Need-walk-again-2 Inv-loop μ-loop Inv-walk μ-walk
 walk-again-2 c =
     let l = c .before .loop .inv in
     let z : c .before .loop .left ≡ 0 = omega (arith, c .loop-test .left) in
-    match-goes (taken (c .before .before .before .before .before)) (c .before .before .before .before .match3 .keys3) (l .room) (all-equal l z) _ (omega (arith, l .place, z))
+    match-goes (taken (c .before .before .before .before .before .before)) (c .before .before .before .before .before .match3 .keys3) (l .room) (all-equal l z) _ (omega (arith, l .place, z))
 
 sub-left : tie.Need-sub-left Inv-loop μ-loop Inv-walk μ-walk
 sub-left c = omega (arith, c .loop-test .taken)
 
-address-bit-requires-2 : tie.Need-address-bit-requires-2 Inv-loop μ-loop Inv-walk μ-walk
-address-bit-requires-2 c κs = omega (arith, bit-left (c .before .loop .inv) (c .loop-test .taken), taken (c .before .before .before .before .before) .walking .width)
+bit-of-requires : tie.Need-bit-of-requires Inv-loop μ-loop Inv-walk μ-walk
+bit-of-requires c κs = omega (arith, c .before .loop .inv .short)
 
-operand-bit-requires : tie.Need-operand-bit-requires Inv-loop μ-loop Inv-walk μ-walk
-operand-bit-requires c κs = omega (arith, c .before .before .loop .inv .short)
+bit-of-requires-2 : tie.Need-bit-of-requires-2 Inv-loop μ-loop Inv-walk μ-walk
+bit-of-requires-2 c κs = omega (arith, c .before .before .loop .inv .short)
 
 add-used-2 : tie.Need-add-used-2 Inv-loop μ-loop Inv-walk μ-walk
-add-used-2 c = omega (arith, bit-left (c .before .before .before .before .loop .inv) (c .before .before .before .loop-test .taken), taken (c .before .before .before .before .before .before .before .before) .walking .narrow)
+add-used-2 c = omega (arith, bit-left (c .before .before .before .before .loop .inv) (c .before .before .before .loop-test .taken), taken (c .before .before .before .before .before .before .before .before .before) .walking .narrow)
 
 loop-less : tie.Need-loop-less Inv-loop μ-loop Inv-walk μ-walk
 loop-less c = omega (arith, c .before .before .before .loop-test .taken)
 
 loop-again : tie.Need-loop-again Inv-loop μ-loop Inv-walk μ-walk
-loop-again c = equal-goes (c .before .before .before .before .loop .inv) (c .before .before .before .loop-test .taken) (sym (c .before .before .address-bit2 .ensures) ∙ c .if3 .left ∙ c .before .operand-bit .ensures)
+loop-again c =
+    equal-goes (c .before .before .before .before .loop .inv) (c .before .before .before .loop-test .taken)
+    (sym (next (c .before .before .before)) ∙ sym (c .before .before .bit-of .ensures) ∙ c .if3 .left ∙ c .before .bit-of2 .ensures)
 
 walk-less-3 : tie.Need-walk-less-3 Inv-loop μ-loop Inv-walk μ-walk
 walk-less-3 c = let r = read (taken (c .before)) in omega (arith, r .start, r .near)
@@ -184,7 +296,7 @@ walk-again-3 : tie.Need-walk-again-3 Inv-loop μ-loop Inv-walk μ-walk
 walk-again-3 c = default-goes (taken (c .before)) (c .match3 .rest .0 .0 .1) (c .match3 .rest .0 .1) (c .match3 .rest .1)
 
 add-finish : tie.Need-add-finish Inv-loop μ-loop Inv-walk μ-walk
-add-finish c = omega (arith, bit-left (c .before .before .before .before .loop .inv) (c .before .before .before .loop-test .taken), taken (c .before .before .before .before .before .before .before .before) .walking .narrow)
+add-finish c = omega (arith, bit-left (c .before .before .before .before .loop .inv) (c .before .before .before .loop-test .taken), taken (c .before .before .before .before .before .before .before .before .before) .walking .narrow)
 
 finish-requires-2 : tie.Need-finish-requires-2 Inv-loop μ-loop Inv-walk μ-walk
 finish-requires-2 c κs = tt
@@ -193,8 +305,8 @@ returns-6 : tie.Need-returns-6 Inv-loop μ-loop Inv-walk μ-walk
 returns-6 c =
     let l = c .before .before .before .before .before .loop .inv in
     c .finish2 .ensures
-    ∙ match-differs (taken (c .before .before .before .before .before .before .before .before .before)) (c .before .before .before .before .before .before .before .before .match3 .keys3) (l .room) _
-    (different-ends l (c .before .before .before .before .loop-test .taken) (λ z. c .before .if3 .taken (c .before .before .before .address-bit2 .ensures ∙ z ∙ sym (c .before .before .operand-bit .ensures))))
+    ∙ match-differs (taken (c .before .before .before .before .before .before .before .before .before .before)) (c .before .before .before .before .before .before .before .before .before .match3 .keys3) (l .room) _
+    (different-ends l (c .before .before .before .before .loop-test .taken) (λ z. c .before .if3 .taken (c .before .before .before .bit-of .ensures ∙ next (c .before .before .before .before) ∙ z ∙ sym (c .before .before .bit-of2 .ensures))))
 
 pub walk-bits-spec : {M : Type 1} → statement M
 walk-bits-spec =
@@ -204,13 +316,16 @@ walk-bits-spec =
     μ-loop
     Inv-walk
     μ-walk
+    mul-end
     walk-holds
-    type-at-requires
+    window-requires
+    type-in-requires
     enum-known-first
     enum-told
     abort-requires
     returns
-    operand-at-requires
+    operand-window-requires
+    operand-in-requires
     enum-known-second
     enum-told-2
     abort-requires-2
@@ -229,12 +344,13 @@ walk-bits-spec =
     sub-if2
     abort-requires-4
     returns-5
+    address-bits-requires
     loop-holds
     walk-less-2
     walk-again-2
     sub-left
-    address-bit-requires-2
-    operand-bit-requires
+    bit-of-requires
+    bit-of-requires-2
     add-used-2
     loop-less
     loop-again
