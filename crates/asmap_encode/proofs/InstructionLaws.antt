@@ -6,14 +6,17 @@ use mathlib.Core.List.{List, [], _∷_, _++_}
 use Prim.Native.Nat.{ℕ, zero, suc, _+_, _^_, _≤_, _<_}
 use native.Mathlib.Omega.{arith}
 use lib.Dec.{lit<, lit≤}
-use lib.ListN.{length}
+use lib.ListN.{length, length-append}
 use Rattle.asmap_codes.specs.Bits.{word}
 use Rattle.asmap_codes.specs.Row.{typeRow, operandRow, inRange, span}
 use Rattle.asmap_codes.specs.Encode.{encodeOf, instructionBits}
 use Rattle.asmap_codes.proofs.RowLaws.{range-of}
 use Rattle.asmap_codes.proofs.Instructions.{instruction-length}
-use Rattle.asmap_encode.proofs.WordLaws.{puts-word}
+use Rattle.asmap_encode.proofs.PartsLaws.{both}
+use Rattle.asmap_encode.proofs.WordLaws.{puts-word, code-length}
 use Rattle.asmap_encode.specs.Write.{put, puts, none, pickWritten, writeAfter, writeCode, writeInstruction}
+use Rattle.asmap_encode.specs.Parts.{InRow, lengthWritten}
+use Rattle.asmap_encode.specs.declared.Parts.{Parts}
 use Rattle.asmap_encode.specs.declared.Word.{Word}
 use Rattle.asmap_encode.specs.declared.Written.the-variants.{Bits, Refused}
 
@@ -55,11 +58,25 @@ pub opcode-refused : (op v n : ℕ) → writeCode typeRow op ≡ Refused n → w
 unfolding writeInstruction
 opcode-refused op v n e = rw (refused-bits (inRange typeRow op) (puts none (encodeOf typeRow op)) n e)
 
--- ---- what was written, for those who put words one after the other
+-- ---- how many bits are written
 
-both : (a b : Bool) → (a && b) ≡ true → (a ≡ true) × (b ≡ true)
-both true b e = (refl, e)
-both false b e = let z : _≡_ {A = ℕ} 0 1 = cc in absurd (omega arith)
+module _ (op v : ℕ) where
+  pub length-both : (m : ℕ) (p : Parts) (n : ℕ) (q : Parts) → InRow typeRow op m p → InRow (operandRow op) v n q → m + p .size + n + q .size ≡ lengthWritten (writeInstruction op v)
+  unfolding writeInstruction instructionBits
+  length-both m p n q r s =
+      let w = puts-word none (encodeOf typeRow op ++ encodeOf (operandRow op) v) in
+      rw (r .ranged, s .ranged)
+      (omega (arith, w .1, length-append (encodeOf typeRow op) (encodeOf (operandRow op) v), code-length typeRow op m p r, code-length (operandRow op) v n q s))
+
+  pub length-no-opcode : inRange typeRow op ≡ false → 0 ≡ lengthWritten (writeInstruction op v)
+  unfolding writeInstruction
+  length-no-opcode e = rw e
+
+  pub length-no-operand : inRange typeRow op ≡ true → inRange (operandRow op) v ≡ false → 0 ≡ lengthWritten (writeInstruction op v)
+  unfolding writeInstruction
+  length-no-operand e f = rw (e, f)
+
+-- ---- what was written, for those who put words one after the other
 
 -- the instruction was in range, and the word is its bits: 5 to 57 of them
 pub record WordOf (op v : ℕ) (w : Word) : Type 0 where

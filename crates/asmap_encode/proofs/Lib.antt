@@ -1,3 +1,5 @@
+pub mod ReverseLaws
+pub mod PartsLaws
 pub mod WordLaws
 pub mod EncodeLaws
 pub mod InstructionLaws

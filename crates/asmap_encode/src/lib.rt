@@ -1,11 +1,12 @@
 // Writing codes and instructions (document 01, Codes): bits in a word, and one writer over the four rows of sizes.
 ghost use mathlib.Core.Path.{_≡_};
-ghost use Prim.Native.Nat.{_+_, _^_, _≤_, _<_};
+ghost use mathlib.Core.Bool.{true};
+ghost use Prim.Native.Nat.{_+_, _*_, _^_, _≤_, _<_};
 ghost use lib.ListN.{length};
-ghost use Rattle.asmap_codes.specs.Bits.{high};
-ghost use Rattle.asmap_codes.specs.Row.{typeRow, asnRow, matchRow, jumpRow, span};
-ghost use Rattle.asmap_codes.specs.Encode.{encode};
-ghost use Rattle.asmap_encode.specs.Write.{put, puts, writeAfter, writeCode, writeInstruction};
+ghost use Rattle.asmap_codes.specs.Bits.{high, word};
+ghost use Rattle.asmap_codes.specs.Row.{typeRow, asnRow, matchRow, jumpRow, operandRow, span};
+ghost use Rattle.asmap_encode.specs.Parts.{swap, stops, slow, GrownParts, CodeParts, Short, Shortened, CodedAs, after, writtenAs, lengthWritten};
+ghost use Rattle.asmap_encode.specs.Write.{writeCode, writeInstruction};
 use asmap_codes::ASN_BIT_SIZES;
 use asmap_codes::JUMP_BIT_SIZES;
 use asmap_codes::MATCH_BIT_SIZES;
@@ -17,102 +18,200 @@ pub struct Word {
     pub len: usize,
 }
 
+// The parts of a code: how many ones it starts with, the size that has its value, and the number in that size.
+pub struct Parts {
+    pub ones: usize,
+    pub size: u8,
+    pub rest: u32,
+}
+
+// What was found of a value in a row: how many bits stand before the size's own, and the parts of its code; or that the row does
+// not have it.
+pub enum Coded {
+    In(usize, Parts),
+    Out,
+}
+
 // What the writers hand back: the bits, or document 01's number.
 pub enum Written {
     Bits(Word),
     Refused(u8),
 }
 
-impl Word {
-    // One bit more.
-    fn push(self, bit: u32) -> Word
-        requires { ⌜ (self .bits < 2 ^ self .len) × (self .len < 63) × (bit < 2) ⌝ }
-        ensures { λ r. ⌜ (r ≡ put self bit) × (r .bits < 2 ^ r .len) ⌝ }
-    {
-        let len = self.len;
-        Word {
-            bits: self.bits + ((bit as u64) << len),
-            len: len + 1,
-        }
-    }
+// Swaps the neighbouring blocks of k bits of x. The mask has the lower block of each two.
+fn swapped(x: u32, k: u32, mask: u32) -> u32
+    requires { ⌜ (k < 32) × (mask + mask * 2 ^ k < 2 ^ 32) ⌝ }
+    ensures { λ r. ⌜ r ≡ swap k mask x ⌝ }
+{
+    ((x >> k) & mask) + ((x & mask) << k)
+}
 
-    // The lowest bits of a number, highest first.
-    fn push_high(self, x: u32, size: u8) -> Word
-        requires { ⌜ (self .bits < 2 ^ self .len) × (self .len + size < 63) × (size < 32) ⌝ }
-        ensures { λ r. ⌜ (r ≡ puts self (high size x)) × (r .bits < 2 ^ r .len) ⌝ }
-    {
-        let mut w = self;
-        let mut n = size;
-        while 0 < n {
-            n -= 1;
-            w = w.push((x >> n) % 2);
-        }
-        w
+// The 32 bits of a number in reverse: blocks of one bit are swapped, then of two, up to 16.
+fn reversed(x: u32) -> u32
+    ensures { λ r. ⌜ r ≡ word (high 32 x) ⌝ }
+{
+    let ones = swapped(x, 1, 0x55555555);
+    let twos = swapped(ones, 2, 0x33333333);
+    let fours = swapped(twos, 4, 0x0f0f0f0f);
+    let eights = swapped(fours, 8, 0x00ff00ff);
+    swapped(eights, 16, 0x0000ffff)
+}
+
+// The parts of the code of x over sizes from `first` on that grow by one: x + 2^first is as wide as the size that has x, and
+// one bit more.
+fn parts_grown(x: u32, first: u8) -> Parts
+    requires { ⌜ (first < 32) × (x + 2 ^ first < 2 ^ 32) ⌝ }
+    ensures { λ r. ⌜ GrownParts first x r ⌝ }
+{
+    let y = x + asmap_codes::power(first);
+    let size = (asmap_program::bit_width(y) - 1) as u8;
+    Parts {
+        ones: (size - first) as usize,
+        size,
+        rest: y - asmap_codes::power(size),
     }
 }
 
-// The code of x, a value less its row's least, after the bits of a word. An opcode has at most 3 bits, a row at most 26
-// sizes, each at most 31: all fit the word.
-fn encode_bits(before: Word, x: u32, sizes: &[u8]) -> Word
-    requires { ⌜ (before .bits < 2 ^ before .len) × (before .len ≤ 3) × (0 < length (now sizes)) × (span (now sizes) ≤ 2 ^ 31) × (length (now sizes) ≤ 26) ⌝ }
-    ensures { λ r. ⌜ r ≡ puts before (encode (now (sizes .entry)) x) ⌝ }
+// The parts of the code of x, size by size.
+fn parts_looked_up(x: u32, sizes: &[u8]) -> Parts
+    requires { ⌜ (0 < length (now sizes)) × (span (now sizes) ≤ 2 ^ 31) × (x < span (now sizes)) ⌝ }
+    ensures { λ r. ⌜ CodeParts (now (sizes .entry)) x r ⌝ }
 {
     let mut rest = x;
-    let mut w = before;
     let mut i: usize = 0;
     while i + 1 < sizes.len() {
         let size = sizes[i];
         let step = asmap_codes::power(size);
         if rest < step {
-            let stopped = w.push(0);
-            return stopped.push_high(rest, size);
+            return Parts {
+                ones: i,
+                size,
+                rest,
+            };
         }
         rest -= step;
-        w = w.push(1);
         i += 1;
     }
     let last = sizes[i];
-    w.push_high(rest, last)
+    Parts {
+        ones: i,
+        size: last,
+        rest,
+    }
 }
 
-// A code of a row of sizes over a least value, of which there are `count` values, after the bits of a word. A value that the
-// row does not have is 15: below the least, or from least + count on.
-fn encode_row(before: Word, value: u32, least: u32, count: u32, sizes: &[u8]) -> Written
-    requires { ⌜ (before .bits < 2 ^ before .len) × (before .len ≤ 3) × (0 < length (now sizes)) × (span (now sizes) ≤ 2 ^ 31) × (length (now sizes) ≤ 26) × (count ≡ span (now sizes)) ⌝ }
-    ensures { λ r. ⌜ r ≡ writeAfter before (record { least = least; sizes = now (sizes .entry) }) value ⌝ }
+// The parts of the code of x, a value less its row's least. No size is more than one above the size before it: where the last
+// is as far above the first as the row is long, all sizes grow by one, and the bit width tells the size.
+fn parts_of(x: u32, sizes: &[u8]) -> Parts
+    requires { ⌜ (0 < length (now sizes)) × (span (now sizes) ≤ 2 ^ 31) × (x < span (now sizes)) × (slow (now sizes) ≡ true) ⌝ }
+    ensures { λ r. ⌜ CodeParts (now (sizes .entry)) x r ⌝ }
+{
+    let first = sizes[0];
+    let top = sizes.len() - 1;
+    let last = sizes[top];
+    if last as usize == first as usize + top {
+        return parts_grown(x, first);
+    }
+    parts_looked_up(x, sizes)
+}
+
+// How many bits stand before the size's own: a one for each size that is passed, and the zero that stops at a size, which the
+// last one does not have.
+fn prefix_length(ones: usize, sizes: usize) -> usize
+    requires { ⌜ ones < 32 ⌝ }
+    ensures { λ r. ⌜ r ≡ ones + stops ones sizes ⌝ }
+{
+    if ones + 1 < sizes {
+        return ones + 1;
+    }
+    ones
+}
+
+// The parts of a value's code in a row of sizes over a least value, of which there are `count` values. A value that the row does
+// not have has none: below the least, or from least + count on.
+fn row_parts(value: u32, least: u32, count: u32, sizes: &[u8]) -> Coded
+    requires { ⌜ (0 < length (now sizes)) × (span (now sizes) ≤ 2 ^ 31) × (length (now sizes) ≤ 26) × (count ≡ span (now sizes)) × (slow (now sizes) ≡ true) ⌝ }
+    ensures { λ r. ⌜ CodedAs (record { least = least; sizes = now (sizes .entry) }) value r ⌝ }
 {
     if value < least {
-        return Written::Refused(15);
+        return Coded::Out;
     }
     let x = value - least;
     if x < count {
-        return Written::Bits(encode_bits(before, x, sizes));
+        let parts = parts_of(x, sizes);
+        let prefix = prefix_length(parts.ones, sizes.len());
+        return Coded::In(prefix, parts);
     }
-    Written::Refused(15)
+    Coded::Out
 }
 
-// An AS number's code after the bits of a word.
-fn asn_after(before: Word, value: u32) -> Written
-    requires { ⌜ (before .bits < 2 ^ before .len) × (before .len ≤ 3) ⌝ }
-    ensures { λ r. ⌜ r ≡ writeAfter before asnRow value ⌝ }
+// The parts of an opcode's code.
+fn type_parts(value: u32) -> Coded
+    ensures { λ r. ⌜ CodedAs typeRow value r ⌝ }
 {
-    encode_row(before, value, 1, 33521664, &ASN_BIT_SIZES)
+    row_parts(value, 0, 4, &TYPE_BIT_SIZES)
 }
 
-// A MATCH operand's code after the bits of a word.
-fn match_after(before: Word, value: u32) -> Written
-    requires { ⌜ (before .bits < 2 ^ before .len) × (before .len ≤ 3) ⌝ }
-    ensures { λ r. ⌜ r ≡ writeAfter before matchRow value ⌝ }
+// The parts of an AS number's code.
+fn asn_parts(value: u32) -> Coded
+    ensures { λ r. ⌜ CodedAs asnRow value r ⌝ }
 {
-    encode_row(before, value, 2, 510, &MATCH_BIT_SIZES)
+    row_parts(value, 1, 33521664, &ASN_BIT_SIZES)
 }
 
-// A JUMP operand's code after the bits of a word.
-fn jump_after(before: Word, value: u32) -> Written
-    requires { ⌜ (before .bits < 2 ^ before .len) × (before .len ≤ 3) ⌝ }
-    ensures { λ r. ⌜ r ≡ writeAfter before jumpRow value ⌝ }
+// The parts of a MATCH operand's code.
+fn match_parts(value: u32) -> Coded
+    ensures { λ r. ⌜ CodedAs matchRow value r ⌝ }
 {
-    encode_row(before, value, 17, 2147483616, &JUMP_BIT_SIZES)
+    row_parts(value, 2, 510, &MATCH_BIT_SIZES)
+}
+
+// The parts of a JUMP operand's code.
+fn jump_parts(value: u32) -> Coded
+    ensures { λ r. ⌜ CodedAs jumpRow value r ⌝ }
+{
+    row_parts(value, 17, 2147483616, &JUMP_BIT_SIZES)
+}
+
+// The parts of an operand's code, in the row of its opcode.
+fn operand_parts(opcode: u32, operand: u32) -> Coded
+    ensures { λ r. ⌜ CodedAs (operandRow opcode) operand r ⌝ }
+{
+    if opcode == asmap_program::JUMP {
+        return jump_parts(operand);
+    }
+    if opcode == asmap_program::MATCH {
+        return match_parts(operand);
+    }
+    asn_parts(operand)
+}
+
+// A code by its parts, after the bits of a word. An opcode has at most 3 bits, a row at most 26 sizes, each at most 31: all fit
+// the word.
+fn encode_bits(before: Word, prefix: usize, parts: Parts) -> Word
+    requires { ⌜ (before .bits < 2 ^ before .len) × (before .len ≤ 3) × Short prefix parts ⌝ }
+    ensures { λ r. ⌜ r ≡ after before prefix parts ⌝ }
+{
+    let ones = parts.ones;
+    let size = parts.size;
+    let mantissa = reversed(parts.rest) as u64 >> (32 - size);
+    let code = ((1u64 << ones) - 1) + (mantissa << prefix);
+    let len = before.len;
+    Word {
+        bits: before.bits + (code << len),
+        len: len + prefix + size as usize,
+    }
+}
+
+// The bits of what was found of a value, after the bits of a word; 15 where the row does not have it.
+fn write(before: Word, coded: Coded) -> Written
+    requires { ⌜ (before .bits < 2 ^ before .len) × (before .len ≤ 3) × Shortened coded ⌝ }
+    ensures { λ r. ⌜ r ≡ writtenAs before coded ⌝ }
+{
+    match coded {
+        Coded::In(prefix, parts) => Written::Bits(encode_bits(before, prefix, parts)),
+        Coded::Out => Written::Refused(15),
+    }
 }
 
 // ---- the public calls: 15 for a value out of its row's range
@@ -121,28 +220,28 @@ fn jump_after(before: Word, value: u32) -> Written
 pub fn encode_type(value: u32) -> Written
     ensures { λ r. ⌜ r ≡ writeCode typeRow value ⌝ }
 {
-    encode_row(Word { bits: 0, len: 0 }, value, 0, 4, &TYPE_BIT_SIZES)
+    write(Word { bits: 0, len: 0 }, type_parts(value))
 }
 
 // Writes an AS number. Refusal 15; nothing is asked of the caller.
 pub fn encode_asn(value: u32) -> Written
     ensures { λ r. ⌜ r ≡ writeCode asnRow value ⌝ }
 {
-    asn_after(Word { bits: 0, len: 0 }, value)
+    write(Word { bits: 0, len: 0 }, asn_parts(value))
 }
 
 // Writes a MATCH operand. Refusal 15; nothing is asked of the caller.
 pub fn encode_match(value: u32) -> Written
     ensures { λ r. ⌜ r ≡ writeCode matchRow value ⌝ }
 {
-    match_after(Word { bits: 0, len: 0 }, value)
+    write(Word { bits: 0, len: 0 }, match_parts(value))
 }
 
 // Writes a JUMP operand. Refusal 15; nothing is asked of the caller.
 pub fn encode_jump(value: u32) -> Written
     ensures { λ r. ⌜ r ≡ writeCode jumpRow value ⌝ }
 {
-    jump_after(Word { bits: 0, len: 0 }, value)
+    write(Word { bits: 0, len: 0 }, jump_parts(value))
 }
 
 // Writes an instruction: its opcode's code, then its operand's. Refusal 15 for either; nothing is asked of the caller. The
@@ -154,11 +253,20 @@ pub fn encode_instruction(opcode: u32, operand: u32) -> Written
     let Written::Bits(code) = first else {
         return Written::Refused(15);
     };
-    if opcode == asmap_program::JUMP {
-        return jump_after(code, operand);
-    }
-    if opcode == asmap_program::MATCH {
-        return match_after(code, operand);
-    }
-    asn_after(code, operand)
+    write(code, operand_parts(opcode, operand))
+}
+
+// How many bits are written for an instruction; 0 for one that is refused. Nothing is asked of the caller.
+pub fn instruction_length(opcode: u32, operand: u32) -> usize
+    ensures { λ r. ⌜ r ≡ lengthWritten (writeInstruction opcode operand) ⌝ }
+{
+    let first = type_parts(opcode);
+    let Coded::In(prefix, parts) = first else {
+        return 0;
+    };
+    let second = operand_parts(opcode, operand);
+    let Coded::In(next_prefix, next) = second else {
+        return 0;
+    };
+    prefix + parts.size as usize + next_prefix + next.size as usize
 }

@@ -9,7 +9,6 @@ use lib.ListN.{length, getD, drop, length-append}
 use lib.Seq.{drop-drop, getD-drop}
 use Rattle.asmap_codes.specs.Row.{typeRow, operandRow, inRange}
 use Rattle.asmap_codes.specs.Encode.{instructionBits}
-use Rattle.asmap_encode.specs.declared.Word.{Word}
 use Rattle.asmap_records.specs.Record.{number4, zeros3}
 use Rattle.asmap_records.specs.Output.{Result, Made, No, on}
 use Rattle.asmap_records.specs.Pack.{fieldBits, recordBits, recordsBits}
@@ -17,7 +16,7 @@ use Rattle.asmap_records.proofs.RecordLaws.{number4-drop, first-zeros, first-wr
 use Rattle.asmap_records.proofs.PackLaws.{field-range, field-wrong, field-long, field-made, wrong-zeros, wrong-place, wrong-size, all-right, record-at, record-right}
 use Rattle.asmap_pack.specs.Stream.{sizeFrom}
 use Rattle.asmap_pack.specs.declared.Size.the-variants.{Ends, Wrong}
-use Rattle.asmap_pack.proofs.WrittenLaws.{Holding}
+use Rattle.asmap_pack.proofs.WrittenLaws.{Measured}
 
 -- what was made where an end came out
 pub ends-made : (at e : ℕ) (r : Result) → sizeFrom at r ≡ Ends e → (bs : List ℕ) × (r ≡ Made bs) × (e ≡ at + length bs)
@@ -68,7 +67,7 @@ module _ (l : List ℕ) (from at : ℕ) where
   pub end-range : (inRange typeRow op && inRange (operandRow op) v) ≡ false → Wrong 15 ≡ sizeFrom at (recordBits (drop from l) at)
   end-range h = ends-as (No 15) (field-range op zeros v place size at h)
 
-  module _ (u : Word) (h : Holding op v u) where
+  module _ (bits : ℕ) (h : Measured op v bits) where
     pub end-zeros : (number4 l from ≡ op → ⊥) → Wrong 16 ≡ sizeFrom at (recordBits (drop from l) at)
     end-zeros n =
         let f = first-four in
@@ -79,18 +78,18 @@ module _ (l : List ℕ) (from at : ℕ) where
       pub end-place : (place ≡ at → ⊥) → Wrong 16 ≡ sizeFrom at (recordBits (drop from l) at)
       end-place n = ends-as (No 16) (field-wrong op zeros v place size at (h .ranged) (wrong-place op zeros v place size at (blank z) n))
 
-      pub end-size : place ≡ at → (size ≡ u .len → ⊥) → Wrong 16 ≡ sizeFrom at (recordBits (drop from l) at)
+      pub end-size : place ≡ at → (size ≡ bits → ⊥) → Wrong 16 ≡ sizeFrom at (recordBits (drop from l) at)
       end-size p n =
           ends-as (No 16) (field-wrong op zeros v place size at (h .ranged)
           (wrong-size op zeros v place size at (blank z) p (λ k. n (k ∙ sym (h .len)))))
 
-      right : place ≡ at → size ≡ u .len → (zeros && eqb place at && eqb size (length (instructionBits op v))) ≡ true
+      right : place ≡ at → size ≡ bits → (zeros && eqb place at && eqb size (length (instructionBits op v))) ≡ true
       right p q = all-right op zeros v place size at (blank z) p (q ∙ h .len)
 
-      pub end-long : place ≡ at → size ≡ u .len → 134217728 < at + u .len → Wrong 1 ≡ sizeFrom at (recordBits (drop from l) at)
+      pub end-long : place ≡ at → size ≡ bits → 134217728 < at + bits → Wrong 1 ≡ sizeFrom at (recordBits (drop from l) at)
       end-long p q k = ends-as (No 1) (field-long op zeros v place size at (h .ranged) (right p q) (omega (arith, h .len)))
 
-      pub end-made : place ≡ at → size ≡ u .len → at + u .len ≤ 134217728 → Ends (at + u .len) ≡ sizeFrom at (recordBits (drop from l) at)
+      pub end-made : place ≡ at → size ≡ bits → at + bits ≤ 134217728 → Ends (at + bits) ≡ sizeFrom at (recordBits (drop from l) at)
       end-made p q k =
           ap (λ (n : ℕ). Ends (at + n)) (h .len)
           ∙ ends-as (Made (instructionBits op v)) (field-made op zeros v place size at (h .ranged) (right p q) (omega (arith, h .len)))

@@ -27,7 +27,7 @@ pub record Writing (rs out₀ out : List ℕ) (from : ℕ) (w : Window) : Type 0
   pub made : recordsBits ((length rs - from) / 16) (drop from rs) (8 * w .place + w .held) ≡ Made rest
   pub fits : 8 * w .place + w .held + length rest ≤ 8 * length out
   pub small : w .bits < 2 ^ w .held
-  pub short : w .held < 8
+  pub short : w .held < 64
   pub kept : length out ≡ length out₀
   pub onward : sets out₀ 0 (bytesOf (bitsIn (recordsBits (length rs / 16) rs 0))) ≡ stream out w rest
 
@@ -77,7 +77,7 @@ writing-turn rs out₀ out from w h g l t =
 
 module _ (rs out₀ out : List ℕ) (from : ℕ) (w : Window) (op v : ℕ) (t : Turn rs out₀ out from w op v) where
   -- the record's word has room
-  pub writing-room : (u : Word) → Holding op v u → 8 * w .place + w .held + u .len < 8 * length out + 8
+  pub writing-room : (u : Word) → Holding op v u → 8 * w .place + w .held + u .len ≤ 8 * length out
   writing-room u h = omega (arith, h .len, t .fits)
 
   -- and when it was pushed, the rest is still to come

@@ -8,7 +8,7 @@ ghost use Rattle.asmap_records.specs.Bytes.{bytesOf};
 ghost use Rattle.asmap_records.specs.Record.{number4};
 ghost use Rattle.asmap_records.specs.Output.{Made, Hands};
 ghost use Rattle.asmap_records.specs.Pack.{recordBits, recordsBits, packOf};
-ghost use Rattle.asmap_pack.specs.Stream.{sizeFrom, bitsIn, Moved};
+ghost use Rattle.asmap_pack.specs.Stream.{sizeFrom, bitsIn, putBytes, Moved};
 use asmap_encode::Word;
 use asmap_encode::Written;
 use asmap_program::MAX_MAP_BYTES;
@@ -20,7 +20,7 @@ pub enum Size {
     Wrong(u8),
 }
 
-// The bits that are not yet a whole byte, the first lowest, and the place of the byte that they will be.
+// The bits that are not yet written, fewer than 64, the first lowest, and the place of their first byte.
 pub struct Window {
     pub bits: u64,
     pub held: usize,
@@ -50,18 +50,18 @@ fn record_end(records: &[u8], from: usize, at: usize) -> Size
 {
     let opcode = records[from] as u32;
     let operand = number(records, from + 4);
-    let written = asmap_encode::encode_instruction(opcode, operand);
-    let Written::Bits(word) = written else {
+    let len = asmap_encode::instruction_length(opcode, operand);
+    if len == 0 {
         return Size::Wrong(15);
-    };
-    let end = at + word.len;
+    }
+    let end = at + len;
     if number(records, from) != opcode {
         return Size::Wrong(16);
     }
     if number(records, from + 8) as usize != at {
         return Size::Wrong(16);
     }
-    if number(records, from + 12) as usize != word.len {
+    if number(records, from + 12) as usize != len {
         return Size::Wrong(16);
     }
     if 8 * MAX_MAP_BYTES < end {
@@ -91,23 +91,43 @@ fn records_end(records: &[u8]) -> Size
     Size::Ends(at)
 }
 
-// A word's bits put above the window's; each whole byte goes out.
+// So many bytes of a number go out from a place on, the lowest first.
+fn put_bytes(out: &mut [u8], from: usize, number: u64, count: usize)
+    requires { ⌜ from + count ≤ length (now out) ⌝ }
+    ensures { λ r. ⌜ now (out .exit) ≡ putBytes count (now (out .entry)) from number ⌝ }
+{
+    let mut place = from;
+    let mut bits = number;
+    let mut left = count;
+    while 0 < left {
+        out[place] = (bits % 256) as u8;
+        bits /= 256;
+        place += 1;
+        left -= 1;
+    }
+}
+
+// A word's bits put above the window's. Where they fill the window, its eight bytes go out, and the bits that it had no room
+// for are the next window's.
 fn push_word(out: &mut [u8], window: Window, word: Word) -> Window
-    requires { ⌜ (window .bits < 2 ^ window .held) × (window .held < 8) × (word .bits < 2 ^ word .len) × (word .len ≤ 57)
-        × (8 * window .place + window .held + word .len < 8 * length (now out) + 8) ⌝ }
+    requires { ⌜ (window .bits < 2 ^ window .held) × (window .held < 64) × (word .bits < 2 ^ word .len) × (word .len ≤ 57)
+        × (8 * window .place + window .held + word .len ≤ 8 * length (now out)) ⌝ }
     ensures { λ r. ⌜ Moved (now (out .entry)) window word (now (out .exit)) r ⌝ }
 {
     let start = window.held;
-    let mut bits = window.bits + (word.bits << start);
-    let mut held = start + word.len;
-    let mut place = window.place;
-    while 8 <= held {
-        out[place] = (bits % 256) as u8;
-        bits /= 256;
-        held -= 8;
-        place += 1;
+    let place = window.place;
+    let bits = window.bits + (word.bits << start);
+    let held = start + word.len;
+    if held < 64 {
+        return Window { bits, held, place };
     }
-    Window { bits, held, place }
+    put_bytes(out, place, bits, 8);
+    let above = word.bits >> (64 - start);
+    Window {
+        bits: above,
+        held: held - 64,
+        place: place + 8,
+    }
 }
 
 // The records' bits as bytes, the last padded with zeros. The records were found right and the output long enough.
@@ -133,13 +153,15 @@ fn write_records(records: &[u8], out: &mut [u8])
         from += 16;
     }
     let held = window.held;
-    let free = 8 - held;
+    let free = 8 - held % 8;
     let zeros: u64 = 0;
     let padding = Word {
         bits: zeros,
         len: free % 8,
     };
-    push_word(out, window, padding);
+    let padded = push_word(out, window, padding);
+    let whole = padded.held / 8;
+    put_bytes(out, padded.place, padded.bits, whole);
 }
 
 // Packs records. Refusals 16, 15, 1 and 14; a refused call writes nothing: all records are read before the first byte goes out.

@@ -1,121 +1,117 @@
--- `encode_bits` meets its contract: the bits that are left are put after those that were put.
+-- `encode_bits` meets its contract: what it computes of the parts is the code's number, and its bits and the word's fit 64.
 -- Assumes nothing.
-use mathlib.Core.Path.{_≡_, _∙_, refl, sym, ap}
-use Prim.Native.Nat.{_+_, _-_, _^_, _≤_, _<_}
+use borrow.Author.Needs.{needs}
+use mathlib.Core.Path.{_≡_, _∙_, ap, ap₂}
+use Prim.Native.Nat.{ℕ, _+_, _-_, _*_, _/_, _%_, _^_, _≤_, _<_}
+use native.Mathlib.Nat.{one-mul}
 use native.Mathlib.Omega.{arith}
-use lib.ListN.{length, drop, getD}
-use Rattle.asmap_encode.specs.declared.Word.{Word}
-use Rattle.asmap_codes.specs.Bits.{high}
-use Rattle.asmap_codes.specs.Row.{span}
-use Rattle.asmap_codes.specs.Encode.{encode}
-use Rattle.asmap_encode.specs.Write.{puts}
-use Rattle.asmap_codes.proofs.CodeLaws.{span-drop, size-small}
-use Rattle.asmap_encode.proofs.EncodeLaws.{encode-more, encode-stop, encode-last}
+use lib.Dec.{lit<}
+use lib.Pow.{pow-pos, pow-mono, shl-exact}
+use Rattle.asmap_encode.specs.Parts.{Short, numberOf}
+use Rattle.asmap_encode.specs.declared.Parts.{Parts}
+use Rattle.asmap_encode.proofs.ReverseLaws.{rev, rev-lt, rev-small}
+use Rattle.asmap_encode.proofs.WordLaws.{shifted, window-fits, number-lt}
 use Rattle.asmap_encode.proofs.encode_bits.Statement.{statement}
 use Rattle.asmap_encode.proofs.encode_bits.Tie as tie
 
-abbrev Inv-loop : tie.InvT-loop
-Inv-loop x sizes rest₀ w₀ i₀ rest w i =
-    (i < length sizes)
-    × (span (drop i sizes) ≤ 2 ^ 31)
-    × (w .bits < 2 ^ w .len)
-    × (w .len ≡ w₀ .len + i)
-    × (puts w₀ (encode sizes x) ≡ puts w (encode (drop i sizes) rest))
+module _ (pre : ℕ) (p : Parts) (h : Short pre p) where
+  ones-shifted : 1 * 2 ^ p .ones % 2 ^ 64 ≡ 2 ^ p .ones
+  ones-shifted = shl-exact 1 (p .ones) 64 (lit< tt) (omega (arith, h .ones, h .prefix)) ∙ one-mul (2 ^ p .ones)
 
-abbrev μ-loop : tie.MeasureT-loop
-μ-loop x sizes rest₀ w₀ i₀ rest w i = length sizes - i
+  mantissa : (R : ℕ) → R ≡ rev 32 (p .rest) → R / 2 ^ (32 - p .size) ≡ rev (p .size) (p .rest)
+  mantissa R r =
+      let e : 32 ≡ 32 - p .size + p .size = omega (arith, h .size) in
+      ap (λ (i : ℕ). i / 2 ^ (32 - p .size)) (r ∙ ap (λ (i : ℕ). rev i (p .rest)) e) ∙ rev-small (32 - p .size) (p .size) (p .rest) (h .small)
 
-loop-holds : tie.Need-loop-holds Inv-loop μ-loop
-loop-holds c = (omega arith, omega arith, c .before .pre .0, omega arith, refl)
+  computed : (R : ℕ) → R ≡ rev 32 (p .rest) → 1 * 2 ^ p .ones % 2 ^ 64 - 1 + R / 2 ^ (32 - p .size) * 2 ^ pre % 2 ^ 64 ≡ numberOf pre p
+  computed R r =
+      ap₂ (λ (i j : ℕ). i - 1 + j * 2 ^ pre % 2 ^ 64) ones-shifted (mantissa R r)
+      ∙ ap (λ (i : ℕ). 2 ^ p .ones - 1 + i) (shifted (rev (p .size) (p .rest)) (p .size) pre (rev-lt (p .size) (p .rest)) (omega (arith, h .prefix, h .size)))
 
-add-loop : tie.Need-add-loop Inv-loop μ-loop
-add-loop c = omega arith
+  number-fits : numberOf pre p < 2 ^ 64
+  number-fits = omega (arith, number-lt pre p (h .ones), pow-mono {i = pre + p .size} {j = 64} (omega (arith, h .prefix, h .size)))
 
-shared-slice-read-size : tie.Need-shared-slice-read-size Inv-loop μ-loop
-shared-slice-read-size c = omega arith
+  -- after the n bits of a word
+  module _ (n : ℕ) (l : n ≤ 3) where
+    above : numberOf pre p * 2 ^ n % 2 ^ 64 ≡ numberOf pre p * 2 ^ n
+    above = shifted (numberOf pre p) (pre + p .size) n (number-lt pre p (h .ones)) (omega (arith, h .prefix, h .size))
 
-power-requires : tie.Need-power-requires Inv-loop μ-loop
-power-requires c κs =
-    let l = c .before .before .loop in
-    let ss = c .before .before .before .before .args .sizes .now in
-    let z = size-small ss (l .i) (l .inv .0) (l .inv .1) in
-    omega arith
+    word-fits : (w : ℕ) → w < 2 ^ n → w + numberOf pre p * 2 ^ n < 2 ^ 64
+    word-fits w k = window-fits w n (numberOf pre p) (pre + p .size) k (number-lt pre p (h .ones)) (omega (arith, h .prefix, h .size))
 
-push-requires : tie.Need-push-requires Inv-loop μ-loop
-push-requires c κs = (c .before .before .before .before .loop .inv .2, omega arith, omega arith)
+-- what the function has computed when the bits are reversed
+known : (c : tie.After-reversed) → 1 * 2 ^ c .before .args .parts .ones % 2 ^ 64 - 1 + c .reversed .result / 2 ^ (32 - c .before .args .parts .size) * 2 ^ c .before .args .prefix % 2 ^ 64 ≡ numberOf (c .before .args .prefix) (c .before .args .parts)
+known c = computed (c .before .args .prefix) (c .before .args .parts) (c .before .pre .2) (c .reversed .result) (c .reversed .ensures)
 
-push-high-requires : tie.Need-push-high-requires Inv-loop μ-loop
-push-high-requires c κs =
-    let l = c .before .before .before .before .before .loop in
-    let ss = c .before .before .before .before .before .before .before .args .sizes .now in
-    let z = size-small ss (l .i) (l .inv .0) (l .inv .1) in
-    (c .push .ensures .1, omega (arith, ap (λ (u : Word). u .len) (c .push .ensures .0)), omega arith)
+reversed-requires : tie.Need-reversed-requires
+reversed-requires c κs = search needs
 
-returns : tie.Need-returns Inv-loop μ-loop
+cast-mantissa : tie.Need-cast-mantissa
+cast-mantissa c = search needs
+
+sub-mantissa : tie.Need-sub-mantissa
+sub-mantissa c = omega (arith, c .before .pre .2 .size)
+
+cast-mantissa-2 : tie.Need-cast-mantissa-2
+cast-mantissa-2 c = search needs
+
+shr-mantissa : tie.Need-shr-mantissa
+shr-mantissa c = omega arith
+
+shl-code : tie.Need-shl-code
+shl-code c = omega (arith, c .before .pre .2 .ones, c .before .pre .2 .prefix)
+
+sub-code : tie.Need-sub-code
+sub-code c = omega (arith, ones-shifted (c .before .args .prefix) (c .before .args .parts) (c .before .pre .2), pow-pos (c .before .args .parts .ones))
+
+shl-code-2 : tie.Need-shl-code-2
+shl-code-2 c = omega (arith, c .before .pre .2 .prefix)
+
+add-code : tie.Need-add-code
+add-code c = record { fits = rw (known c) (number-fits (c .before .args .prefix) (c .before .args .parts) (c .before .pre .2)) }
+
+shl-t15 : tie.Need-shl-t15
+shl-t15 c = omega arith
+
+add-t14 : tie.Need-add-t14
+add-t14 c =
+    let a = c .before .before .args in
+    let p = c .before .before .pre in
+    record { fits = rw (known (c .before), above (a .prefix) (a .parts) (p .2) (a .before .len) (p .1)) (word-fits (a .prefix) (a .parts) (p .2) (a .before .len) (p .1) (a .before .bits) (p .0)) }
+
+add-t16 : tie.Need-add-t16
+add-t16 c = omega (arith, c .before .before .pre .2 .prefix)
+
+cast-t17 : tie.Need-cast-t17
+cast-t17 c = search needs
+
+add-t18 : tie.Need-add-t18
+add-t18 c = omega (arith, c .before .before .pre .2 .prefix, c .before .before .pre .2 .size)
+
+returns : tie.Need-returns
 returns c =
-    let l = c .before .before .before .before .before .before .loop in
-    let ss = c .before .before .before .before .before .before .before .before .args .sizes .now in
-    let e = encode-stop ss (l .rest) (l .i) (omega arith) (omega arith) in
-    c .push-high .ensures .0
-    ∙ ap (λ (u : Word). puts u (high (getD ss (l .i) 0) (l .rest))) (c .before .push .ensures .0)
-    ∙ sym (l .inv .4 ∙ ap (puts (l .w)) e)
-
-push-requires-2 : tie.Need-push-requires-2 Inv-loop μ-loop
-push-requires-2 c κs = (c .before .before .before .before .loop .inv .2, omega arith, omega arith)
-
-add-i : tie.Need-add-i Inv-loop μ-loop
-add-i c = omega arith
-
-loop-less : tie.Need-loop-less Inv-loop μ-loop
-loop-less c = omega arith
-
-loop-again : tie.Need-loop-again Inv-loop μ-loop
-loop-again c =
-    let l = c .before .before .before .before .before .loop in
-    let ss = c .before .before .before .before .before .before .before .args .sizes .now in
-    let p = c .before .before .power .ensures in
-    let d = span-drop ss (l .i) (l .inv .0) in
-    let e = encode-more ss (l .rest) (l .i) (omega arith) (omega arith) in (
-      omega arith,
-      omega (arith, l .inv .1, d),
-      c .push2 .ensures .1,
-      omega (arith, ap (λ (u : Word). u .len) (c .push2 .ensures .0)),
-      rw (c .push2 .ensures .0, p) (l .inv .4 ∙ ap (puts (l .w)) e),
-    )
-
-shared-slice-read-last : tie.Need-shared-slice-read-last Inv-loop μ-loop
-shared-slice-read-last c = omega arith
-
-push-high-requires-2 : tie.Need-push-high-requires-2 Inv-loop μ-loop
-push-high-requires-2 c κs =
-    let l = c .before .before .loop in
-    let ss = c .before .before .before .before .args .sizes .now in
-    let z = size-small ss (l .i) (l .inv .0) (l .inv .1) in
-    (l .inv .2, omega arith, omega arith)
-
-returns-2 : tie.Need-returns-2 Inv-loop μ-loop
-returns-2 c =
-    let l = c .before .before .before .loop in
-    let ss = c .before .before .before .before .before .args .sizes .now in
-    c .push-high2 .ensures .0 ∙ sym (l .inv .4 ∙ ap (puts (l .w)) (encode-last ss (l .rest) (l .i) (omega arith)))
+    let a = c .before .before .args in
+    let p = c .before .before .pre in
+    ap (λ (i : ℕ). record { bits = i; len = a .before .len + a .prefix + a .parts .size })
+    (ap (λ (i : ℕ). a .before .bits + i * 2 ^ a .before .len % 2 ^ 64) (known (c .before))
+    ∙ ap (λ (i : ℕ). a .before .bits + i) (above (a .prefix) (a .parts) (p .2) (a .before .len) (p .1)))
 
 pub encode-bits-spec : {M : Type 1} → statement M
 encode-bits-spec =
     tie.close
     (tie.spec
-    Inv-loop
-    μ-loop
-    loop-holds
-    add-loop
-    shared-slice-read-size
-    power-requires
-    push-requires
-    push-high-requires
-    returns
-    push-requires-2
-    add-i
-    loop-less
-    loop-again
-    shared-slice-read-last
-    push-high-requires-2
-    returns-2)
+    reversed-requires
+    cast-mantissa
+    sub-mantissa
+    cast-mantissa-2
+    shr-mantissa
+    shl-code
+    sub-code
+    shl-code-2
+    add-code
+    shl-t15
+    add-t14
+    add-t16
+    cast-t17
+    add-t18
+    returns)

@@ -8,7 +8,7 @@ use lib.ListN.{length, getD}
 use lib.Pow.{pow-pos}
 use Rattle.asmap_encode.specs.Write.{writeInstruction}
 use Rattle.asmap_records.specs.Record.{number4}
-use Rattle.asmap_pack.proofs.WindowLaws.{stream-padded}
+use Rattle.asmap_pack.proofs.WindowLaws.{stream-padded, length-put}
 use Rattle.asmap_pack.proofs.WriteLaws.{Writing, writing-start, Turn, writing-turn, writing-room, writing-on, writing-never, stream-over, room-over}
 use Rattle.asmap_pack.proofs.WrittenLaws.{Holding, written-some, written-none}
 use Rattle.asmap_pack.proofs.write_records.Statement.{statement}
@@ -100,7 +100,7 @@ loop-again c =
     )
 
 sub-free : tie.Need-sub-free Inv-loop μ-loop
-sub-free c = omega (arith, c .before .loop .inv .2 .short)
+sub-free c = omega arith
 
 push-word-requires-2 : tie.Need-push-word-requires-2 Inv-loop μ-loop
 push-word-requires-2 c κs =
@@ -108,18 +108,30 @@ push-word-requires-2 c κs =
     let a = c .before .before .before .before .before .args in
     let w = l .inv .2 in
     let r = room-over (a .records .now) (a .out .now) (l .out) (l .from) (l .window) w (omega arith) in
-    (w .small, w .short, pow-pos ((8 - l .window .held) % 8), omega arith, omega (arith, r, w .short))
+    (w .small, w .short, pow-pos ((8 - l .window .held % 8) % 8), omega arith, omega (arith, r))
+
+put-bytes-requires : tie.Need-put-bytes-requires Inv-loop μ-loop
+put-bytes-requires c κs =
+    let l = c .before .before .before .before .before .before .before .loop in
+    let a = c .before .before .before .before .before .before .before .before .before .before .args in
+    let m = c .before .before .before .before .push-word2 .ensures in
+    let r = room-over (a .records .now) (a .out .now) (l .out) (l .from) (l .window) (l .inv .2) (c .before .before .before .before .before .before .loop-test .left) in
+    omega (arith, r, m .placed, m .kept)
 
 same-length-2 : tie.Need-same-length-2 Inv-loop μ-loop
-same-length-2 c = c .before .before .push-word2 .ensures .kept ∙ c .before .before .before .before .before .loop .inv .2 .kept
+same-length-2 c =
+    let p = c .before .before .before .before .before .before .before .push-word2 .ensures .kept in
+    let l = c .before .before .before .before .before .before .before .before .before .before .loop .inv .2 .kept in
+    ap length (c .before .before .put-bytes .ensures) ∙ simp length-put (p ∙ l)
 
 returns-2 : tie.Need-returns-2 Inv-loop μ-loop
 returns-2 c =
-    let l = c .before .before .before .before .before .loop in
-    let a = c .before .before .before .before .before .before .before .before .args in
+    let l = c .before .before .before .before .before .before .before .before .before .before .loop in
+    let a = c .before .before .before .before .before .before .before .before .before .before .before .before .before .args in
     let w = l .inv .2 in
-    sym (stream-over (a .records .now) (a .out .now) (l .out) (l .from) (l .window) w (omega arith)
-    ∙ stream-padded (l .out) (l .window) _ _ _ refl (w .short) (w .small) (c .before .before .push-word2 .ensures))
+    c .before .before .put-bytes .ensures
+    ∙ sym (stream-over (a .records .now) (a .out .now) (l .out) (l .from) (l .window) w (c .before .before .before .before .before .before .before .before .before .loop-test .left)
+    ∙ stream-padded (l .out) (l .window) _ _ _ refl (w .short) (w .small) (c .before .before .before .before .before .before .before .push-word2 .ensures))
 
 pub write-records-spec : {M : Type 1} → statement M
 write-records-spec =
@@ -143,5 +155,6 @@ write-records-spec =
     loop-again
     sub-free
     push-word-requires-2
+    put-bytes-requires
     same-length-2
     returns-2)
