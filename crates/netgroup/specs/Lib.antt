@@ -1,4 +1,5 @@
 pub mod Candidate
+pub mod Word
 pub mod Group
 pub mod Refusal
 pub mod Ended

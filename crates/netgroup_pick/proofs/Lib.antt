@@ -1,5 +1,6 @@
 pub mod Lists
 pub mod Scans
+pub mod Marking
 pub mod Placing
 pub mod Outputs
 pub mod Passes

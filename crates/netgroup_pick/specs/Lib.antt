@@ -1,5 +1,6 @@
 pub mod Candidates
 pub mod First
+pub mod Marks
 pub mod Fill
 pub mod PickRefusal
 pub mod Pick

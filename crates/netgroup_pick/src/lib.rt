@@ -2,11 +2,12 @@
 ghost use mathlib.Core.Path.{_≡_};
 ghost use mathlib.Core.List.{[]};
 ghost use Prim.Native.Nat.{_+_, _*_, _/_, _%_, _≤_, _<_, min};
-ghost use lib.ListN.{length, take, getD};
+ghost use lib.ListN.{length, take, drop, getD};
 ghost use Rattle.netgroup.specs.Group.{numbering};
 ghost use Rattle.netgroup.specs.Refusal.{limitRefusal, checkRefusal};
 ghost use Rattle.netgroup_pick.specs.Candidates.{candidatesOf, allValid};
 ghost use Rattle.netgroup_pick.specs.First.{has, free};
+ghost use Rattle.netgroup_pick.specs.Marks.{Marked};
 ghost use Rattle.netgroup_pick.specs.Fill.{picked, fill};
 ghost use Rattle.netgroup_pick.specs.Places.{Places};
 ghost use Rattle.netgroup_pick.specs.PickRefusal.{listRefusal, roomRefusal, pickRefusal, Ready};
@@ -64,11 +65,45 @@ fn all_candidates(candidates: &[u8]) -> bool
     true
 }
 
-// Whether a group is in a list of groups.
-fn contains(groups: &[u64], group: u64) -> bool
-    ensures { λ r. ⌜ r ≡ has group (now (groups .entry)) ⌝ }
+// Whether a group is one of two of a list, from a place on.
+fn in_two(groups: &[u64], i: usize, group: u64) -> bool
+    requires { ⌜ i + 2 ≤ length (now groups) ⌝ }
+    ensures { λ r. ⌜ r ≡ has group (take 2 (drop i (now (groups .entry)))) ⌝ }
 {
-    let mut i: usize = 0;
+    if group == groups[i] {
+        return true;
+    }
+    group == groups[i + 1]
+}
+
+// Whether it is one of four.
+fn in_four(groups: &[u64], i: usize, group: u64) -> bool
+    requires { ⌜ i + 4 ≤ length (now groups) ⌝ }
+    ensures { λ r. ⌜ r ≡ has group (take 4 (drop i (now (groups .entry)))) ⌝ }
+{
+    if in_two(groups, i, group) {
+        return true;
+    }
+    in_two(groups, i + 2, group)
+}
+
+// Whether it is one of eight.
+fn in_eight(groups: &[u64], i: usize, group: u64) -> bool
+    requires { ⌜ i + 8 ≤ length (now groups) ⌝ }
+    ensures { λ r. ⌜ r ≡ has group (take 8 (drop i (now (groups .entry)))) ⌝ }
+{
+    if in_four(groups, i, group) {
+        return true;
+    }
+    in_four(groups, i + 4, group)
+}
+
+// Whether a group is in a list of groups from a place on, one by one.
+fn contains_from(groups: &[u64], from: usize, group: u64) -> bool
+    requires { ⌜ from ≤ length (now groups) ⌝ }
+    ensures { λ r. ⌜ r ≡ has group (drop from (now (groups .entry))) ⌝ }
+{
+    let mut i = from;
     while i < groups.len() {
         if group == groups[i] {
             return true;
@@ -78,10 +113,50 @@ fn contains(groups: &[u64], group: u64) -> bool
     false
 }
 
-// The scan of the occupied groups: a connected peer has the group.
-fn is_occupied(group: u64, occupied: &[u64]) -> bool
+// Whether a group is in a list of groups. Eight are compared in each turn: the loop itself costs as much as comparing two.
+fn contains(groups: &[u64], group: u64) -> bool
+    ensures { λ r. ⌜ r ≡ has group (now (groups .entry)) ⌝ }
+{
+    let mut i: usize = 0;
+    while 8 <= groups.len() - i {
+        if in_eight(groups, i, group) {
+            return true;
+        }
+        i += 8;
+    }
+    contains_from(groups, i, group)
+}
+
+// Marks each group of a list, at its number modulo 4,096, with its place counted from 1. Of two groups with one mark the later
+// place stands.
+fn mark_groups(groups: &[u64], marks: &mut [u16])
+    requires { ⌜ length (now marks) ≡ 4096 ⌝ }
+    ensures { λ r. ⌜ Marked (now (groups .entry)) (now (marks .exit)) ⌝ }
+{
+    let mut i: usize = 0;
+    while i < groups.len() {
+        let mark = i % 4096 + 1;
+        let at = (groups[i] % 4096) as usize;
+        marks[at] = mark as u16;
+        i += 1;
+    }
+}
+
+// Whether a connected peer has the group. Where the mark says neither no nor where, the occupied groups are scanned.
+fn is_occupied(group: u64, occupied: &[u64], marks: &[u16]) -> bool
+    requires { ⌜ Marked (now occupied) (now marks) ⌝ }
     ensures { λ r. ⌜ r ≡ has group (now (occupied .entry)) ⌝ }
 {
+    let at = (group % 4096) as usize;
+    let mark = marks[at] as usize;
+    if mark == 0 {
+        return false;
+    }
+    if mark <= occupied.len() {
+        if occupied[mark - 1] == group {
+            return true;
+        }
+    }
     contains(occupied, group)
 }
 
@@ -93,10 +168,11 @@ fn is_taken(group: u64, taken: &[u64]) -> bool
 }
 
 // Whether a group is neither occupied nor taken.
-fn is_free(group: u64, occupied: &[u64], taken: &[u64]) -> bool
+fn is_free(group: u64, occupied: &[u64], marks: &[u16], taken: &[u64]) -> bool
+    requires { ⌜ Marked (now occupied) (now marks) ⌝ }
     ensures { λ r. ⌜ r ≡ free (now (occupied .entry)) (now (taken .entry)) group ⌝ }
 {
-    if is_occupied(group, occupied) {
+    if is_occupied(group, occupied, marks) {
         return false;
     }
     !is_taken(group, taken)
@@ -122,13 +198,14 @@ fn is_picked(candidates: &[u8], i: usize, picks: &[u16]) -> bool
 fn first_pass(
     candidates: &[u8],
     occupied: &[u64],
+    marks: &[u16],
     max: usize,
     grouping: Grouping,
     map: &[u8],
     picks: &mut [u16],
     groups: &mut [u64],
 ) -> First
-    requires { ⌜ Ready (numbering grouping (now map)) (now candidates) max (now picks) (now groups) ⌝ }
+    requires { ⌜ (Ready (numbering grouping (now map)) (now candidates) max (now picks) (now groups)) × (Marked (now occupied) (now marks)) ⌝ }
     ensures { λ r. ⌜ PassedFirst (numbering grouping (now (map .entry))) (candidatesOf (now (candidates .entry))) (now (occupied .entry)) max (now (picks .entry)) (now (groups .entry)) r (now (picks .exit)) (now (groups .exit)) ⌝ }
 {
     let n = candidates.len() / 20;
@@ -142,7 +219,7 @@ fn first_pass(
         let g = netgroup::group_of(candidate_at(candidates, i), grouping, map);
         let group = g.group;
         instructions += g.count as u64;
-        if is_free(group, occupied, &groups[..taken]) {
+        if is_free(group, occupied, marks, &groups[..taken]) {
             picks[taken] = i as u16;
             groups[taken] = group;
             taken += 1;
@@ -154,6 +231,33 @@ fn first_pass(
         examined: i,
         instructions: instructions,
     }
+}
+
+// The first pass, over occupied groups that are marked for it.
+fn marked_pass(
+    candidates: &[u8],
+    occupied: &[u64],
+    max: usize,
+    grouping: Grouping,
+    map: &[u8],
+    picks: &mut [u16],
+    groups: &mut [u64],
+) -> First
+    requires { ⌜ Ready (numbering grouping (now map)) (now candidates) max (now picks) (now groups) ⌝ }
+    ensures { λ r. ⌜ PassedFirst (numbering grouping (now (map .entry))) (candidatesOf (now (candidates .entry))) (now (occupied .entry)) max (now (picks .entry)) (now (groups .entry)) r (now (picks .exit)) (now (groups .exit)) ⌝ }
+{
+    let mut marks = [0u16; 4096];
+    mark_groups(occupied, &mut marks);
+    first_pass(
+        candidates,
+        occupied,
+        &marks,
+        max,
+        grouping,
+        map,
+        picks,
+        groups,
+    )
 }
 
 // The second pass: in ranked order, the candidates unequal to every pick, until max. Returns how many picks there are.
@@ -258,7 +362,7 @@ pub fn select_diverse_unchecked(
     if let Refusal::Number(number) = why {
         return PickAnswer::Refused(number);
     }
-    let first = first_pass(candidates, occupied, max, grouping, map, picks, groups);
+    let first = marked_pass(candidates, occupied, max, grouping, map, picks, groups);
     let total = fill_rest(candidates, max, first.taken, picks);
     PickAnswer::Picked(Totals {
         total: total,

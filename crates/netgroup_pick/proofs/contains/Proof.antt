@@ -6,7 +6,7 @@ use native.Mathlib.Omega.{arith}
 use Prim.Native.Nat.{_-_, _≤_}
 use lib.ListN.{length, drop}
 use Rattle.netgroup_pick.specs.First.{has}
-use Rattle.netgroup_pick.proofs.Scans.{has-here, has-on, has-done}
+use Rattle.netgroup_pick.proofs.Scans.{has-here, has-on}
 use Rattle.netgroup_pick.proofs.contains.Statement.{statement}
 use Rattle.netgroup_pick.proofs.contains.Tie as tie
 
@@ -19,16 +19,17 @@ abbrev μ-loop : tie.MeasureT-loop
 loop-holds : tie.Need-loop-holds Inv-loop μ-loop
 loop-holds c = (omega arith, refl)
 
-mul-if1 : tie.Need-mul-if1 Inv-loop μ-loop
-mul-if1 c = search needs
+sub-loop : tie.Need-sub-loop Inv-loop μ-loop
+sub-loop c = search needs
 
-shared-slice-read-if1 : tie.Need-shared-slice-read-if1 Inv-loop μ-loop
-shared-slice-read-if1 c = search needs
+in-eight-requires : tie.Need-in-eight-requires Inv-loop μ-loop
+in-eight-requires c κs = search needs
 
 returns : tie.Need-returns Inv-loop μ-loop
 returns c =
     let l = c .before .before .before .loop in
-    sym (l .inv .1 ∙ has-here (c .before .before .before .before .args .group) (c .before .before .before .before .args .groups .now) (l .i) (omega arith) (c .if1 .taken))
+    let a = c .before .before .before .before .before .args in
+    sym (l .inv .1 ∙ has-here (a .group) (a .groups .now) (l .i) 8 (sym (c .before .in-eight .ensures) ∙ c .if1 .taken))
 
 add-i : tie.Need-add-i Inv-loop μ-loop
 add-i c = search needs
@@ -39,12 +40,14 @@ loop-less c = search needs
 loop-again : tie.Need-loop-again Inv-loop μ-loop
 loop-again c =
     let l = c .before .before .before .loop in
-    (omega arith, l .inv .1 ∙ has-on (c .before .before .before .before .args .group) (c .before .before .before .before .args .groups .now) (l .i) (omega arith) (c .if1 .left))
+    let a = c .before .before .before .before .before .args in
+    (omega arith, l .inv .1 ∙ has-on (a .group) (a .groups .now) (l .i) 8 (sym (c .before .in-eight .ensures) ∙ c .if1 .left))
+
+contains-from-requires : tie.Need-contains-from-requires Inv-loop μ-loop
+contains-from-requires c κs = search needs
 
 returns-2 : tie.Need-returns-2 Inv-loop μ-loop
-returns-2 c =
-    let l = c .before .loop in
-    sym (l .inv .1 ∙ has-done (c .before .before .args .group) (c .before .before .args .groups .now) (l .i) (omega arith))
+returns-2 c = c .contains-from .ensures ∙ sym (c .before .before .loop .inv .1)
 
 pub contains-spec : {M : Type 1} → statement M
 contains-spec =
@@ -53,10 +56,11 @@ contains-spec =
     Inv-loop
     μ-loop
     loop-holds
-    mul-if1
-    shared-slice-read-if1
+    sub-loop
+    in-eight-requires
     returns
     add-i
     loop-less
     loop-again
+    contains-from-requires
     returns-2)

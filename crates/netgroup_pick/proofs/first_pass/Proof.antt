@@ -18,13 +18,13 @@ use Rattle.netgroup_pick.proofs.first_pass.Statement.{statement}
 use Rattle.netgroup_pick.proofs.first_pass.Tie as tie
 
 abbrev Inv-loop : tie.InvT-loop
-Inv-loop candidates occupied max grouping map picks₀ groups₀ n taken₀ instructions₀ i₀ picks groups taken instructions i =
+Inv-loop candidates occupied marks max grouping map picks₀ groups₀ n taken₀ instructions₀ i₀ picks groups taken instructions i =
     (i ≤ n)
     × (n ≡ length candidates / 20)
     × (Passing occupied max (groupsOf (numbering grouping map) (candidatesOf candidates)) (countsOf (numbering grouping map) (candidatesOf candidates)) picks₀ groups₀ picks groups taken instructions i)
 
 abbrev μ-loop : tie.MeasureT-loop
-μ-loop candidates occupied max grouping map picks₀ groups₀ n taken₀ instructions₀ i₀ picks groups taken instructions i = n - i
+μ-loop candidates occupied marks max grouping map picks₀ groups₀ n taken₀ instructions₀ i₀ picks groups taken instructions i = n - i
 
 loop-holds : tie.Need-loop-holds Inv-loop μ-loop
 loop-holds c = (omega arith, refl, passing-start _ _ _ _ _ _)
@@ -77,7 +77,7 @@ loop-less c = search needs
 loop-again : tie.Need-loop-again Inv-loop μ-loop
 loop-again c =
     let l = c .before .before .before .before .before .before .before .before .loop in
-    let a = c .before .before .before .before .before .before .before .before .before .before .before .before .before .before .args in
+    let a = c .before .before .before .before .before .before .before .before .before .before .before .before .before .before .before .args in
     let n = numbering (a .grouping) (a .map .now) in
     let all = candidatesOf (a .candidates .now) in
     let q = length-candidates (a .candidates .now) in
@@ -113,7 +113,7 @@ same-length-2 c = search needs
 returns : tie.Need-returns Inv-loop μ-loop
 returns c =
     let l = c .before .loop in
-    let a = c .before .before .before .before .before .before .before .args in
+    let a = c .before .before .before .before .before .before .before .before .args in
     let n = numbering (a .grouping) (a .map .now) in
     let all = candidatesOf (a .candidates .now) in
     let q = length-candidates (a .candidates .now) in
@@ -128,7 +128,7 @@ same-length-4 c = search needs
 returns-2 : tie.Need-returns-2 Inv-loop μ-loop
 returns-2 c =
     let l = c .before .before .loop in
-    let a = c .before .before .before .before .before .before .before .before .args in
+    let a = c .before .before .before .before .before .before .before .before .before .args in
     let n = numbering (a .grouping) (a .map .now) in
     let all = candidatesOf (a .candidates .now) in
     let q = length-candidates (a .candidates .now) in

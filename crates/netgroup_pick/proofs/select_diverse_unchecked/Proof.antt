@@ -35,8 +35,8 @@ returns c =
 enum-told : tie.Need-enum-told
 enum-told c = search needs
 
-first-pass-requires : tie.Need-first-pass-requires
-first-pass-requires c κs =
+marked-pass-requires : tie.Need-marked-pass-requires
+marked-pass-requires c κs =
     let a = c .before .before .before .before .before .before .before .before .before .before .before .before .args in
     let n = numbering (a .grouping) (a .map .now) in
     none-ready n (a .candidates .now) (a .occupied .now) (a .max) (a .picks .now) (a .groups .now) (sym (c .before .before .before .before .pick-refusal .ensures) ∙ c .before .before .enum-told .given .1)
@@ -46,7 +46,7 @@ fill-rest-requires c κs =
     let a = c .before .before .before .before .before .before .before .before .before .before .before .before .before .before .before .before .before .before .args in
     let n = numbering (a .grouping) (a .map .now) in
     let ready = none-ready n (a .candidates .now) (a .occupied .now) (a .max) (a .picks .now) (a .groups .now) (sym (c .before .before .before .before .before .before .before .before .before .before .pick-refusal .ensures) ∙ c .before .before .before .before .before .before .before .before .enum-told .given .1) in
-    let f = c .before .before .before .before .before .first-pass in (
+    let f = c .before .before .before .before .before .marked-pass in (
       ready .few,
       omega (arith, ready .room-picks, f .kept .1 .1 .1 .1 .1 .0),
       first-fits n (a .candidates .now) (a .occupied .now) (a .max) (a .picks .now) (a .groups .now) (f .result) _ _ (f .ensures),
@@ -63,7 +63,7 @@ returns-2 : tie.Need-returns-2
 returns-2 c =
     let a = c .before .before .before .before .before .before .before .before .before .before .before .before .before .before .before .before .before .before .before .before .before .args in
     let n = numbering (a .grouping) (a .map .now) in
-    let f = c .before .before .before .before .before .before .before .before .first-pass in
+    let f = c .before .before .before .before .before .before .before .before .marked-pass in
     let r = c .before .before .fill-rest in (
       picked-whole n (a .candidates .now) (a .occupied .now) (a .max) (a .picks .now) (a .groups .now) (f .result) _ _ (f .ensures) (r .result) _ (r .ensures) (limitRefusal n) (sym (c .before .before .before .before .before .before .before .before .before .before .before .before .before .pick-refusal .ensures) ∙ c .before .before .before .before .before .before .before .before .before .before .before .enum-told .given .1),
       (picked-demand n (a .candidates .now) (a .occupied .now) (a .max) (a .picks .now) (a .groups .now) (f .result) _ _ (f .ensures) (r .result) _ (r .ensures), λ h i k. ended n (getD (candidatesOf (a .candidates .now)) i []) h),
@@ -79,7 +79,7 @@ select-diverse-unchecked-spec =
     same-length-2
     returns
     enum-told
-    first-pass-requires
+    marked-pass-requires
     fill-rest-requires
     same-length-3
     same-length-4
