@@ -1,5 +1,3 @@
+mod Begins
 mod Lengths
 mod Octets
-mod Order
-mod Truth
-mod Zeros

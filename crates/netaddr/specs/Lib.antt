@@ -1,5 +1,3 @@
-pub mod Prefix
-pub mod Ranges
 pub mod Answer
 pub mod Filter
 pub mod Relay

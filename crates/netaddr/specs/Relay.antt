@@ -5,9 +5,9 @@ use mathlib.Core.Bool.{Bool, true, false, cond, not, _&&_}
 use mathlib.Core.List.{List, [], _∷_}
 use lib.Dec.{leb, eqb}
 use lib.ListN.{length}
+use Rattle.netaddr_ranges.specs.Prefix.{within, ipv6}
+use Rattle.netaddr_ranges.specs.Unroutable.{unroutable4, unroutable16}
 use Rattle.netaddr.specs.Answer.{Answer, unlessRefused}
-use Rattle.netaddr.specs.Filter.{unroutable4, unroutable16}
-use Rattle.netaddr.specs.Prefix.{within, ipv6}
 
 -- The network ids 1 to 6 have 4, 16, 10, 32, 32 and 16 address bytes; any other has at most 512.
 unfoldable pub lengthFits : ℕ → ℕ → Bool

@@ -1,9 +1,8 @@
 -- Another length than 16 is 11; else the bytes decide.
 -- Assumes nothing.
-use mathlib.Core.Path.{_∙_, sym, ap}
+use mathlib.Core.Path.{_∙_, sym}
 use borrow.Author.Tests.{eq-eqb, ne-eqb}
 use lib.ListN.{length}
-use Rattle.netaddr.specs.Filter.{unroutable16}
 use borrow.Author.Needs.{needs}
 use Rattle.netaddr.proofs.clearnet_unroutable.Statement.{statement}
 use Rattle.netaddr.proofs.clearnet_unroutable.Tie as tie
@@ -11,18 +10,14 @@ use Rattle.netaddr.proofs.clearnet_unroutable.Tie as tie
 returns : tie.Need-returns
 returns c = rw (ne-eqb (length (c .before .before .args .address .now)) 16 (c .if1 .taken))
 
-octets16-requires : tie.Need-octets16-requires
-octets16-requires c κs = search needs
-
 ip-unroutable-requires : tie.Need-ip-unroutable-requires
 ip-unroutable-requires c κs = search needs
 
 returns-2 : tie.Need-returns-2
-returns-2 c = rw (eq-eqb (length (c .before .before .before .before .before .args .address .now)) 16 (c .before .before .before .if1 .left), sym (ap unroutable16 (c .before .before .octets16 .ensures)) ∙ (sym (c .before .ip-unroutable .ensures) ∙ c .if2 .taken))
+returns-2 c = rw (eq-eqb (length (c .before .before .before .before .args .address .now)) 16 (c .before .before .if1 .left), sym (c .before .ip-unroutable .ensures) ∙ c .if2 .taken)
 
 returns-3 : tie.Need-returns-3
-returns-3 c = rw (eq-eqb (length (c .before .before .before .before .before .args .address .now)) 16 (c .before .before .before .if1 .left), sym (ap unroutable16 (c .before .before .octets16 .ensures)) ∙ (sym (c .before .ip-unroutable .ensures) ∙ c .if2 .left))
+returns-3 c = rw (eq-eqb (length (c .before .before .before .before .args .address .now)) 16 (c .before .before .if1 .left), sym (c .before .ip-unroutable .ensures) ∙ c .if2 .left)
 
 pub clearnet-unroutable-spec : {M : Type 1} → statement M
-clearnet-unroutable-spec =
-    tie.close (tie.spec returns octets16-requires ip-unroutable-requires returns-2 returns-3)
+clearnet-unroutable-spec = tie.close (tie.spec returns ip-unroutable-requires returns-2 returns-3)

@@ -1,90 +1,82 @@
--- The two rows that are asked first; then the three groups of rows, of which the first two only say unroutable.
+-- The first byte decides which rows are asked: the mapped form's is 0, and the bytes that no row has are routable.
 -- Assumes nothing.
-use mathlib.Core.Bool.{true, false, _||_, or-assoc}
-use mathlib.Core.Path.{_≡_, _∙_, refl, sym, ap}
-use Rattle.netaddr.specs.Filter.{unroutable4, unroutable16, held, decided}
-use Rattle.netaddr.specs.Prefix.{within, ipv6}
-use Rattle.netaddr.specs.Ranges.{scopeRows, specialRows, embeddedRows}
-use Rattle.netaddr.proofs.Order.{plain-then}
-use Rattle.netaddr.proofs.Truth.{taken, passed}
-use mathlib.Core.List.{List, [], _∷_, _++_}
 use Prim.Native.Nat.{ℕ}
+use mathlib.Core.Bool.{true, not}
+use mathlib.Core.List.{List, [], _∷_}
+use mathlib.Core.Path.{_≡_, _∙_, refl, sym, ap}
 use borrow.Author.Needs.{needs}
+use borrow.Author.Tests.{ne-eqb}
+use lib.Dec.{eqb}
+use Rattle.netaddr_ranges.specs.Prefix.{byte, Range, within, ipv6}
+use Rattle.netaddr_ranges.specs.Unroutable.{unroutable4, unroutable16, held, decided}
+use Rattle.netaddr_ranges.proofs.Truth.{taken, passed}
+use Rattle.netaddr.proofs.Begins.{apart, ordinary-routable}
 use Rattle.netaddr.proofs.ip_unroutable.Statement.{statement}
 use Rattle.netaddr.proofs.ip_unroutable.Tie as tie
 
-groups-in-turn : (a : List ℕ) → decided (scopeRows ++ (specialRows ++ embeddedRows)) a ≡ (decided scopeRows a || decided specialRows a || decided embeddedRows a)
-groups-in-turn a =
-    plain-then scopeRows (specialRows ++ embeddedRows) a (refl, (refl, (refl, (refl, tt))))
-    ∙ (ap (λ t. decided scopeRows a || t) (plain-then specialRows embeddedRows a (refl, (refl, (refl, (refl, (refl, (refl, tt)))))))
-    ∙ sym (or-assoc (decided scopeRows a) (decided specialRows a) (decided embeddedRows a)))
+abbrev mapped : Range
+mapped = ipv6 (0 ∷ 0 ∷ 0 ∷ 0 ∷ 0 ∷ 0xffff ∷ []) 96
 
-first-row : (a : List ℕ) → within (ipv6 (0xfc00 ∷ []) 8) a ≡ true → unroutable16 a ≡ false
+-- fc00::/8, the row before it, has another first byte
+mapped-row : (a : List ℕ) → byte 0 a ≡ 0 → within mapped a ≡ true → unroutable16 a ≡ unroutable4 (held 12 a)
 unfolding unroutable16 decided
-first-row a h = taken _ _ _ h
+mapped-row a z h = passed _ _ _ (ap (λ b. eqb b 0xfc) z) ∙ taken _ _ _ h
 
-second-row : (a : List ℕ) → within (ipv6 (0xfc00 ∷ []) 8) a ≡ false → within (ipv6 (0 ∷ 0 ∷ 0 ∷ 0 ∷ 0 ∷ 0xffff ∷ []) 96) a ≡ true → unroutable16 a ≡ unroutable4 (held 12 a)
-unfolding unroutable16 decided
-second-row a h m = passed _ _ _ h ∙ taken _ _ _ m
-
-other-rows : (a : List ℕ) → within (ipv6 (0xfc00 ∷ []) 8) a ≡ false → within (ipv6 (0 ∷ 0 ∷ 0 ∷ 0 ∷ 0 ∷ 0xffff ∷ []) 96) a ≡ false → unroutable16 a ≡ (decided scopeRows a || decided specialRows a || decided embeddedRows a)
-unfolding unroutable16 decided
-other-rows a h m = passed _ _ _ h ∙ (passed _ _ _ m ∙ groups-in-turn a)
-
-is-cjdns-ip-requires : tie.Need-is-cjdns-ip-requires
-is-cjdns-ip-requires c κs = search needs
-
-returns : tie.Need-returns
-returns c = sym (first-row (c .before .before .args .t1) (sym (c .before .is-cjdns-ip .ensures) ∙ c .if1 .taken))
+shared-slice-read-a : tie.Need-shared-slice-read-a
+shared-slice-read-a c = search needs
 
 ipv4-mapped-requires : tie.Need-ipv4-mapped-requires
 ipv4-mapped-requires c κs = search needs
 
-array-read-t8 : tie.Need-array-read-t8
-array-read-t8 c = search needs
-
-array-read-t11 : tie.Need-array-read-t11
-array-read-t11 c = search needs
-
-array-read-t14 : tie.Need-array-read-t14
-array-read-t14 c = search needs
-
-array-read-t17 : tie.Need-array-read-t17
-array-read-t17 c = search needs
+last-four-requires : tie.Need-last-four-requires
+last-four-requires c κs = search needs
 
 ipv4-unroutable-requires : tie.Need-ipv4-unroutable-requires
 ipv4-unroutable-requires c κs = search needs
 
+returns : tie.Need-returns
+returns c = let k = c .before .before .before in
+    c .ipv4-unroutable .ensures
+    ∙ (ap unroutable4 (c .before .last-four .ensures)
+    ∙ sym (mapped-row (k .before .before .before .before .args .address .now) (k .before .if1 .taken) (sym (k .ipv4-mapped .ensures) ∙ c .before .before .if2 .taken)))
+
+octets16-requires : tie.Need-octets16-requires
+octets16-requires c κs = search needs
+
+ipv6-unroutable-requires : tie.Need-ipv6-unroutable-requires
+ipv6-unroutable-requires c κs =
+    ap (within mapped) (c .octets16 .ensures) ∙ (sym (c .before .before .ipv4-mapped .ensures) ∙ c .before .if2 .left)
+
 returns-2 : tie.Need-returns-2
-returns-2 c = c .ipv4-unroutable .ensures ∙ sym (second-row (c .before .before .before .before .before .args .t1) (sym (c .before .before .before .before .is-cjdns-ip .ensures) ∙ c .before .before .before .if1 .left) (sym (c .before .before .ipv4-mapped .ensures) ∙ c .before .if2 .taken))
-
-ipv6-scope-unroutable-requires : tie.Need-ipv6-scope-unroutable-requires
-ipv6-scope-unroutable-requires c κs = search needs
-
-ipv6-special-unroutable-requires : tie.Need-ipv6-special-unroutable-requires
-ipv6-special-unroutable-requires c κs = search needs
-
-ipv6-embedded-bogon-requires : tie.Need-ipv6-embedded-bogon-requires
-ipv6-embedded-bogon-requires c κs = search needs
+returns-2 c = c .ipv6-unroutable .ensures ∙ ap unroutable16 (c .before .octets16 .ensures)
 
 returns-3 : tie.Need-returns-3
-returns-3 c = rw (c .before .before .ipv6-scope-unroutable .ensures, c .before .ipv6-special-unroutable .ensures, c .ipv6-embedded-bogon .ensures)
-    (sym (other-rows (c .before .before .before .before .before .before .before .args .t1) (sym (c .before .before .before .before .before .before .is-cjdns-ip .ensures) ∙ c .before .before .before .before .before .if1 .left) (sym (c .before .before .before .before .ipv4-mapped .ensures) ∙ c .before .before .before .if2 .left)))
+returns-3 c = sym (ordinary-routable (c .before .before .before .before .args .address .now) (c .if3 .taken))
+
+octets16-requires-2 : tie.Need-octets16-requires-2
+octets16-requires-2 c κs = search needs
+
+ipv6-unroutable-requires-2 : tie.Need-ipv6-unroutable-requires-2
+ipv6-unroutable-requires-2 c κs = let a = c .before .before .before .before .before .args .address .now in
+    ap (within mapped) (c .octets162 .ensures)
+    ∙ apart (λ b. not (eqb b 0)) mapped a refl refl (ap not (ne-eqb (byte 0 a) 0 (c .before .before .if1 .left)))
+
+returns-4 : tie.Need-returns-4
+returns-4 c = c .ipv6-unroutable2 .ensures ∙ ap unroutable16 (c .before .octets162 .ensures)
 
 pub ip-unroutable-spec : {M : Type 1} → statement M
 ip-unroutable-spec =
     tie.close
     (tie.spec
-    is-cjdns-ip-requires
-    returns
+    shared-slice-read-a
     ipv4-mapped-requires
-    array-read-t8
-    array-read-t11
-    array-read-t14
-    array-read-t17
+    last-four-requires
     ipv4-unroutable-requires
+    returns
+    octets16-requires
+    ipv6-unroutable-requires
     returns-2
-    ipv6-scope-unroutable-requires
-    ipv6-special-unroutable-requires
-    ipv6-embedded-bogon-requires
-    returns-3)
+    returns-3
+    octets16-requires-2
+    ipv6-unroutable-requires-2
+    returns-4)

@@ -5,7 +5,7 @@ use mathlib.Core.List.{[], _∷_}
 use mathlib.Core.Path.{_∙_, ap}
 use borrow.Author.Tests.{eq-eqb, ne-eqb}
 use Rattle.netaddr.specs.Relay.{outsideCjdns}
-use Rattle.netaddr.specs.Prefix.{within, ipv6}
+use Rattle.netaddr_ranges.specs.Prefix.{within, ipv6}
 use Rattle.netaddr.proofs.Lengths.{length-at, of-cjdns}
 use borrow.Author.Needs.{needs}
 use Rattle.netaddr.proofs.outside_cjdns.Statement.{statement}

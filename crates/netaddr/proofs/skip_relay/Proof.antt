@@ -2,7 +2,7 @@
 -- Assumes nothing.
 use mathlib.Core.Path.{_≡_, _∙_, sym, ap}
 use borrow.Author.Tests.{eq-eqb, ne-eqb}
-use Rattle.netaddr.specs.Filter.{unroutable4, unroutable16}
+use Rattle.netaddr_ranges.specs.Unroutable.{unroutable4}
 use Rattle.netaddr.specs.Relay.{skips, byPortAndAddress}
 use Rattle.netaddr.proofs.Lengths.{length-at, of-ipv4, of-ipv6}
 use borrow.Author.Needs.{needs}
@@ -11,15 +11,14 @@ use Rattle.netaddr.proofs.skip_relay.Tie as tie
 use Rattle.netaddr.proofs.skip_relay.Reads as reads
 use Rattle.netaddr.proofs.skip_relay.Lts as lts
 use Rattle.netaddr.proofs.ip_unroutable.Reads as ip-unroutable-reads
-use Rattle.netaddr.proofs.ipv4_unroutable.Reads as ipv4-unroutable-reads
-use Rattle.netaddr.proofs.octets16.Reads as octets16-reads
+use Rattle.netaddr_ranges.proofs.ipv4_unroutable.Reads as ipv4-unroutable-reads
 use Rattle.netaddr.proofs.octets4.Reads as octets4-reads
 use Rattle.netaddr.proofs.outside_cjdns.Reads as outside-cjdns-reads
 
 -- the place after the three tests that name ids 5, 3 and 6
 abbrev After-ids : Type 0
 After-ids =
-    lts.Else3 (outside-cjdns-reads.Asked, outside-cjdns-reads.Learnt, octets4-reads.Asked, octets4-reads.Learnt, ipv4-unroutable-reads.Asked, ipv4-unroutable-reads.Learnt, octets16-reads.Asked, octets16-reads.Learnt, ip-unroutable-reads.Asked, ip-unroutable-reads.Learnt)
+    lts.Else3 (outside-cjdns-reads.Asked, outside-cjdns-reads.Learnt, octets4-reads.Asked, octets4-reads.Learnt, ipv4-unroutable-reads.Asked, ipv4-unroutable-reads.Learnt, ip-unroutable-reads.Asked, ip-unroutable-reads.Learnt)
     reads.Pre
     reads.Post
 
@@ -58,16 +57,12 @@ returns-5 c = let a = c .before .before .before .before .before .before .before 
     rw (after-ids (c .before .before .before .before), ne-eqb (a .port) 0 (c .before .before .before .if4 .left), eq-eqb (a .id) 1 (c .before .before .if5 .taken))
     (c .ipv4-unroutable .ensures ∙ ap unroutable4 (c .before .octets4 .ensures))
 
-octets16-requires : tie.Need-octets16-requires
-octets16-requires c κs = length-at 2 16 (c .before .before .before .before .before .before .before .before .args .address .now) of-ipv6 (c .if6 .taken) (c .before .before .before .before .before .before .before .before .pre)
-
 ip-unroutable-requires : tie.Need-ip-unroutable-requires
-ip-unroutable-requires c κs = search needs
+ip-unroutable-requires c κs = length-at 2 16 (c .before .before .before .before .before .before .before .before .args .address .now) of-ipv6 (c .if6 .taken) (c .before .before .before .before .before .before .before .before .pre)
 
 returns-6 : tie.Need-returns-6
-returns-6 c = let a = c .before .before .before .before .before .before .before .before .before .before .args in
-    rw (after-ids (c .before .before .before .before .before), ne-eqb (a .port) 0 (c .before .before .before .before .if4 .left), ne-eqb (a .id) 1 (c .before .before .before .if5 .left), eq-eqb (a .id) 2 (c .before .before .if6 .taken))
-    (c .ip-unroutable .ensures ∙ ap unroutable16 (c .before .octets16 .ensures))
+returns-6 c = let a = c .before .before .before .before .before .before .before .before .before .args in
+    rw (after-ids (c .before .before .before .before), ne-eqb (a .port) 0 (c .before .before .before .if4 .left), ne-eqb (a .id) 1 (c .before .before .if5 .left), eq-eqb (a .id) 2 (c .before .if6 .taken)) (c .ip-unroutable .ensures)
 
 returns-7 : tie.Need-returns-7
 returns-7 c = let a = c .before .before .before .before .before .before .before .before .args in
@@ -85,7 +80,6 @@ skip-relay-spec =
     octets4-requires
     ipv4-unroutable-requires
     returns-5
-    octets16-requires
     ip-unroutable-requires
     returns-6
     returns-7)

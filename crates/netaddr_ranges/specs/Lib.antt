@@ -1,0 +1,3 @@
+pub mod Prefix
+pub mod Ranges
+pub mod Unroutable
