@@ -1,0 +1,149 @@
+// The bit reader (document 01, Forms): a small struct that borrows a map and carries the index of the bit that comes next. Each
+// function over it is proved by hand, so they are few and thin: they take the reader apart and leave the work to functions on
+// a plain slice and a number. A caller that holds no reader uses `read_at`.
+ghost use mathlib.Core.Path.{_≡_};
+ghost use Rattle.asmap_reader.specs.Reader.{readBit, readItem, placeAfter, bitsLeft, movedTo, readBy, stepAt};
+use asmap_codes::Decoded;
+use asmap_program::MAX_MAP_BYTES;
+
+// What a reader can be asked for: one bit, or a code of one of the four rows.
+pub enum Item {
+    Bit,
+    Opcode,
+    Asn,
+    Match,
+    Jump,
+}
+
+// A reader: the map, and the index of its next bit, which may lie past the map's end.
+pub struct BitReader<'a> {
+    pub map: &'a [u8],
+    pub at: usize,
+}
+
+// What a read hands back: the bit or code, or document 01's number; and the reader moved on.
+pub struct Read<'a> {
+    pub got: Decoded,
+    pub reader: BitReader<'a>,
+}
+
+// The same in plain numbers: what was read, the place after it, and how many bits are left there.
+pub struct Step {
+    pub got: Decoded,
+    pub place: usize,
+    pub left: usize,
+}
+
+// ---- the work, on a slice and a number
+
+// Reads one bit (`consume_bit_le`). Refusals 1, and 4 at or past the map's end; nothing is asked of the caller.
+pub fn decode_bit(map: &[u8], at: usize) -> Decoded
+    ensures { λ r. ⌜ r ≡ readBit (now (map .entry)) at ⌝ }
+{
+    let bytes = map.len();
+    if MAX_MAP_BYTES < bytes {
+        return Decoded::Refused(1);
+    }
+    if 8 * bytes <= at {
+        return Decoded::Refused(4);
+    }
+    let bit = asmap_decode::bit_at(map, at);
+    let next = at + 1;
+    Decoded::Found(bit, next)
+}
+
+// Reads what is asked for. Refusals 1 and 4; nothing is asked of the caller.
+pub fn decode_item(map: &[u8], at: usize, item: Item) -> Decoded
+    ensures { λ r. ⌜ r ≡ readItem (now (map .entry)) at item ⌝ }
+{
+    match item {
+        Item::Bit => decode_bit(map, at),
+        Item::Opcode => asmap_decode::decode_type(map, at),
+        Item::Asn => asmap_decode::decode_asn(map, at),
+        Item::Match => asmap_decode::decode_match(map, at),
+        Item::Jump => asmap_decode::decode_jump(map, at),
+    }
+}
+
+// The place after a read: the bit after what was read, or where the reader stood when it was refused.
+fn place_after(at: usize, got: Decoded) -> usize
+    ensures { λ r. ⌜ r ≡ placeAfter at got ⌝ }
+{
+    match got {
+        Decoded::Found(_, next) => next,
+        Decoded::Refused(_) => at,
+    }
+}
+
+// How many bits a reader at a place can still read: none of a map over the limit.
+fn bits_left(map: &[u8], at: usize) -> usize
+    ensures { λ r. ⌜ r ≡ bitsLeft (now (map .entry)) at ⌝ }
+{
+    if MAX_MAP_BYTES < map.len() {
+        return 0;
+    }
+    if 8 * map.len() <= at {
+        return 0;
+    }
+    8 * map.len() - at
+}
+
+// ---- the reader
+
+impl<'a> BitReader<'a> {
+    // A reader at bit 0 of a map.
+    pub fn new(map: &'a [u8]) -> BitReader<'a>
+        ensures { λ r. ⌜ (r .map ≡ map .entry) × (r .at ≡ 0) ⌝ }
+    {
+        BitReader { map, at: 0 }
+    }
+
+    // The reader at another bit of its map, as a JUMP moves it.
+    pub fn moved(self, at: usize) -> BitReader<'a>
+        ensures { λ r. ⌜ r ≡ movedTo (self .entry) at ⌝ }
+    {
+        BitReader { map: self.map, at }
+    }
+
+    // The index of the next bit.
+    pub fn place(self) -> usize
+        ensures { λ r. ⌜ r ≡ self .entry .at ⌝ }
+    {
+        self.at
+    }
+
+    // How many bits are left to read.
+    pub fn left(self) -> usize
+        ensures { λ r. ⌜ r ≡ bitsLeft (now (self .entry .map)) (self .entry .at) ⌝ }
+    {
+        bits_left(self.map, self.at)
+    }
+
+    // Reads what is asked for and moves on behind it. A refused read, 1 or 4, leaves the reader where it was.
+    pub fn read(self, item: Item) -> Read<'a>
+        ensures { λ r. ⌜ r ≡ readBy (self .entry) item ⌝ }
+    {
+        let got = decode_item(self.map, self.at, item);
+        Read {
+            got: got,
+            reader: BitReader {
+                map: self.map,
+                at: place_after(self.at, got),
+            },
+        }
+    }
+}
+
+// ---- for callers that hold no reader
+
+// One read at a bit of a map, with a reader that is made and moved there. Refusals 1 and 4; nothing is asked of the caller.
+pub fn read_at(map: &[u8], at: usize, item: Item) -> Step
+    ensures { λ r. ⌜ r ≡ stepAt (now (map .entry)) at item ⌝ }
+{
+    let read = BitReader::new(map).moved(at).read(item);
+    Step {
+        got: read.got,
+        place: read.reader.place(),
+        left: read.reader.left(),
+    }
+}
