@@ -1,0 +1,24 @@
+-- How a call comes to what it promises (`Hands`): from what the crate below answers, and that no refusal of it is 0.
+-- Assumes nothing.
+use Prim.Native.Nat.{ℕ, _<_}
+use mathlib.Core.Path.{_≡_, _∙_, ap}
+use mathlib.Core.List.{List, _∷_}
+use native.Mathlib.Omega.{arith}
+use Rattle.answers.specs.Outcome.{Outcome, Done, No, handed, IsDone, Hands}
+
+-- a refusal has a number from 1 on
+unfoldable pub Counted : Outcome → Type 0
+Counted (Done numbers) = Unit {0}
+Counted (No n) = 0 < n
+
+zero : (o : Outcome) (r : ℕ) (lent left : List ℕ) → Counted o → r ∷ left ≡ handed o lent → r ≡ 0 → IsDone o
+unfolding Counted handed IsDone
+zero (Done numbers) r lent left h e z = tt
+zero (No n) r lent left h e z = let k : r ≡ n = cc in omega arith
+
+-- y: what the definition says; x: what the crate below answered; out: the numbers that it hands out
+pub hands : {A : Type 0} (out : A → Outcome) {x y : A} {r : ℕ} {lent left : List ℕ}
+    → x ≡ y → Counted (out y) → r ∷ left ≡ handed (out x) lent → Hands (out y) r lent left
+hands out {x} {y} {r} {lent} {left} q h e =
+    let k : r ∷ left ≡ handed (out y) lent = e ∙ ap (λ a. handed (out a) lent) q in
+    record { numbers = k; zero-is-done = zero (out y) r lent left h k }

@@ -1,0 +1,6 @@
+pub mod Handing
+pub mod Promised
+pub mod NeverZeroCodes
+pub mod NeverZeroMaps
+pub mod NeverZeroGroups
+pub mod NeverZeroFilters

@@ -1,0 +1,82 @@
+-- What the crates below promise of their answers, carried over to the numbers that the calls hand out: demand 3 for walk and pick,
+-- and that no walk behind a group aborts.
+-- Assumes nothing.
+use Prim.Native.Nat.{ℕ}
+use mathlib.Core.Path.{_≡_, _∙_, refl, ap, subst}
+use mathlib.Core.Logic.{_⊎_, inl, inr, _≢_}
+use mathlib.Core.List.{List, [], _∷_}
+use native.Mathlib.Omega.{arith}
+use Rattle.asmap_program.specs.declared.Kind.{Kind}
+use Rattle.asmap_program.specs.declared.Kind.the-variants.{Returned, Differed, Aborted}
+use Rattle.asmap_walk.specs.declared.Ending.{Ending}
+use Rattle.asmap_walk.specs.declared.Interpreted.{Interpreted}
+use Rattle.asmap_walk.specs.declared.Interpreted.the-variants.{Ended}
+use Rattle.asmap_walk.specs.Interpret.{walkOf, summary}
+use Rattle.asmap_walk.specs.Promise as walk
+use Rattle.netgroup.specs.declared.GroupAnswer.{GroupAnswer}
+use Rattle.netgroup.specs.declared.GroupAnswer.the-variants as group
+use Rattle.netgroup_pick.specs.declared.PickAnswer.{PickAnswer}
+use Rattle.netgroup_pick.specs.declared.PickAnswer.the-variants as pick
+use Rattle.netgroup_pick.specs.Pick.{Handed}
+use Rattle.netgroup_pick.specs.Pick as below
+use Rattle.answers.specs.Outcome.{handed, IsDone, Hands}
+use Rattle.answers.specs.Maps.{kindNumber, endNumbers, walkMade}
+use Rattle.answers.specs.Groups.{groupFound, totalsOf, pickMade, Picks}
+use Rattle.answers.specs.Promise.{Finished, Demand3}
+use Rattle.answers.proofs.Handing.{Counted, hands}
+
+-- ---- the walk
+
+-- an end that is no abort has the number 1 or 2
+no-abort : (k : Kind) (n : ℕ) → n ≡ kindNumber k → k ≢ Aborted → (n ≡ 1) ⊎ (n ≡ 2)
+no-abort Returned n e h = inl e
+no-abort Differed n e h = inr e
+no-abort Aborted n e h = absurd (h refl)
+
+finished : (m a : List ℕ) (r kind number count bits : ℕ) → walk.Kept m a 128 (summary (walkOf m a 128))
+    → r ∷ kind ∷ number ∷ count ∷ bits ∷ [] ≡ 0 ∷ endNumbers (summary (walkOf m a 128)) → Finished m a r kind number count bits
+finished m a r kind number count bits k e =
+    let w = summary (walkOf m a 128) in
+    let ek : kind ≡ kindNumber (w .kind) = cc in
+    let ec : count ≡ w .count = cc in
+    let eb : bits ≡ w .bits = cc in
+    record { done = cc; exact = cc; ended = no-abort (w .kind) kind ek (k .ended); bounded = omega (arith, k .bounded); most = omega (arith, k .most); kept = k }
+
+pub walk-finished : (m a : List ℕ) (x : Interpreted) (r kind number count bits : ℕ) (lent : List ℕ) → walk.Demand3 m a x
+    → r ∷ kind ∷ number ∷ count ∷ bits ∷ [] ≡ handed (walkMade x) lent → Demand3 m a r kind number count bits
+unfolding handed walkMade
+walk-finished m a x r kind number count bits lent p e c d h l =
+    let t = p c d h l in
+    let k = t .2 .0 in
+    let q : x ≡ Ended (summary (walkOf m a 128)) = t .1 ∙ ap Ended (k .exact) in
+    finished m a r kind number count bits (subst (walk.Kept m a 128) (k .exact) k) (rw q at e)
+
+-- ---- groups and pick: where the answer is 0, what was found is in the lent numbers at exit
+
+pub found : (x : GroupAnswer) {r g : ℕ} {lent : List ℕ} → Hands (groupFound x) r lent (g ∷ []) → r ≡ 0 → x ≡ group.Group g
+unfolding handed IsDone groupFound
+found (group.Group g′) h z = let e = h .numbers in cc
+found (group.Refused n) h z = absurd (h .zero-is-done z)
+
+pub picked : (x : PickAnswer) {r total first examined instructions : ℕ} {lent : List ℕ}
+    → Hands (pickMade x) r lent (total ∷ first ∷ examined ∷ instructions ∷ []) → r ≡ 0 → x ≡ pick.Picked (totalsOf total first examined instructions)
+unfolding handed IsDone pickMade
+picked (pick.Picked t) {r} {total} {first} {examined} {instructions} h z =
+    let e = h .numbers in
+    let e0 : t .total ≡ total = cc in
+    let e1 : t .first ≡ first = cc in
+    let e2 : t .examined ≡ examined = cc in
+    let e3 : t .instructions ≡ instructions = cc in
+    rw (← e0, ← e1, ← e2, ← e3)
+picked (pick.Refused n) h z = absurd (h .zero-is-done z)
+
+-- x: what the pick below answered, with its outputs at exit; h: what its definition says
+pub picks : (h : Handed) (x : PickAnswer) {ps gs : List ℕ} {r : ℕ} {lent left : List ℕ} → below.handed x ps gs ≡ h → Counted (pickMade (h .answer))
+    → r ∷ left ≡ handed (pickMade x) lent → Picks h r lent left ps gs
+picks h x e k q =
+    record { hands = hands pickMade (ap (λ (p : Handed). p .answer) e) k q; picks-left = ap (λ (p : Handed). p .picks) e; groups-left = ap (λ (p : Handed). p .groups) e }
+
+-- what holds of the answer below holds of the numbers at exit
+pub carried : (P : PickAnswer → Type 0) {h : Handed} {x : PickAnswer} {ps gs : List ℕ} {r total first examined instructions : ℕ} {lent : List ℕ}
+    → below.handed x ps gs ≡ h → Picks h r lent (total ∷ first ∷ examined ∷ instructions ∷ []) ps gs → P x → r ≡ 0 → P (pick.Picked (totalsOf total first examined instructions))
+carried P {h} e p d z = subst P (ap (λ (q : Handed). q .answer) e ∙ picked (h .answer) (p .hands) z) d

@@ -1,0 +1,26 @@
+-- Demand 3 for the walk, in the numbers that its call hands out.
+-- Assumes nothing.
+use Prim.Native.Nat.{ℕ, _+_, _*_, _≤_}
+use mathlib.Core.Path.{_≡_}
+use mathlib.Core.Logic.{_⊎_}
+use mathlib.Core.List.{List, [], _∷_}
+use lib.ListN.{length}
+use Rattle.asmap_program.specs.declared.Verdict.the-variants.{Accepted}
+use Rattle.asmap_check.specs.Check.{checkOf}
+use Rattle.asmap_walk.specs.Interpret.{walkOf, summary}
+use Rattle.asmap_walk.specs.Promise.{Kept}
+use Rattle.answers.specs.Maps.{endNumbers}
+
+-- The walk of the map m by the address a was made, and came to the end of the defined walk: at a RETURN, 1, or at a difference, 2,
+-- never an abort; within so many instructions. `kept` says the rest of that end, as that each instruction read is in the unpacked list.
+pub record Finished (m a : List ℕ) (r kind number count bits : ℕ) : Type 0 where
+  pub done : r ≡ 0
+  pub exact : kind ∷ number ∷ count ∷ bits ∷ [] ≡ endNumbers (summary (walkOf m a 128))
+  pub ended : (kind ≡ 1) ⊎ (kind ≡ 2)
+  pub bounded : count ≤ 2 * bits + 1
+  pub most : count ≤ 257
+  pub kept : Kept m a 128 (summary (walkOf m a 128))
+
+-- so it is wherever the check accepts the map, for every address of 16 bytes
+abbrev pub Demand3 : List ℕ → List ℕ → ℕ → ℕ → ℕ → ℕ → ℕ → Type 0
+Demand3 m a r kind number count bits = (c d : ℕ) → checkOf m 128 ≡ Accepted c d → length a ≡ 16 → Finished m a r kind number count bits

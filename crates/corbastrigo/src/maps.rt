@@ -1,0 +1,59 @@
+// Check, walk, unpack and pack (document 01, Check, Walk, Unpack and pack).
+ghost use mathlib.Core.List.{_∷_, []};
+ghost use Rattle.asmap_check.specs.Check.{checkOf};
+ghost use Rattle.asmap_walk.specs.Interpret.{interpretOf};
+ghost use Rattle.asmap_records.specs.Unpack.{unpackOf};
+ghost use Rattle.asmap_records.specs.Pack.{packOf};
+ghost use Rattle.answers.specs.Outcome.{Hands};
+ghost use Rattle.answers.specs.Maps.{mapChecked, walkMade, Writes};
+ghost use Rattle.answers.specs.Promise.{Demand3};
+use answers::maps::hand_bytes;
+use answers::maps::hand_verdict;
+use answers::maps::hand_walk;
+
+// Checks a map. 0 says that it is accepted, with its instructions counted and the most jumps open at once. Refusals 1 to 10.
+#[no_mangle]
+pub extern "C" fn corbastrigo_sanity_check(map: &[u8], count: &mut u32, depth: &mut u8) -> u8
+    ensures { λ r. ⌜ Hands (mapChecked (checkOf (now (map .entry)) 128)) r (now (count .entry) ∷ now (depth .entry) ∷ []) (now (count .exit) ∷ now (depth .exit) ∷ []) ⌝ }
+{
+    hand_verdict(asmap_check::sanity_check(map), count, depth)
+}
+
+// Walks any map by an address of 16 bytes. `kind` is 1 where the walk ended at a RETURN, 2 at a MATCH that differs, 3 where it
+// aborted: the number 0 alone does not tell. Refusals 11, 1.
+#[no_mangle]
+pub extern "C" fn corbastrigo_interpret(
+    map: &[u8],
+    address: &[u8],
+    kind: &mut u8,
+    number: &mut u32,
+    count: &mut u32,
+    bits: &mut u8,
+) -> u8
+    ensures { λ r. ⌜ Hands (walkMade (interpretOf (now (map .entry)) (now (address .entry)))) r (now (kind .entry) ∷ now (number .entry) ∷ now (count .entry) ∷ now (bits .entry) ∷ []) (now (kind .exit) ∷ now (number .exit) ∷ now (count .exit) ∷ now (bits .exit) ∷ []) ⌝ }
+    ensures demand3 { λ r. ⌜ Demand3 (now (map .entry)) (now (address .entry)) r (now (kind .exit)) (now (number .exit)) (now (count .exit)) (now (bits .exit)) ⌝ }
+{
+    hand_walk(
+        asmap_walk::interpret(map, address),
+        kind,
+        number,
+        count,
+        bits,
+    )
+}
+
+// Unpacks a map that the check accepts into records of 16 bytes. Refusals: the check's, 1 to 10, then 14.
+#[no_mangle]
+pub extern "C" fn corbastrigo_unpack(map: &[u8], out: &mut [u8], written: &mut usize) -> u8
+    ensures { λ r. ⌜ Writes (unpackOf (now (map .entry)) 128) (now (out .entry)) (now (out .exit)) r (now (written .entry) ∷ []) (now (written .exit) ∷ []) ⌝ }
+{
+    hand_bytes(asmap_unpack::unpack(map, out), written)
+}
+
+// Packs records into a map's bytes, and checks nothing of the map. Refusals 16, 15, 1, 14.
+#[no_mangle]
+pub extern "C" fn corbastrigo_pack(records: &[u8], out: &mut [u8], written: &mut usize) -> u8
+    ensures { λ r. ⌜ Writes (packOf (now (records .entry))) (now (out .entry)) (now (out .exit)) r (now (written .entry) ∷ []) (now (written .exit) ∷ []) ⌝ }
+{
+    hand_bytes(asmap_pack::pack(records, out), written)
+}
