@@ -1,0 +1,253 @@
+/* Every call of the header once done and once refused, from C. Exits with 1 where an answer differs from the one written here. */
+#include "../include/corbastrigo.h"
+#include <stdio.h>
+#include <string.h>
+
+static int checks, failures;
+
+static void expect(uint64_t got, uint64_t wanted, const char *what, int line) {
+    checks++;
+    if (got != wanted) {
+        failures++;
+        printf("ctest/calls.c:%d: %s is %llu, not %llu\n", line, what, (unsigned long long)got, (unsigned long long)wanted);
+    }
+}
+
+#define IS(got, wanted) expect((uint64_t)(got), (uint64_t)(wanted), #got, __LINE__)
+
+/* What lent numbers hold before a call: a refused call leaves it. */
+#define BEFORE 77
+
+/* 1.2.0.0/16 is sent to 1, 3.4.0.0/16 to 2. */
+static const uint8_t two_prefixes[35] = {0xfb, 0x03, 0xec, 0x0f, 0xb0, 0x3f, 0xc0, 0xfe, 0x00, 0xfb, 0x03, 0xec,
+                                         0x0f, 0xb0, 0x3f, 0xc0, 0xfe, 0x00, 0xfb, 0x03, 0xec, 0x0f, 0xb0, 0xff,
+                                         0xff, 0xfe, 0xff, 0xfb, 0x80, 0x00, 0x00, 0x00, 0x00, 0x00, 0x01};
+static const uint8_t lone_return[3] = {0, 0, 0};
+static const uint8_t lone_jump[1] = {1};
+static const uint8_t none[1] = {0};
+
+/* One byte over the limit. */
+static uint8_t too_long[CORBASTRIGO_MAX_MAP_BYTES + 1];
+
+static void mapped(uint8_t *address, uint8_t a, uint8_t b, uint8_t c, uint8_t d) {
+    const uint8_t bytes[16] = {0, 0, 0, 0, 0, 0, 0, 0, 0, 0, 0xff, 0xff, a, b, c, d};
+    memcpy(address, bytes, 16);
+}
+
+static void candidate(uint8_t *bytes, uint8_t a, uint8_t b, uint8_t c, uint8_t d) {
+    bytes[0] = 4;
+    bytes[1] = 0;
+    mapped(bytes + 2, a, b, c, d);
+    bytes[18] = 0x20;
+    bytes[19] = 0x8d;
+}
+
+typedef uint8_t decode(const uint8_t *, size_t, size_t, uint32_t *, size_t *);
+typedef uint8_t encode(uint32_t, uint64_t *, size_t *);
+
+/* A row: its least value is written, read again, read where it is cut, and a number below or above the row is refused. */
+static void row(decode *reads, encode *writes, uint32_t least, size_t len, uint32_t outside) {
+    uint32_t value = BEFORE;
+    size_t next = BEFORE, length = BEFORE;
+    uint64_t bits = BEFORE;
+    uint8_t bytes[8];
+    IS(writes(outside, &bits, &length), CORBASTRIGO_OUT_OF_RANGE);
+    IS(bits, BEFORE);
+    IS(length, BEFORE);
+    IS(writes(least, &bits, &length), 0);
+    IS(length, len);
+    for (int i = 0; i < 8; i++)
+        bytes[i] = (uint8_t)(bits >> (8 * i));
+    IS(reads(bytes, 0, 0, &value, &next), CORBASTRIGO_CUT);
+    IS(reads(bytes, 8, 64, &value, &next), CORBASTRIGO_CUT);
+    IS(reads(bytes, 8, SIZE_MAX, &value, &next), CORBASTRIGO_CUT);
+    IS(reads(too_long, sizeof too_long, 0, &value, &next), CORBASTRIGO_MAP_TOO_LONG);
+    IS(value, BEFORE);
+    IS(next, BEFORE);
+    IS(reads(bytes, 8, 0, &value, &next), 0);
+    IS(value, least);
+    IS(next, len);
+}
+
+static void codes(void) {
+    uint32_t opcode = BEFORE, operand = BEFORE;
+    size_t size = BEFORE, length = BEFORE;
+    uint64_t bits = BEFORE;
+    row(corbastrigo_decode_type, corbastrigo_encode_type, 0, 1, 4);
+    row(corbastrigo_decode_asn, corbastrigo_encode_asn, 1, 16, 0);
+    row(corbastrigo_decode_match, corbastrigo_encode_match, 2, 2, 512);
+    row(corbastrigo_decode_jump, corbastrigo_encode_jump, 17, 6, 16);
+    IS(corbastrigo_decode_instruction(lone_jump, 1, 1, &opcode, &operand, &size), CORBASTRIGO_CUT);
+    IS(corbastrigo_decode_instruction(too_long, sizeof too_long, 0, &opcode, &operand, &size), CORBASTRIGO_MAP_TOO_LONG);
+    IS(opcode, BEFORE);
+    IS(operand, BEFORE);
+    IS(size, BEFORE);
+    IS(corbastrigo_decode_instruction(lone_jump, 1, 0, &opcode, &operand, &size), 0);
+    IS(opcode, CORBASTRIGO_JUMP);
+    IS(operand, 17);
+    IS(size, 8);
+    IS(corbastrigo_encode_instruction(CORBASTRIGO_JUMP, 16, &bits, &length), CORBASTRIGO_OUT_OF_RANGE);
+    IS(corbastrigo_encode_instruction(4, 17, &bits, &length), CORBASTRIGO_OUT_OF_RANGE);
+    IS(bits, BEFORE);
+    IS(length, BEFORE);
+    IS(corbastrigo_encode_instruction(CORBASTRIGO_JUMP, 17, &bits, &length), 0);
+    IS(bits, 1);
+    IS(length, 8);
+}
+
+static void check(void) {
+    uint32_t count = BEFORE;
+    uint8_t depth = BEFORE;
+    IS(corbastrigo_sanity_check(none, 0, &count, &depth), CORBASTRIGO_MAP_ENDS);
+    IS(corbastrigo_sanity_check(two_prefixes, 34, &count, &depth), CORBASTRIGO_CUT);
+    IS(corbastrigo_sanity_check(too_long, sizeof too_long, &count, &depth), CORBASTRIGO_MAP_TOO_LONG);
+    IS(count, BEFORE);
+    IS(depth, BEFORE);
+    IS(corbastrigo_sanity_check(two_prefixes, 35, &count, &depth), 0);
+    IS(count, 16);
+    IS(depth, 1);
+    IS(corbastrigo_sanity_check(lone_return, 3, &count, &depth), 0);
+    IS(count, 1);
+    IS(depth, 0);
+}
+
+static void walk(void) {
+    uint8_t address[16], kind = BEFORE, bits = BEFORE;
+    uint32_t number = BEFORE, count = BEFORE;
+    mapped(address, 3, 4, 0, 0);
+    IS(corbastrigo_interpret(two_prefixes, 35, address, 15, &kind, &number, &count, &bits), CORBASTRIGO_ADDRESS_LENGTH);
+    IS(corbastrigo_interpret(too_long, sizeof too_long, address, 16, &kind, &number, &count, &bits), CORBASTRIGO_MAP_TOO_LONG);
+    IS(kind == BEFORE && number == BEFORE && count == BEFORE && bits == BEFORE, 1);
+    IS(corbastrigo_interpret(two_prefixes, 35, address, 16, &kind, &number, &count, &bits), 0);
+    IS(kind, CORBASTRIGO_RETURNED);
+    IS(number, 2);
+    IS(count, 15);
+    IS(bits, 103);
+    mapped(address, 8, 8, 8, 8);
+    IS(corbastrigo_interpret(two_prefixes, 35, address, 16, &kind, &number, &count, &bits), 0);
+    IS(kind, CORBASTRIGO_DIFFERED);
+    IS(number, 0);
+    IS(count, 13);
+    IS(bits, 101);
+    IS(corbastrigo_interpret(lone_jump, 1, address, 16, &kind, &number, &count, &bits), 0);
+    IS(kind, CORBASTRIGO_ABORTED);
+    IS(number, 0);
+    IS(count, 1);
+    IS(bits, 1);
+}
+
+static void records(void) {
+    uint8_t list[256], bytes[35];
+    size_t written = BEFORE;
+    memset(list, BEFORE, sizeof list);
+    memset(bytes, BEFORE, sizeof bytes);
+    IS(corbastrigo_unpack(lone_jump, 1, list, sizeof list, &written), CORBASTRIGO_MAP_ENDS);
+    IS(corbastrigo_unpack(two_prefixes, 35, list, 255, &written), CORBASTRIGO_OUTPUT_TOO_SHORT);
+    IS(list[0], BEFORE);
+    IS(written, BEFORE);
+    IS(corbastrigo_unpack(two_prefixes, 35, list, 256, &written), 0);
+    IS(written, 256);
+    IS(list[0], CORBASTRIGO_MATCH);
+    written = BEFORE;
+    IS(corbastrigo_pack(list, 255, bytes, 35, &written), CORBASTRIGO_RECORD);
+    IS(corbastrigo_pack(list, 256, bytes, 34, &written), CORBASTRIGO_OUTPUT_TOO_SHORT);
+    list[0] = 4;
+    IS(corbastrigo_pack(list, 256, bytes, 35, &written), CORBASTRIGO_OUT_OF_RANGE);
+    list[0] = CORBASTRIGO_MATCH;
+    IS(bytes[0], BEFORE);
+    IS(written, BEFORE);
+    IS(corbastrigo_pack(list, 256, bytes, 35, &written), 0);
+    IS(written, 35);
+    IS(memcmp(bytes, two_prefixes, 35), 0);
+}
+
+static void groups(void) {
+    uint8_t peer[20];
+    uint64_t group = BEFORE;
+    candidate(peer, 3, 4, 5, 6);
+    IS(corbastrigo_prefix_group(peer, 19, &group), CORBASTRIGO_CANDIDATE);
+    IS(corbastrigo_netgroup(peer, 21, 0, none, 0, &group), CORBASTRIGO_CANDIDATE);
+    IS(corbastrigo_netgroup(peer, 20, 1, lone_jump, 1, &group), CORBASTRIGO_MAP_ENDS);
+    IS(corbastrigo_netgroup_unchecked(peer, 20, 1, too_long, sizeof too_long, &group), CORBASTRIGO_MAP_TOO_LONG);
+    IS(group, BEFORE);
+    IS(corbastrigo_netgroup_unchecked(peer, 20, 1, lone_jump, 1, &group), 0);
+    IS(group, 0);
+    IS(corbastrigo_prefix_group(peer, 20, &group), 0);
+    IS(group, 772);
+    IS(corbastrigo_netgroup(peer, 20, 1, two_prefixes, 35, &group), 0);
+    IS(group, 2);
+    IS(corbastrigo_netgroup(peer, 20, 0, two_prefixes, 35, &group), 0);
+    IS(group, 772);
+    IS(corbastrigo_netgroup_unchecked(peer, 20, 255, two_prefixes, 35, &group), 0);
+    IS(group, 2);
+}
+
+typedef uint8_t select(const uint8_t *, size_t, const uint64_t *, size_t, size_t, uint8_t, const uint8_t *, size_t, uint16_t *,
+                       size_t, uint64_t *, size_t, size_t *, size_t *, size_t *, uint64_t *);
+
+/* Four peers, two of group 2, one of 1, one of 0; group 0 is occupied, so the last is a fill. */
+static void pick(select *call, uint8_t of_a_refused_map) {
+    uint8_t peers[80];
+    const uint64_t occupied[1] = {0};
+    uint16_t places[4] = {BEFORE, BEFORE, BEFORE, BEFORE};
+    uint64_t taken[4] = {BEFORE, BEFORE, BEFORE, BEFORE}, instructions = BEFORE;
+    size_t total = BEFORE, first = BEFORE, examined = BEFORE;
+    candidate(peers, 8, 8, 8, 8);
+    candidate(peers + 20, 3, 4, 0, 1);
+    candidate(peers + 40, 3, 4, 0, 2);
+    candidate(peers + 60, 1, 2, 0, 1);
+#define PICK(bytes, room, map, map_len)                                                                                                \
+    call(peers, bytes, occupied, 1, 3, 1, map, map_len, places, room, taken, room, &total, &first, &examined, &instructions)
+    IS(PICK(79, 4, two_prefixes, 35), CORBASTRIGO_CANDIDATE);
+    IS(PICK(80, 2, two_prefixes, 35), CORBASTRIGO_OUTPUT_TOO_SHORT);
+    IS(PICK(80, 4, too_long, sizeof too_long), CORBASTRIGO_MAP_TOO_LONG);
+    IS(places[0] == BEFORE && taken[0] == BEFORE && total == BEFORE && first == BEFORE, 1);
+    IS(examined == BEFORE && instructions == BEFORE, 1);
+    IS(PICK(80, 4, two_prefixes, 35), 0);
+    IS(total, 3);
+    IS(first, 2);
+    IS(examined, 4);
+    IS(instructions, 13 + 15 + 15 + 15);
+    IS(places[0], 1);
+    IS(places[1], 3);
+    IS(places[2], 0);
+    IS(places[3], BEFORE);
+    IS(taken[0], 2);
+    IS(taken[1], 1);
+    IS(taken[2], BEFORE);
+    IS(PICK(80, 4, lone_jump, 1), of_a_refused_map);
+#undef PICK
+}
+
+static void filters(void) {
+    uint8_t address[16], answer = BEFORE;
+    mapped(address, 10, 0, 0, 1);
+    IS(corbastrigo_clearnet_unroutable(address, 4, &answer), CORBASTRIGO_ADDRESS_LENGTH);
+    IS(corbastrigo_addrv2_skip_relay(1, address, 16, 8333, &answer), CORBASTRIGO_RELAY_LENGTH);
+    IS(answer, BEFORE);
+    IS(corbastrigo_clearnet_unroutable(address, 16, &answer), 0);
+    IS(answer, 1);
+    IS(corbastrigo_addrv2_skip_relay(1, address + 12, 4, 8333, &answer), 0);
+    IS(answer, 1);
+    mapped(address, 11, 0, 0, 1);
+    IS(corbastrigo_clearnet_unroutable(address, 16, &answer), 0);
+    IS(answer, 0);
+    answer = BEFORE;
+    IS(corbastrigo_addrv2_skip_relay(1, address + 12, 4, 8333, &answer), 0);
+    IS(answer, 0);
+    IS(corbastrigo_addrv2_skip_relay(1, address + 12, 4, 0, &answer), 0);
+    IS(answer, 1);
+}
+
+int main(void) {
+    codes();
+    check();
+    walk();
+    records();
+    groups();
+    pick(corbastrigo_select_diverse, CORBASTRIGO_MAP_ENDS);
+    pick(corbastrigo_select_diverse_unchecked, 0);
+    filters();
+    printf("calls from C: %d answers, %d wrong\n", checks, failures);
+    return failures != 0;
+}
