@@ -1,0 +1,30 @@
+//! Bitcoin's address map (asmap), peer groups and address filters: a safe crate over the calls of libcorbastrigo.a, each of which is
+//! proved to meet its contract for every input.
+//!
+//! The names that a node calls are those of rbitcoin: [`AsMap`], [`netgroup()`], [`select_diverse`], [`prefix_group`],
+//! [`clearnet_unroutable`], [`addrv2_skip_relay`]. Beside them stands what is new: [`sanity_check`] with its reason, count and depth,
+//! [`interpret`] with its kind of end and counts, [`unpack`], [`pack`] and the [`codes`].
+//!
+//! Nothing here panics or allocates more than a fixed multiple of what it is given.
+//!
+//! Two things to know before reading numbers. The number 0 is not "unmapped": a walk that aborts has it, and so has one that differs
+//! before it met a DEFAULT; [`Walk::end`] tells. And some addresses that come out right say nothing of a map: no map that
+//! [`sanity_check`] accepts can abort a walk, and nothing is promised of any other.
+pub mod codes;
+mod map;
+mod netaddr;
+mod netgroup;
+mod records;
+mod refusal;
+
+pub use map::{interpret, ip16_for_lookup, sanity_check, AsMap, Check, End, Walk};
+pub use netaddr::{addrv2_skip_relay, clearnet_unroutable};
+pub use netgroup::{netgroup, pick, prefix_group, select_diverse, Candidate, Pick};
+pub use records::{instructions, pack, pack_into, unpack, unpack_into, Instruction, RECORD_BYTES};
+pub use refusal::Refusal;
+
+/// The most bytes of a map; one more is refused, 1.
+pub const MAX_MAP_BYTES: usize = 16_777_216;
+
+/// The most candidates of a pick, and the most occupied groups; one more is refused, 12.
+pub const MAX_CANDIDATES: usize = 4_096;

@@ -1,0 +1,102 @@
+use crate::{ip16_for_lookup, AsMap, Refusal, MAX_CANDIDATES};
+use corbastrigo_sys as sys;
+use std::collections::HashSet;
+use std::net::{IpAddr, SocketAddr};
+
+/// A candidate as the calls take it: family 4 or 6, a zero, 16 address bytes, the port big-endian.
+pub type Candidate = [u8; 20];
+
+fn candidate(addr: SocketAddr) -> Candidate {
+    let mut bytes = [0; 20];
+    bytes[0] = if addr.is_ipv4() { 4 } else { 6 };
+    bytes[2..18].copy_from_slice(&ip16_for_lookup(addr.ip()));
+    bytes[18..].copy_from_slice(&addr.port().to_be_bytes());
+    bytes
+}
+
+/// The map as the calls take it: whether there is one, and its bytes.
+fn map_or_none(asmap: Option<&AsMap>) -> (u8, &[u8]) {
+    match asmap {
+        Some(map) => (1, map.as_bytes()),
+        None => (0, &[]),
+    }
+}
+
+/// The group of an address: with a map the number that it is sent to, without one its prefix. An [`AsMap`] was checked when it was made
+/// and is not checked again.
+pub fn netgroup(addr: SocketAddr, asmap: Option<&AsMap>) -> u64 {
+    let bytes = candidate(addr);
+    let (has_map, map) = map_or_none(asmap);
+    let mut group = 0;
+    // The candidate is well formed and the map within the limit, so nothing is left to refuse.
+    unsafe { sys::corbastrigo_netgroup_unchecked(bytes.as_ptr(), bytes.len(), has_map, map.as_ptr(), map.len(), &mut group) };
+    group
+}
+
+/// The group without a map: the first two bytes of an IPv4 address, the first four of an IPv6 address.
+pub fn prefix_group(ip: IpAddr) -> u64 {
+    let bytes = candidate(SocketAddr::new(ip, 0));
+    let mut group = 0;
+    unsafe { sys::corbastrigo_prefix_group(bytes.as_ptr(), bytes.len(), &mut group) };
+    group
+}
+
+/// A pick of peers.
+#[derive(Clone, Debug, PartialEq, Eq)]
+pub struct Pick {
+    /// The places of the picks in the ranked list, in the order in which they were taken.
+    pub places: Vec<u16>,
+    /// The groups of the first pass's picks, which stand first.
+    pub groups: Vec<u64>,
+    /// The candidates whose group was looked up.
+    pub examined: usize,
+    /// The instructions of their walks, 0 without a map.
+    pub instructions: u64,
+}
+
+/// Picks up to `max` places of a ranked list: first, in order, each whose group is neither occupied nor taken; then, in order, those
+/// unequal to every pick. Refusal 12 over 4,096 candidates or occupied groups.
+pub fn pick(ranked: &[SocketAddr], max: usize, occupied_groups: &HashSet<u64>, asmap: Option<&AsMap>) -> Result<Pick, Refusal> {
+    // One past the limit is enough for the refusal.
+    let candidates: Vec<u8> = ranked.iter().take(MAX_CANDIDATES + 1).flat_map(|&addr| candidate(addr)).collect();
+    let occupied: Vec<u64> = occupied_groups.iter().copied().take(MAX_CANDIDATES + 1).collect();
+    let (has_map, map) = map_or_none(asmap);
+    let room = max.min(ranked.len()).min(MAX_CANDIDATES);
+    let (mut places, mut groups) = (vec![0; room], vec![0; room]);
+    let (mut total, mut first, mut examined, mut instructions) = (0, 0, 0, 0);
+    let answer = unsafe {
+        sys::corbastrigo_select_diverse_unchecked(
+            candidates.as_ptr(),
+            candidates.len(),
+            occupied.as_ptr(),
+            occupied.len(),
+            max,
+            has_map,
+            map.as_ptr(),
+            map.len(),
+            places.as_mut_ptr(),
+            places.len(),
+            groups.as_mut_ptr(),
+            groups.len(),
+            &mut total,
+            &mut first,
+            &mut examined,
+            &mut instructions,
+        )
+    };
+    Refusal::check(answer)?;
+    places.truncate(total);
+    groups.truncate(first);
+    Ok(Pick { places, groups, examined, instructions })
+}
+
+/// The picked addresses of [`pick`], by the map's groups or, without a map, by prefixes.
+pub fn select_diverse(
+    ranked: &[SocketAddr],
+    max: usize,
+    occupied_groups: &HashSet<u64>,
+    asmap: Option<&AsMap>,
+) -> Result<Vec<SocketAddr>, Refusal> {
+    let picked = pick(ranked, max, occupied_groups, asmap)?;
+    Ok(picked.places.iter().map(|&place| ranked[usize::from(place)]).collect())
+}

@@ -1,0 +1,73 @@
+use crate::{sanity_check, Refusal, MAX_MAP_BYTES};
+use corbastrigo_sys as sys;
+
+/// The bytes of a record: opcode, three zeros, operand, place, length in bits, each number of four bytes little-endian.
+pub const RECORD_BYTES: usize = 16;
+
+/// The most bits of an instruction.
+const MOST_BITS: usize = 57;
+
+/// An instruction of a map.
+#[derive(Clone, Copy, Debug, PartialEq, Eq)]
+pub struct Instruction {
+    pub opcode: u32,
+    pub operand: u32,
+    /// The bit of the map at which it starts.
+    pub place: u32,
+    /// Its length in bits.
+    pub size: u32,
+}
+
+/// The instructions that records list, whole records only.
+pub fn instructions(records: &[u8]) -> impl Iterator<Item = Instruction> + '_ {
+    let number = |record: &[u8], at: usize| u32::from_le_bytes([record[at], record[at + 1], record[at + 2], record[at + 3]]);
+    records.chunks_exact(RECORD_BYTES).map(move |record| Instruction {
+        opcode: number(record, 0),
+        operand: number(record, 4),
+        place: number(record, 8),
+        size: number(record, 12),
+    })
+}
+
+/// Lists an accepted map's instructions in order, as records. The bytes written, or the check's reason, or 14. Bytes past what is
+/// written remain.
+pub fn unpack_into(map: &[u8], out: &mut [u8]) -> Result<usize, Refusal> {
+    let mut written = 0;
+    let answer = unsafe { sys::corbastrigo_unpack(map.as_ptr(), map.len(), out.as_mut_ptr(), out.len(), &mut written) };
+    Refusal::check(answer)?;
+    Ok(written)
+}
+
+/// Packs records into a map's bytes. The bytes written, or 16, 15, 1, 14. No check is run. Bytes past what is written remain.
+pub fn pack_into(records: &[u8], out: &mut [u8]) -> Result<usize, Refusal> {
+    let mut written = 0;
+    let answer = unsafe { sys::corbastrigo_pack(records.as_ptr(), records.len(), out.as_mut_ptr(), out.len(), &mut written) };
+    Refusal::check(answer)?;
+    Ok(written)
+}
+
+/// An output of so many bytes; 14 where there is no memory for it.
+fn room(bytes: usize) -> Result<Vec<u8>, Refusal> {
+    let mut out = Vec::new();
+    out.try_reserve_exact(bytes).map_err(|_| Refusal::OUTPUT_TOO_SHORT)?;
+    out.resize(bytes, 0);
+    Ok(out)
+}
+
+/// The records of an accepted map, or the check's reason. A map of n bytes has at most 8n / 5 instructions.
+pub fn unpack(map: &[u8]) -> Result<Vec<u8>, Refusal> {
+    let check = sanity_check(map)?;
+    let mut out = room(check.count as usize * RECORD_BYTES)?;
+    let written = unpack_into(map, &mut out)?;
+    out.truncate(written);
+    Ok(out)
+}
+
+/// The bytes of a map that records make, or 16, 15, 1.
+pub fn pack(records: &[u8]) -> Result<Vec<u8>, Refusal> {
+    let most = (records.len() / RECORD_BYTES).saturating_mul(MOST_BITS).div_ceil(8);
+    let mut out = room(most.min(MAX_MAP_BYTES))?;
+    let written = pack_into(records, &mut out)?;
+    out.truncate(written);
+    Ok(out)
+}
