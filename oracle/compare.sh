@@ -1,6 +1,7 @@
 #!/bin/sh
 # Compiles the original, unchanged, runs it on the cases of each program of src/bin, and compares what it prints with the
-# answers that the Rattle program of that name must print (crates/NAME/stdout). With --write the answers are written anew.
+# answers that the Rattle program of that name must print (crates/NAME/stdout) and, where that program reads a list of answers,
+# with the list (crates/NAME/stdin). With --write answers and lists are written anew.
 # Skipped, with a message, where the folder of the original or cargo is missing: the answers are stored.
 cd "$(dirname "$0")" || exit 2
 original=../../shared/docs/src/crates/rbitcoin-net/src
@@ -16,22 +17,32 @@ CARGO_TARGET_DIR=$(cd .. && pwd)/target/oracle
 export CARGO_TARGET_DIR
 cargo build --quiet --offline || exit 1
 failed=0
-for source in src/bin/*.rs; do
-    name=$(basename "$source" .rs)
-    answers=../crates/$name/stdout
-    made=$CARGO_TARGET_DIR/$name.out
-    if ! "$CARGO_TARGET_DIR/debug/$name" > "$made"; then
+
+# compare PROGRAM FILE WORD...: what the program prints, handed the words, against the stored file of crates/PROGRAM.
+write=${1:-}
+compare() {
+    name=$1
+    answers=../crates/$1/$2
+    made=$CARGO_TARGET_DIR/$1.$2
+    shift 2
+    if ! "$CARGO_TARGET_DIR/debug/$name" "$@" > "$made"; then
         echo "oracle: $name stopped with an error"
         failed=1
-    elif [ "${1:-}" = --write ]; then
+    elif [ "$write" = --write ]; then
         cp "$made" "$answers"
-        echo "oracle: $name written ($(wc -l < "$answers") lines)"
+        echo "oracle: ${answers#../} written ($(wc -l < "$answers") lines)"
     elif cmp -s "$made" "$answers"; then
-        echo "oracle: $name agrees ($(wc -l < "$answers") lines)"
+        echo "oracle: ${answers#../} agrees ($(wc -l < "$answers") lines)"
     else
-        echo "oracle: $name differs:"
+        echo "oracle: ${answers#../} differs:"
         diff "$answers" "$made" | head -n 20
         failed=1
     fi
+}
+
+for source in src/bin/*.rs; do
+    name=$(basename "$source" .rs)
+    compare "$name" stdout
+    [ ! -f "../crates/$name/stdin" ] || compare "$name" stdin --list
 done
 exit "$failed"

@@ -1,0 +1,60 @@
+-- `put_places` is safe and ends.
+-- Assumes nothing.
+use borrow.Author.Needs.{needs}
+use Prim.Native.Nat.{_-_}
+use lib.ListN.{length}
+use Rattle.replay_vectors.proofs.put_places.Statement.{statement}
+use Rattle.replay_vectors.proofs.put_places.Tie as tie
+
+abbrev Inv-loop : tie.InvT-loop
+Inv-loop places count out₀ i₀ out i = Unit {0}
+
+abbrev μ-loop : tie.MeasureT-loop
+μ-loop places count out₀ i₀ out i = length places - i
+
+loop-holds : tie.Need-loop-holds Inv-loop μ-loop
+loop-holds c = search needs
+
+mul-wide-place : tie.Need-mul-wide-place Inv-loop μ-loop
+mul-wide-place c = search needs
+
+shared-slice-read-wide-place : tie.Need-shared-slice-read-wide-place Inv-loop μ-loop
+shared-slice-read-wide-place c = search needs
+
+wide-place-requires : tie.Need-wide-place-requires Inv-loop μ-loop
+wide-place-requires c κs = search needs
+
+number-requires : tie.Need-number-requires Inv-loop μ-loop
+number-requires c κs = search needs
+
+add-i : tie.Need-add-i Inv-loop μ-loop
+add-i c = search needs
+
+loop-less : tie.Need-loop-less Inv-loop μ-loop
+loop-less c = search needs
+
+loop-again : tie.Need-loop-again Inv-loop μ-loop
+loop-again c = search needs
+
+returns : tie.Need-returns Inv-loop μ-loop
+returns c = search needs
+
+returns-2 : tie.Need-returns-2 Inv-loop μ-loop
+returns-2 c = search needs
+
+pub put-places-spec : {M : Type 1} → statement M
+put-places-spec =
+    tie.close
+    (tie.spec
+    Inv-loop
+    μ-loop
+    loop-holds
+    mul-wide-place
+    shared-slice-read-wide-place
+    wide-place-requires
+    number-requires
+    add-i
+    loop-less
+    loop-again
+    returns
+    returns-2)
