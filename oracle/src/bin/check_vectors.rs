@@ -44,9 +44,7 @@ fn show_text(name: &str, text: &str) {
 
 /// So many jumps, each in the first half of the one before.
 fn nested(n: usize) -> Vec<bool> {
-    (0..n).fold(bits("R1"), |inner, _| {
-        [instruction(JUMP, inner.len() as u32), inner, bits("R1")].concat()
-    })
+    (0..n).fold(bits("R1"), |inner, _| [instruction(JUMP, inner.len() as u32), inner, bits("R1")].concat())
 }
 
 fn main() {
@@ -56,8 +54,22 @@ fn main() {
     show("00 00 00", &bytes("00 00 00"));
     show("no bytes", &[]);
     for hex in [
-        "01", "01 fb 03 00", "fb", "07 00 00", "00 00 02", "00 00 00 00", "fd 71 3a 00 00", "01 01", "63 00 00 00", "01 e3 00 00",
-        "07 00 38", "63", "11 01", "91 01", "81 fb 03 00", "c1 fb 03 00",
+        "01",
+        "01 fb 03 00",
+        "fb",
+        "07 00 00",
+        "00 00 02",
+        "00 00 00 00",
+        "fd 71 3a 00 00",
+        "01 01",
+        "63 00 00 00",
+        "01 e3 00 00",
+        "07 00 38",
+        "63",
+        "11 01",
+        "91 01",
+        "81 fb 03 00",
+        "c1 fb 03 00",
     ] {
         show(hex, &bytes(hex));
     }

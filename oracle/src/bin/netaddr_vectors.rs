@@ -43,14 +43,8 @@ const IPV6: [(&str, u32); 18] = [
 ];
 
 /// Mapped, 6to4, NAT64, translated, compatible, local NAT64.
-const FORMS: [(&str, u32); 6] = [
-    ("::ffff:0:0", 0),
-    ("2002::", 80),
-    ("64:ff9b::", 0),
-    ("::ffff:0:0:0", 0),
-    ("::", 0),
-    ("64:ff9b:1::", 0),
-];
+const FORMS: [(&str, u32); 6] =
+    [("::ffff:0:0", 0), ("2002::", 80), ("64:ff9b::", 0), ("::ffff:0:0:0", 0), ("::", 0), ("64:ff9b:1::", 0)];
 
 fn number(s: &str) -> u128 {
     s.parse::<Ipv6Addr>().unwrap().into()

@@ -1,0 +1,136 @@
+//! The library's calls with everything that they leave behind: the answer, then each lent number and place after the call.
+use corbastrigo_sys as sys;
+
+/// What lent numbers and places hold before a call.
+pub const BEFORE: u8 = 0xa5;
+pub const BEFORE16: u16 = 0xa5a5;
+pub const BEFORE32: u32 = 0xa5a5_a5a5;
+pub const BEFORE64: u64 = 0xa5a5_a5a5_a5a5_a5a5;
+pub const BEFORE_SIZE: usize = BEFORE64 as usize;
+
+pub type Read = (u8, u32, usize);
+pub type Written = (u8, u64, usize);
+
+pub fn decode(call: sys::Decode, map: &[u8], at: usize) -> Read {
+    let (mut value, mut next) = (BEFORE32, BEFORE_SIZE);
+    let answer = unsafe { call(map.as_ptr(), map.len(), at, &mut value, &mut next) };
+    (answer, value, next)
+}
+
+pub fn decode_instruction(map: &[u8], at: usize) -> (u8, u32, u32, usize) {
+    let (mut opcode, mut operand, mut size) = (BEFORE32, BEFORE32, BEFORE_SIZE);
+    let answer = unsafe { sys::corbastrigo_decode_instruction(map.as_ptr(), map.len(), at, &mut opcode, &mut operand, &mut size) };
+    (answer, opcode, operand, size)
+}
+
+pub fn encode(call: sys::Encode, value: u32) -> Written {
+    let (mut bits, mut len) = (BEFORE64, BEFORE_SIZE);
+    let answer = unsafe { call(value, &mut bits, &mut len) };
+    (answer, bits, len)
+}
+
+pub fn encode_instruction(opcode: u32, operand: u32) -> Written {
+    let (mut bits, mut len) = (BEFORE64, BEFORE_SIZE);
+    let answer = unsafe { sys::corbastrigo_encode_instruction(opcode, operand, &mut bits, &mut len) };
+    (answer, bits, len)
+}
+
+pub fn sanity_check(map: &[u8]) -> (u8, u32, u8) {
+    let (mut count, mut depth) = (BEFORE32, BEFORE);
+    let answer = unsafe { sys::corbastrigo_sanity_check(map.as_ptr(), map.len(), &mut count, &mut depth) };
+    (answer, count, depth)
+}
+
+pub fn interpret(map: &[u8], address: &[u8]) -> (u8, u8, u32, u32, u8) {
+    let (mut kind, mut number, mut count, mut bits) = (BEFORE, BEFORE32, BEFORE32, BEFORE);
+    let answer = unsafe {
+        let (at, len) = (address.as_ptr(), address.len());
+        sys::corbastrigo_interpret(map.as_ptr(), map.len(), at, len, &mut kind, &mut number, &mut count, &mut bits)
+    };
+    (answer, kind, number, count, bits)
+}
+
+type Records = unsafe extern "C" fn(*const u8, usize, *mut u8, usize, *mut usize) -> u8;
+
+fn records(call: Records, input: &[u8], room: usize) -> (u8, usize, Vec<u8>) {
+    let (mut out, mut written) = (vec![BEFORE; room], BEFORE_SIZE);
+    let answer = unsafe { call(input.as_ptr(), input.len(), out.as_mut_ptr(), out.len(), &mut written) };
+    (answer, written, out)
+}
+
+pub fn unpack(map: &[u8], room: usize) -> (u8, usize, Vec<u8>) {
+    records(sys::corbastrigo_unpack, map, room)
+}
+
+pub fn pack(list: &[u8], room: usize) -> (u8, usize, Vec<u8>) {
+    records(sys::corbastrigo_pack, list, room)
+}
+
+pub fn prefix_group(candidate: &[u8]) -> (u8, u64) {
+    let mut group = BEFORE64;
+    let answer = unsafe { sys::corbastrigo_prefix_group(candidate.as_ptr(), candidate.len(), &mut group) };
+    (answer, group)
+}
+
+pub fn netgroup(call: sys::Netgroup, candidate: &[u8], has_map: u8, map: &[u8]) -> (u8, u64) {
+    let mut group = BEFORE64;
+    let answer = unsafe { call(candidate.as_ptr(), candidate.len(), has_map, map.as_ptr(), map.len(), &mut group) };
+    (answer, group)
+}
+
+/// A pick as it is asked for.
+pub struct Asked<'a> {
+    pub candidates: &'a [u8],
+    pub occupied: &'a [u64],
+    pub max: usize,
+    pub has_map: u8,
+    pub map: &'a [u8],
+    pub rooms: [usize; 2],
+}
+
+/// What a pick leaves behind.
+#[derive(Debug, PartialEq)]
+pub struct Left {
+    pub answer: u8,
+    pub picks: Vec<u16>,
+    pub groups: Vec<u64>,
+    pub totals: [u64; 4],
+}
+
+pub fn select_diverse(call: sys::SelectDiverse, asked: &Asked) -> Left {
+    let (mut picks, mut groups) = (vec![BEFORE16; asked.rooms[0]], vec![BEFORE64; asked.rooms[1]]);
+    let (mut total, mut first, mut examined, mut instructions) = (BEFORE_SIZE, BEFORE_SIZE, BEFORE_SIZE, BEFORE64);
+    let answer = unsafe {
+        call(
+            asked.candidates.as_ptr(),
+            asked.candidates.len(),
+            asked.occupied.as_ptr(),
+            asked.occupied.len(),
+            asked.max,
+            asked.has_map,
+            asked.map.as_ptr(),
+            asked.map.len(),
+            picks.as_mut_ptr(),
+            picks.len(),
+            groups.as_mut_ptr(),
+            groups.len(),
+            &mut total,
+            &mut first,
+            &mut examined,
+            &mut instructions,
+        )
+    };
+    Left { answer, picks, groups, totals: [total as u64, first as u64, examined as u64, instructions] }
+}
+
+pub fn clearnet_unroutable(address: &[u8]) -> (u8, u8) {
+    let mut unroutable = BEFORE;
+    let answer = unsafe { sys::corbastrigo_clearnet_unroutable(address.as_ptr(), address.len(), &mut unroutable) };
+    (answer, unroutable)
+}
+
+pub fn addrv2_skip_relay(id: u8, address: &[u8], port: u16) -> (u8, u8) {
+    let mut skips = BEFORE;
+    let answer = unsafe { sys::corbastrigo_addrv2_skip_relay(id, address.as_ptr(), address.len(), port, &mut skips) };
+    (answer, skips)
+}

@@ -1,0 +1,121 @@
+//! The limits: maps of 16,777,216 bytes and of one more through every call that takes one, records that pack to the limit and past it,
+//! 4,096 and 4,097 candidates and occupied groups.
+use crate::calls::{self, BEFORE, BEFORE32, BEFORE64, BEFORE_SIZE};
+use crate::programs::{known, walks};
+use crate::tally::Tally;
+use crate::{codes, picks, Form};
+use corbastrigo_sys as sys;
+use maps::{shapes, Random};
+use oracle::document::Verdict;
+use oracle::records::record;
+
+const LIMIT: usize = 16_777_216;
+
+/// Told in the place of a map that is too long to be printed.
+const HUGE: &str = "a map of about the limit";
+
+/// Every call that takes a map, with one byte too many.
+fn one_too_many(tally: &mut Tally, map: &[u8]) {
+    assert_eq!(map.len(), LIMIT + 1);
+    for call in [
+        sys::corbastrigo_decode_type as sys::Decode,
+        sys::corbastrigo_decode_asn,
+        sys::corbastrigo_decode_match,
+        sys::corbastrigo_decode_jump,
+    ] {
+        for at in [0, 8 * LIMIT, usize::MAX] {
+            tally.same("code", &HUGE, calls::decode(call, map, at), (1, BEFORE32, BEFORE_SIZE));
+        }
+    }
+    tally.same("instruction", &HUGE, calls::decode_instruction(map, 0), (1, BEFORE32, BEFORE32, BEFORE_SIZE));
+    tally.same("check", &HUGE, calls::sanity_check(map), (1, BEFORE32, BEFORE));
+    tally.same("walk", &HUGE, calls::interpret(map, &[0; 16]), (1, BEFORE, BEFORE32, BEFORE32, BEFORE));
+    tally.same("walk", &HUGE, calls::interpret(map, &[0; 15]), (11, BEFORE, BEFORE32, BEFORE32, BEFORE));
+    tally.same("unpack", &HUGE, calls::unpack(map, 64), (1, BEFORE_SIZE, vec![BEFORE; 64]));
+    let mut candidate = [0; 20];
+    candidate[0] = 6;
+    let (checked, unchecked) = (sys::corbastrigo_netgroup, sys::corbastrigo_netgroup_unchecked);
+    tally.same("group", &HUGE, calls::netgroup(checked, &candidate, 1, map), (1, BEFORE64));
+    tally.same("group", &HUGE, calls::netgroup(unchecked, &candidate, 1, map), (1, BEFORE64));
+    tally.same("group", &HUGE, calls::netgroup(checked, &candidate, 0, map), (0, 0));
+    tally.same("group", &HUGE, calls::netgroup(checked, &candidate[1..], 1, map), (13, BEFORE64));
+    picks::all_ways(tally, &candidate, &[], 1, map, [1, 1]);
+    picks::all_ways(tally, &candidate, &[], 1, map, [1, 0]);
+}
+
+/// A map of exactly the limit, accepted to its last byte, and copies that lost a byte or have a wrong last one.
+fn greatest(tally: &mut Tally, random: &mut Random, form: Form) {
+    let mut map = shapes::exactly(random, LIMIT);
+    assert_eq!(map.len(), LIMIT);
+    let whole = known(tally, &map);
+    assert!(matches!(whole.verdict, Verdict::Accepted { .. }), "the greatest map is refused");
+    whole.unpack(tally);
+    walks(tally, random, &whole, form.choose(2, 50));
+    for at in (8 * LIMIT - 64..8 * LIMIT + 2).chain([usize::MAX]) {
+        codes::read_at(tally, &map, at);
+    }
+    let lists: Vec<u8> = (0..40).flat_map(|i| [&[6, 0, 0x20, i][..], &[0; 16]].concat()).collect();
+    picks::all_ways(tally, &lists, &[], 8, &map, [8, 8]);
+    known(tally, &map[..LIMIT - 1]).walk(tally, &[0; 16]);
+    map[LIMIT - 1] ^= 0x80;
+    known(tally, &map).walk(tally, &[255; 16]);
+    map[LIMIT - 1] ^= 0x80;
+    map.push(0);
+    one_too_many(tally, &map);
+}
+
+/// Records of the longest instruction that fill the limit to its last bit, and one bit more.
+fn longest_records(tally: &mut Tally) {
+    let (greatest, bits) = (2_147_483_632, 57);
+    // The greatest operand of the last size but one, whose JUMP has 56 bits: so many are left over.
+    let (greater, rest) = (1_073_741_808, 56);
+    let count = 8 * LIMIT / bits;
+    assert_eq!(count * bits + rest, 8 * LIMIT);
+    let mut list: Vec<u8> = (0..count).flat_map(|i| record(1, greatest, i * bits, bits)).collect();
+    let last = list.len();
+    list.extend(record(1, greater, count * bits, rest));
+    let (answer, written, out) = calls::pack(&list, LIMIT);
+    tally.same("pack to the limit", &HUGE, (answer, written), (0, LIMIT));
+    // What was packed reads back as it was given.
+    for i in [0, 1, count / 2, count - 1] {
+        tally.same("instruction", &HUGE, calls::decode_instruction(&out, i * bits), (0, 1, greatest, bits));
+    }
+    tally.same("instruction", &HUGE, calls::decode_instruction(&out, count * bits), (0, 1, greater, rest));
+    let refused = |reason, room| (reason, BEFORE_SIZE, vec![BEFORE; room]);
+    tally.same("pack, a byte short", &HUGE, calls::pack(&list, LIMIT - 1), refused(14, LIMIT - 1));
+    list.truncate(last);
+    list.extend(record(1, greater + 1, count * bits, bits));
+    tally.same("pack past the limit", &HUGE, calls::pack(&list, LIMIT + 8), refused(1, LIMIT + 8));
+    // The last record is wrong as well: 16 comes before 1, and 15 before 16.
+    list[last + 12] ^= 1;
+    tally.same("pack, wrong past the limit", &HUGE, calls::pack(&list, 8), refused(16, 8));
+    list[last] = 4;
+    tally.same("pack, out of range past the limit", &HUGE, calls::pack(&list, 8), refused(15, 8));
+}
+
+/// 4,096 and 4,097 candidates and occupied groups.
+fn longest_lists(tally: &mut Tally, random: &mut Random) {
+    let map = shapes::random(random, 300, 128);
+    let candidate = |i: usize| [&[6, 0, 0x20, 0, (i / 256) as u8, i as u8][..], &[0; 12], &[0x20, 0x8d]].concat();
+    for count in [4_095, 4_096, 4_097] {
+        let candidates: Vec<u8> = (0..count).flat_map(candidate).collect();
+        for taken in [0, 4_096, 4_097] {
+            let occupied: Vec<u64> = (0..taken as u64).map(|i| (0x2000_0000 + i) | (i % 2) << 40).collect();
+            for max in [0, 1, 125, 4_096, usize::MAX] {
+                let room = max.min(count);
+                picks::all_ways(tally, &candidates, &occupied, max, &map, [room, room]);
+                picks::all_ways(tally, &candidates, &occupied, max, &map, [room.saturating_sub(1), room]);
+            }
+        }
+        let mut spoiled = candidates.clone();
+        spoiled[20 * (count - 1)] = 5;
+        picks::all_ways(tally, &spoiled, &[], 1, &map, [1, 1]);
+        picks::all_ways(tally, &spoiled[..spoiled.len() - 1], &[], 1, &map, [1, 1]);
+    }
+}
+
+pub fn run(tally: &mut Tally, random: &mut Random, form: Form) {
+    longest_lists(tally, random);
+    longest_records(tally);
+    greatest(tally, random, form);
+}
