@@ -1,0 +1,87 @@
+//! Maps, addresses and lists of candidates, the same in every run.
+use maps::{shapes, Random};
+use std::collections::HashSet;
+use std::net::{IpAddr, Ipv4Addr, Ipv6Addr, SocketAddr};
+
+const SEED: u64 = 1;
+
+pub fn real(bytes: usize) -> Vec<u8> {
+    shapes::real(&mut Random(SEED), bytes)
+}
+
+/// Name and bytes: real shapes by size, then the worst shapes.
+pub fn maps() -> Vec<(String, Vec<u8>)> {
+    let mut maps: Vec<(String, Vec<u8>)> = [1_000, 10_000, 100_000, 1_500_000, 16_000_000]
+        .iter()
+        .map(|&bytes| real(bytes))
+        .map(|map| (format!("real, {} bytes", map.len()), map))
+        .collect();
+    let random = &mut Random(SEED);
+    for (name, map) in [
+        ("one RETURN", vec![0, 0, 0]),
+        ("two prefixes", crate::asmap::TWO_PREFIX_ASMAP.to_vec()),
+        ("nothing but jumps, 6 deep", shapes::jumps(random, 6)),
+        ("nothing but jumps, 18 deep", shapes::jumps(random, 18)),
+        ("two-bit matches, 17 deep", shapes::two_bit_matches(random, 17)),
+        ("128 jumps open", shapes::comb(random, 128, false)),
+        ("128 jumps, one open", shapes::comb(random, 128, true)),
+    ] {
+        maps.push((format!("{name}, {} bytes", map.len()), map));
+    }
+    maps
+}
+
+pub fn ipv4(random: &mut Random) -> Ipv4Addr {
+    Ipv4Addr::from(random.next() as u32)
+}
+
+/// An address of 2000::/3.
+pub fn ipv6(random: &mut Random) -> Ipv6Addr {
+    let mut octets = random.address();
+    octets[0] = octets[0] % 32 + 32;
+    Ipv6Addr::from(octets)
+}
+
+pub fn addresses(v6: bool, count: usize) -> Vec<[u8; 16]> {
+    let random = &mut Random(SEED + 1);
+    let address = |random: &mut Random| match v6 {
+        true => ipv6(random).octets(),
+        false => ipv4(random).to_ipv6_mapped().octets(),
+    };
+    (0..count).map(|_| address(random)).collect()
+}
+
+/// Candidates, one in five of IPv6.
+pub fn candidates(count: usize) -> Vec<SocketAddr> {
+    let random = &mut Random(SEED + 2);
+    let ip = |random: &mut Random| match random.percent(20) {
+        true => IpAddr::from(ipv6(random)),
+        false => IpAddr::from(ipv4(random)),
+    };
+    (0..count).map(|_| SocketAddr::new(ip(random), 8333)).collect()
+}
+
+/// Candidates as the library takes them.
+pub fn packed(candidates: &[SocketAddr]) -> Vec<u8> {
+    let mut bytes = Vec::with_capacity(20 * candidates.len());
+    for addr in candidates {
+        bytes.extend([if addr.is_ipv4() { 4 } else { 6 }, 0]);
+        bytes.extend(corbastrigo::ip16_for_lookup(addr.ip()));
+        bytes.extend(addr.port().to_be_bytes());
+    }
+    bytes
+}
+
+/// Occupied groups that are those of other candidates, so that some candidates meet them.
+pub fn occupied(count: usize, group_of: impl Fn(SocketAddr) -> u64) -> HashSet<u64> {
+    let random = &mut Random(SEED + 3);
+    let mut groups = HashSet::new();
+    while groups.len() < count {
+        let met = group_of(SocketAddr::new(IpAddr::from(ipv4(random)), 8333));
+        // A map or prefixes may have fewer groups than are asked for: then numbers that no address has.
+        if !groups.insert(met) {
+            groups.insert(1 << 40 | random.below(1 << 30));
+        }
+    }
+    groups
+}

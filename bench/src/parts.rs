@@ -1,0 +1,326 @@
+//! The parts of the benchmark.
+use crate::asmap::{self, AsMap};
+use crate::measure::{alone, best, both, head, row};
+use crate::{inputs, netaddr, netgroup};
+use corbastrigo_sys as sys;
+use maps::Random;
+use std::collections::HashSet;
+use std::hint::black_box;
+use std::net::{IpAddr, SocketAddr};
+
+/// A result that the compiler may not leave out.
+fn keep<T>(result: T) {
+    black_box(result);
+}
+
+fn ours_check(map: &[u8]) -> u32 {
+    let (mut count, mut depth) = (0, 0);
+    unsafe { sys::corbastrigo_sanity_check(map.as_ptr(), map.len(), &mut count, &mut depth) };
+    count
+}
+
+fn ours_walk(map: &[u8], address: &[u8; 16]) -> (u32, u32) {
+    let (mut kind, mut number, mut count, mut bits) = (0, 0, 0, 0);
+    unsafe {
+        sys::corbastrigo_interpret(
+            map.as_ptr(),
+            map.len(),
+            address.as_ptr(),
+            address.len(),
+            &mut kind,
+            &mut number,
+            &mut count,
+            &mut bits,
+        )
+    };
+    (number, count)
+}
+
+pub fn check() {
+    head("Check", "ns an instruction");
+    let mut rates = Vec::new();
+    for (name, map) in inputs::maps() {
+        let count = corbastrigo::sanity_check(&map).expect("the shapes are accepted").count;
+        assert!(asmap::sanity_check(&map), "the original accepts the shapes");
+        let times = both(|| keep(ours_check(black_box(&map))), || keep(asmap::sanity_check(black_box(&map))));
+        row(&format!("{name}, {count} instructions"), f64::from(count), &times);
+        rates.push((name, map.len() as f64 / best(&times.ours) * 1e3, map.len() as f64 / best(&times.original) * 1e3));
+    }
+    println!("\n| input | ours, MB a second | original, MB a second |\n|---|---|---|");
+    for (name, ours, original) in rates {
+        println!("| {name} | {ours:.0} | {original:.0} |");
+    }
+}
+
+pub fn walk() {
+    head("Walk", "ns a walk");
+    for (name, map) in inputs::maps() {
+        let original = AsMap::from_bytes(map.clone()).expect("the shapes are accepted");
+        for (kind, v6) in [("IPv4", false), ("IPv6", true)] {
+            let addresses = inputs::addresses(v6, 4_096);
+            let counts: u32 = addresses.iter().map(|address| ours_walk(&map, address).1).sum();
+            for address in &addresses {
+                assert_eq!(ours_walk(&map, address).0, original.interpret_ip16(address));
+            }
+            let times = both(
+                || addresses.iter().for_each(|address| keep(ours_walk(black_box(&map), address))),
+                || addresses.iter().for_each(|address| keep(original.interpret_ip16(black_box(address)))),
+            );
+            let mean = f64::from(counts) / addresses.len() as f64;
+            row(&format!("{name}; {kind}, {mean:.1} instructions a walk"), addresses.len() as f64, &times);
+        }
+    }
+}
+
+fn unpacked(map: &[u8], out: &mut [u8]) -> usize {
+    corbastrigo::unpack_into(map, out).expect("accepted, with room")
+}
+
+/// The original has neither call; the check, which unpack runs first, stands beside them.
+pub fn records() {
+    println!("\n### Unpack and pack, beside the check (the original has neither)\n");
+    println!("| input | unpack, ns an instruction | pack | check | unpack, MB of map a second | pack |\n|---|---|---|---|---|---|");
+    for (name, map) in inputs::maps() {
+        let count = ours_check(&map);
+        let mut records = vec![0; 16 * count as usize];
+        let mut out = vec![0; map.len()];
+        unpacked(&map, &mut records);
+        let unpack = best(&alone(|| keep(unpacked(black_box(&map), &mut records))));
+        let pack = best(&alone(|| keep(corbastrigo::pack_into(black_box(&records), &mut out))));
+        assert!(out == map, "unpack then pack gives the map");
+        let check = best(&alone(|| keep(ours_check(black_box(&map)))));
+        let per = f64::from(count);
+        let rate = |time: f64| map.len() as f64 / time * 1e3;
+        let (fast, slow) = (rate(unpack), rate(pack));
+        println!("| {name} | {:.2} | {:.2} | {:.2} | {fast:.0} | {slow:.0} |", unpack / per, pack / per, check / per);
+    }
+}
+
+/// Every code of a map, read one by one. The original's writers do not exist in a release build.
+pub fn codes() {
+    head("Reading codes, one call each", "ns a code");
+    let map = inputs::real(100_000);
+    let random = &mut Random(5);
+    let places: Vec<usize> = (0..4_096).map(|_| random.below(8 * map.len() as u64) as usize).collect();
+    type Original = fn(&mut usize, &[u8]) -> u32;
+    let rows: [(&str, sys::Decode, Original); 4] = [
+        ("opcode", sys::corbastrigo_decode_type, asmap::decode_type),
+        ("AS number", sys::corbastrigo_decode_asn, asmap::decode_asn),
+        ("MATCH operand", sys::corbastrigo_decode_match, asmap::decode_match),
+        ("JUMP operand", sys::corbastrigo_decode_jump, asmap::decode_jump),
+    ];
+    for (name, ours, original) in rows {
+        let times = both(
+            || {
+                for &place in &places {
+                    let (mut value, mut next) = (0, 0);
+                    unsafe { ours(map.as_ptr(), map.len(), place, &mut value, &mut next) };
+                    black_box((value, next));
+                }
+            },
+            || {
+                for &place in &places {
+                    let mut pos = place;
+                    black_box((original(&mut pos, &map), pos));
+                }
+            },
+        );
+        row(name, places.len() as f64, &times);
+    }
+}
+
+fn ours_group(candidate: &[u8], map: Option<&[u8]>) -> u64 {
+    let bytes = map.unwrap_or(&[]);
+    let mut group = 0;
+    let has_map = u8::from(map.is_some());
+    unsafe {
+        let (at, len) = (candidate.as_ptr(), candidate.len());
+        sys::corbastrigo_netgroup_unchecked(at, len, has_map, bytes.as_ptr(), bytes.len(), &mut group)
+    };
+    group
+}
+
+pub fn group() {
+    head("Group, of a map that was checked once", "ns a group");
+    let bytes = inputs::real(1_500_000);
+    let map = AsMap::from_bytes(bytes.clone()).expect("accepted");
+    let candidates = inputs::candidates(4_096);
+    let packed = inputs::packed(&candidates);
+    for (name, ours, original) in [("prefixes", None, None), ("real, 1.5 MB", Some(&bytes[..]), Some(&map))] {
+        let times = both(
+            || packed.chunks(20).for_each(|candidate| keep(ours_group(black_box(candidate), ours))),
+            || candidates.iter().for_each(|&addr| keep(netgroup::netgroup(black_box(addr), original))),
+        );
+        row(name, candidates.len() as f64, &times);
+    }
+}
+
+/// The lists of a pick as the library takes them.
+struct Lists {
+    candidates: Vec<u8>,
+    occupied: Vec<u64>,
+    picks: Vec<u16>,
+    groups: Vec<u64>,
+}
+
+impl Lists {
+    fn new(ranked: &[SocketAddr], occupied: &HashSet<u64>, max: usize) -> Lists {
+        let room = max.min(ranked.len());
+        Lists {
+            candidates: inputs::packed(ranked),
+            occupied: occupied.iter().copied().collect(),
+            picks: vec![0; room],
+            groups: vec![0; room],
+        }
+    }
+
+    fn pick(&mut self, call: sys::SelectDiverse, max: usize, map: Option<&[u8]>) -> usize {
+        let bytes = map.unwrap_or(&[]);
+        let (mut total, mut first, mut examined, mut instructions) = (0, 0, 0, 0);
+        let answer = unsafe {
+            call(
+                self.candidates.as_ptr(),
+                self.candidates.len(),
+                self.occupied.as_ptr(),
+                self.occupied.len(),
+                max,
+                u8::from(map.is_some()),
+                bytes.as_ptr(),
+                bytes.len(),
+                self.picks.as_mut_ptr(),
+                self.picks.len(),
+                self.groups.as_mut_ptr(),
+                self.groups.len(),
+                &mut total,
+                &mut first,
+                &mut examined,
+                &mut instructions,
+            )
+        };
+        assert_eq!(answer, 0);
+        total
+    }
+}
+
+fn original_pick(ranked: &[SocketAddr], max: usize, occupied: &HashSet<u64>, map: Option<&AsMap>) -> Vec<SocketAddr> {
+    netgroup::select_diverse(ranked, max, occupied, |addr| netgroup::netgroup(addr, map))
+}
+
+fn picked(ranked: &[SocketAddr], lists: &Lists, total: usize) -> Vec<SocketAddr> {
+    lists.picks[..total].iter().map(|&place| ranked[usize::from(place)]).collect()
+}
+
+pub fn pick() {
+    let bytes = inputs::real(1_500_000);
+    let map = AsMap::from_bytes(bytes.clone()).expect("accepted");
+    let cases = [("prefixes", None), ("map of 1.5 MB", Some(&map))];
+    head("Pick, of a map that was checked once", "us a pick");
+    for (name, asmap) in cases {
+        for count in [1_000, 4_096] {
+            for taken in [0, 300, 4_096] {
+                for max in [8, 125] {
+                    let ranked = inputs::candidates(count);
+                    let occupied = inputs::occupied(taken, |addr| netgroup::netgroup(addr, asmap));
+                    let mut lists = Lists::new(&ranked, &occupied, max);
+                    let ours = asmap.map(|_| &bytes[..]);
+                    let total = lists.pick(sys::corbastrigo_select_diverse_unchecked, max, ours);
+                    assert_eq!(picked(&ranked, &lists, total), original_pick(&ranked, max, &occupied, asmap));
+                    let times = both(
+                        || keep(lists.pick(sys::corbastrigo_select_diverse_unchecked, max, ours)),
+                        || keep(original_pick(&ranked, max, &occupied, asmap)),
+                    );
+                    row(&format!("{name}, {count} candidates, {taken} occupied, max {max}"), 1e3, &times);
+                }
+            }
+        }
+    }
+    head("Pick that checks its map on every call, beside the original's check and pick", "us a pick");
+    for max in [8, 125] {
+        let ranked = inputs::candidates(1_000);
+        let occupied = inputs::occupied(300, |addr| netgroup::netgroup(addr, Some(&map)));
+        let mut lists = Lists::new(&ranked, &occupied, max);
+        let times = both(
+            || keep(lists.pick(sys::corbastrigo_select_diverse, max, Some(&bytes))),
+            || {
+                assert!(asmap::sanity_check(black_box(&bytes)));
+                keep(original_pick(&ranked, max, &occupied, Some(&map)));
+            },
+        );
+        row(&format!("map of 1.5 MB, 1000 candidates, 300 occupied, max {max}"), 1e3, &times);
+    }
+    head("Pick through the safe crate, lists made anew in each call", "us a pick");
+    let safe = corbastrigo::AsMap::from_bytes(bytes.clone()).expect("accepted");
+    for (name, ours, original) in [("prefixes", None, None), ("map of 1.5 MB", Some(&safe), Some(&map))] {
+        let ranked = inputs::candidates(1_000);
+        let occupied = inputs::occupied(300, |addr| netgroup::netgroup(addr, original));
+        let times = both(
+            || keep(corbastrigo::select_diverse(&ranked, 125, &occupied, ours)),
+            || keep(original_pick(&ranked, 125, &occupied, original)),
+        );
+        row(&format!("{name}, 1000 candidates, 300 occupied, max 125"), 1e3, &times);
+    }
+}
+
+pub fn filters() {
+    head("Unroutable", "ns an address");
+    let random = &mut Random(7);
+    let ips: Vec<IpAddr> = (0..4_096)
+        .map(|i| if i % 2 == 0 { IpAddr::from(inputs::ipv4(random)) } else { IpAddr::from(inputs::ipv6(random)) })
+        .collect();
+    let addresses: Vec<[u8; 16]> = ips.iter().map(|&ip| corbastrigo::ip16_for_lookup(ip)).collect();
+    let ours = |address: &[u8; 16]| {
+        let mut unroutable = 0;
+        unsafe { sys::corbastrigo_clearnet_unroutable(address.as_ptr(), 16, &mut unroutable) };
+        unroutable
+    };
+    let times = both(
+        || addresses.iter().for_each(|address| keep(ours(black_box(address)))),
+        || ips.iter().for_each(|&ip| keep(netaddr::clearnet_unroutable(black_box(ip)))),
+    );
+    row("half IPv4, half 2000::/3", ips.len() as f64, &times);
+}
+
+/// Whether the cost grows with the size and no faster: the time of one unit over a range of sizes.
+pub fn growth() {
+    println!("\n### Growth\n\n| call | size | time | for a unit |\n|---|---|---|---|");
+    for bytes in [16_000, 64_000, 256_000, 1_000_000, 4_000_000, 16_000_000] {
+        let map = inputs::real(bytes);
+        let time = best(&alone(|| keep(ours_check(black_box(&map)))));
+        println!("| check | {} bytes | {:.0} us | {:.2} ns a byte |", map.len(), time / 1e3, time / map.len() as f64);
+    }
+    for (count, taken) in [(512, 512), (1_024, 1_024), (2_048, 2_048), (4_096, 4_096)] {
+        let ranked = inputs::candidates(count);
+        // Groups that no candidate has, so that every one of them is compared.
+        let occupied: HashSet<u64> = (0..taken).map(|i| (1 << 40) + i).collect();
+        let mut lists = Lists::new(&ranked, &occupied, count);
+        let call = sys::corbastrigo_select_diverse_unchecked;
+        let time = best(&alone(|| keep(lists.pick(call, count, None))));
+        let product = count as f64 * taken as f64;
+        println!(
+            "| pick | {count} candidates, {taken} occupied, max {count} | {:.0} us | {:.3} ns for candidates × occupied |",
+            time / 1e3,
+            time / product
+        );
+    }
+}
+
+/// One call alone, for counts of instructions.
+pub fn count(call: &str, bytes: usize) {
+    let map = inputs::real(bytes);
+    let instructions = ours_check(&map);
+    let mut records = vec![0; 16 * instructions as usize];
+    let mut out = vec![0; map.len()];
+    unpacked(&map, &mut records);
+    println!("{call}: {} bytes, {instructions} instructions", map.len());
+    match call {
+        "check" => keep(ours_check(&map)),
+        "unpack" => keep(unpacked(&map, &mut records)),
+        "pack" => keep(corbastrigo::pack_into(&records, &mut out)),
+        "walk" => {
+            let addresses = inputs::addresses(false, 4_096);
+            let counts: u32 = addresses.iter().map(|address| ours_walk(&map, address).1).sum();
+            println!("walk: {} addresses, {counts} instructions", addresses.len());
+        }
+        other => panic!("no call is named {other}"),
+    }
+}
