@@ -1,11 +1,26 @@
 #!/bin/sh
-# Every test of the repository: the layout of the files, the stored answers against the original, and rt's own gate, which
-# proves every crate from nothing, tries every must-fail edit and runs every program. The last line is rt's count; the exit
-# status is not 0 where any step failed.
+# Every test of the repository. First the layout of the files and the stored answers against the original; then rt's own gate, which
+# proves every crate from nothing, tries every must-fail edit and runs every program; then, over what it proved, the library: its calls
+# from C and from Rust, and the comparison with the original. Where all passed the last line is rt's count, said again; the exit status
+# is not 0 where any step failed, and the last line names the step.
 cd "$(dirname "$0")" || exit 2
-failed=0
-rt fmt --check || { echo "test: some files are not in rt's layout; 'rt fmt' lays them out"; failed=1; }
-oracle/compare.sh || { echo "test: the original does not give the stored answers"; failed=1; }
-[ "$failed" = 0 ] || echo "test: a step before rt's gate failed, so this run fails whatever rt says below"
-rt ci || failed=1
-exit "$failed"
+failed=""
+log=$(mktemp) || exit 2
+rt fmt --check || failed="$failed, layout ('rt fmt' lays files out)"
+oracle/compare.sh || failed="$failed, stored answers"
+{ rt ci || echo "rt ci failed"; } 2>&1 | tee "$log"
+count=$(tail -n 1 "$log")
+case $count in
+    *" passed, 0 failed") ;;
+    *) failed="$failed, rt ci" ;;
+esac
+rm -f "$log"
+mkdir -p target
+ctest/run.sh || failed="$failed, calls from C"
+rust/test.sh || failed="$failed, safe crate"
+oracle/scale.sh || failed="$failed, comparison at scale"
+if [ -n "$failed" ]; then
+    echo "test: failed: ${failed#, }"
+    exit 1
+fi
+echo "$count"
