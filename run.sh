@@ -3,6 +3,9 @@
 cd "$(dirname "$0")" || exit 2
 rt check || exit 1
 for program in target/bin/*; do
-    echo "== $(basename "$program")"
-    "$program" || exit 1
+    name=$(basename "$program")
+    input=crates/$name/stdin
+    [ -f "$input" ] || input=/dev/null
+    echo "== $name"
+    "$program" < "$input" || exit 1
 done

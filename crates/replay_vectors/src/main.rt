@@ -3,7 +3,7 @@
 // the number of each line that differs or could not be read. The list is the file stdin beside src/: answers of the original and,
 // where it has no say, of document 01. The program of the same name in oracle/ writes it and says what its lines hold.
 ghost use mathlib.Core.Path.{_≡_};
-ghost use Prim.Native.Nat.{_+_, _*_, _≤_, _<_};
+ghost use Prim.Native.Nat.{_≤_, _<_};
 ghost use lib.ListN.{length};
 use asmap_program::Kind;
 use asmap_program::Verdict;
@@ -348,8 +348,9 @@ fn relay_skip(entry: &[u8]) -> Out {
 
 // ---- pick
 
-fn wide(x: u8) -> u64 {
-    x as u64
+// A number with a byte more below it.
+fn lengthened(x: u64, byte: u8) -> u64 {
+    (x << 8) | byte as u64
 }
 
 // The numbers of a word, eight bytes each, and zeros after them.
@@ -361,12 +362,13 @@ fn numbers(bytes: &[u8]) -> [u64; 64]
     let mut i = bytes.len();
     while 0 < i {
         i -= 1;
-        list[i / 8] = (list[i / 8] << 8) | wide(bytes[i]);
+        let place = i / 8;
+        list[place] = lengthened(list[place], bytes[i]);
     }
     list
 }
 
-fn wide_place(x: u16) -> u64 {
+fn wide(x: u16) -> u64 {
     x as u64
 }
 
@@ -375,7 +377,7 @@ fn put_places(start: Out, places: &[u16], count: usize) -> Out {
     let mut out = start;
     let mut i: usize = 0;
     while i < places.len() && i < count {
-        out = out.number(wide_place(places[i]), 2);
+        out = out.number(wide(places[i]), 2);
         i += 1;
     }
     out

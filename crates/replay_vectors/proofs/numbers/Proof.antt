@@ -19,20 +19,20 @@ loop-holds c = search needs
 sub-i : tie.Need-sub-i Inv-loop μ-loop
 sub-i c = search needs
 
+mul-lengthened : tie.Need-mul-lengthened Inv-loop μ-loop
+mul-lengthened c = search needs
+
+array-read-lengthened : tie.Need-array-read-lengthened Inv-loop μ-loop
+array-read-lengthened c = search needs
+
+shared-slice-read-lengthened : tie.Need-shared-slice-read-lengthened Inv-loop μ-loop
+shared-slice-read-lengthened c = search needs
+
+lengthened-requires : tie.Need-lengthened-requires Inv-loop μ-loop
+lengthened-requires c κs = search needs
+
 mul-list : tie.Need-mul-list Inv-loop μ-loop
 mul-list c = search needs
-
-array-read-list : tie.Need-array-read-list Inv-loop μ-loop
-array-read-list c = search needs
-
-shared-slice-read-wide : tie.Need-shared-slice-read-wide Inv-loop μ-loop
-shared-slice-read-wide c = search needs
-
-wide-requires : tie.Need-wide-requires Inv-loop μ-loop
-wide-requires c κs = search needs
-
-mul-list-2 : tie.Need-mul-list-2 Inv-loop μ-loop
-mul-list-2 c = search needs
 
 array-write-list : tie.Need-array-write-list Inv-loop μ-loop
 array-write-list c = search needs
@@ -54,11 +54,11 @@ numbers-spec =
     μ-loop
     loop-holds
     sub-i
+    mul-lengthened
+    array-read-lengthened
+    shared-slice-read-lengthened
+    lengthened-requires
     mul-list
-    array-read-list
-    shared-slice-read-wide
-    wide-requires
-    mul-list-2
     array-write-list
     loop-less
     loop-again

@@ -15,14 +15,14 @@ abbrev μ-loop : tie.MeasureT-loop
 loop-holds : tie.Need-loop-holds Inv-loop μ-loop
 loop-holds c = search needs
 
-mul-wide-place : tie.Need-mul-wide-place Inv-loop μ-loop
-mul-wide-place c = search needs
+mul-wide : tie.Need-mul-wide Inv-loop μ-loop
+mul-wide c = search needs
 
-shared-slice-read-wide-place : tie.Need-shared-slice-read-wide-place Inv-loop μ-loop
-shared-slice-read-wide-place c = search needs
+shared-slice-read-wide : tie.Need-shared-slice-read-wide Inv-loop μ-loop
+shared-slice-read-wide c = search needs
 
-wide-place-requires : tie.Need-wide-place-requires Inv-loop μ-loop
-wide-place-requires c κs = search needs
+wide-requires : tie.Need-wide-requires Inv-loop μ-loop
+wide-requires c κs = search needs
 
 number-requires : tie.Need-number-requires Inv-loop μ-loop
 number-requires c κs = search needs
@@ -49,9 +49,9 @@ put-places-spec =
     Inv-loop
     μ-loop
     loop-holds
-    mul-wide-place
-    shared-slice-read-wide-place
-    wide-place-requires
+    mul-wide
+    shared-slice-read-wide
+    wide-requires
     number-requires
     add-i
     loop-less
