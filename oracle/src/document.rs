@@ -143,18 +143,24 @@ pub struct Walk {
     pub bits: usize,
 }
 
+/// The opcode and the operand at a place, INVALID where one of them is cut.
+pub fn instruction_at(pos: &mut usize, map: &[u8]) -> (u32, u32) {
+    let opcode = decode_type(pos, map);
+    let operand = match opcode {
+        JUMP => decode_jump(pos, map),
+        MATCH => decode_match(pos, map),
+        RETURN | DEFAULT => decode_asn(pos, map),
+        _ => INVALID,
+    };
+    (opcode, operand)
+}
+
 /// The walk of any map by 16 address bytes.
 pub fn walk(map: &[u8], address: &[u8; 16]) -> Walk {
     let bit = |u: usize| address[u / 8] as u32 >> (7 - u % 8) & 1;
     let (mut pos, mut used, mut default, mut count) = (0, 0, 0, 0);
     loop {
-        let opcode = decode_type(&mut pos, map);
-        let operand = match opcode {
-            JUMP => decode_jump(&mut pos, map),
-            MATCH => decode_match(&mut pos, map),
-            RETURN | DEFAULT => decode_asn(&mut pos, map),
-            _ => INVALID,
-        };
+        let (opcode, operand) = instruction_at(&mut pos, map);
         let abort = |count, bits| Walk { kind: "abort", number: 0, count, bits };
         if operand == INVALID {
             return abort(count, used);

@@ -17,6 +17,7 @@ pub mod error {
 }
 
 pub mod document;
+pub mod filters;
 pub mod picks;
 pub mod records;
 

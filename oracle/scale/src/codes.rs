@@ -5,6 +5,7 @@ use crate::Form;
 use corbastrigo_sys as sys;
 use maps::Random;
 use oracle::asmap::*;
+use oracle::document::instruction_at;
 use oracle::records::in_range;
 
 /// A row: the library's two calls, the original's reader, least value and sizes.
@@ -58,13 +59,7 @@ fn word(bits: &[bool]) -> Written {
 
 pub fn expected_instruction(map: &[u8], at: usize) -> (u8, u32, u32, usize) {
     let mut pos = at;
-    let opcode = decode_type(&mut pos, map);
-    let operand = match opcode {
-        JUMP => decode_jump(&mut pos, map),
-        MATCH => decode_match(&mut pos, map),
-        RETURN | DEFAULT => decode_asn(&mut pos, map),
-        _ => INVALID,
-    };
+    let (opcode, operand) = instruction_at(&mut pos, map);
     match operand {
         INVALID => (4, BEFORE32, BEFORE32, BEFORE_SIZE),
         _ => (0, opcode, operand, pos - at),

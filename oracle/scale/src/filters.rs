@@ -2,47 +2,10 @@
 use crate::calls::{self, BEFORE};
 use crate::tally::Tally;
 use crate::Form;
-use bitcoin::p2p::address::{AddrV2, AddrV2Message};
 use maps::Random;
+use oracle::filters::{message, IPV4, IPV6};
 use oracle::netaddr;
-use std::net::{IpAddr, Ipv4Addr, Ipv6Addr};
-
-const IPV4: [(&str, u32); 13] = [
-    ("0.0.0.0", 8),
-    ("10.0.0.0", 8),
-    ("100.64.0.0", 10),
-    ("127.0.0.0", 8),
-    ("169.254.0.0", 16),
-    ("172.16.0.0", 12),
-    ("192.0.2.0", 24),
-    ("192.168.0.0", 16),
-    ("198.18.0.0", 15),
-    ("198.51.100.0", 24),
-    ("203.0.113.0", 24),
-    ("224.0.0.0", 4),
-    ("240.0.0.0", 4),
-];
-
-const IPV6: [(&str, u32); 18] = [
-    ("fc00::", 8),
-    ("::ffff:0:0", 96),
-    ("::1", 128),
-    ("fe80::", 10),
-    ("fd00::", 8),
-    ("ff00::", 8),
-    ("2001:db8::", 32),
-    ("3fff::", 20),
-    ("2001:10::", 28),
-    ("2001:20::", 28),
-    ("2001:2::", 48),
-    ("100::", 64),
-    ("2001::", 32),
-    ("2002::", 16),
-    ("64:ff9b::", 96),
-    ("::ffff:0:0:0", 96),
-    ("::", 96),
-    ("64:ff9b:1::", 48),
-];
+use std::net::{IpAddr, Ipv6Addr};
 
 /// Numbers around both ends of a range, as many bits wide as the family has.
 fn around(start: u128, prefix: u32, width: u32) -> Vec<u128> {
@@ -54,8 +17,8 @@ fn around(start: u128, prefix: u32, width: u32) -> Vec<u128> {
 }
 
 fn ipv4_edges() -> Vec<u32> {
-    let start = |text: &str| u32::from(text.parse::<Ipv4Addr>().expect("an address"));
-    IPV4.iter().flat_map(|&(text, prefix)| around(u128::from(start(text)), prefix, 32)).map(|n| n as u32).collect()
+    let edges = |(start, prefix): ([u8; 4], u32)| around(u128::from(u32::from_be_bytes(start)), prefix, 32);
+    IPV4.into_iter().flat_map(edges).map(|n| n as u32).collect()
 }
 
 /// The forms that hold an IPv4 address, with zeros elsewhere.
@@ -81,22 +44,6 @@ fn filter(tally: &mut Tally, number: u128) {
         assert_eq!(expected, netaddr::clearnet_unroutable(IpAddr::V4(v4)));
     }
     tally.same("unroutable", &v6, calls::clearnet_unroutable(&octets), (0, u8::from(expected)));
-}
-
-/// The original's message, where the id has such a length.
-fn message(id: u8, bytes: &[u8], port: u16) -> Option<AddrV2Message> {
-    let v6 = |bytes: &[u8]| <[u8; 16]>::try_from(bytes).ok().map(Ipv6Addr::from);
-    let addr = match id {
-        1 => AddrV2::Ipv4(Ipv4Addr::from(<[u8; 4]>::try_from(bytes).ok()?)),
-        2 => AddrV2::Ipv6(v6(bytes)?),
-        3 => AddrV2::TorV2(bytes.try_into().ok()?),
-        4 => AddrV2::TorV3(bytes.try_into().ok()?),
-        5 => AddrV2::I2p(bytes.try_into().ok()?),
-        6 => AddrV2::Cjdns(v6(bytes)?),
-        _ if bytes.len() > 512 => return None,
-        _ => AddrV2::Unknown(id, bytes.to_vec()),
-    };
-    Some(AddrV2Message { addr, port })
 }
 
 fn relay(tally: &mut Tally, id: u8, bytes: &[u8], port: u16) {

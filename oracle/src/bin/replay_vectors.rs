@@ -14,13 +14,13 @@
 //!                          occupied groups have 8 bytes each, MAX has 8
 //!     f ADDRESS            unroutable (1)
 //!     r ENTRY              relay skip (1): network id (1), port (2), then the address
-use bitcoin::p2p::address::{AddrV2, AddrV2Message};
 use maps::{shapes, Random};
 use oracle::asmap::AsMap;
 use oracle::document::{self, Refusal, Verdict};
+use oracle::filters::message;
 use oracle::picks::{self, By, Groups};
 use oracle::{bytes, netaddr, records, MAPS};
-use std::net::{IpAddr, Ipv4Addr, Ipv6Addr};
+use std::net::{IpAddr, Ipv6Addr};
 
 const SEED: u64 = 20_261_115;
 
@@ -119,24 +119,12 @@ impl Sample {
 
     fn relay(&mut self, id: u8, port: u16, address: &[u8]) {
         let entry = [&[id][..], &port.to_le_bytes(), address].concat();
-        let answer = match message(id, address) {
-            Some(addr) => Ok(vec![u8::from(netaddr::addrv2_skip_relay(&AddrV2Message { addr, port }))]),
+        let answer = match message(id, address, port) {
+            Some(message) => Ok(vec![u8::from(netaddr::addrv2_skip_relay(&message))]),
             None => Err(17),
         };
         self.add('r', &[&entry], answer);
     }
-}
-
-fn message(id: u8, bytes: &[u8]) -> Option<AddrV2> {
-    Some(match id {
-        1 => AddrV2::Ipv4(Ipv4Addr::from(<[u8; 4]>::try_from(bytes).ok()?)),
-        2 => AddrV2::Ipv6(Ipv6Addr::from(<[u8; 16]>::try_from(bytes).ok()?)),
-        3 => AddrV2::TorV2(bytes.try_into().ok()?),
-        4 => AddrV2::TorV3(bytes.try_into().ok()?),
-        5 => AddrV2::I2p(bytes.try_into().ok()?),
-        6 => AddrV2::Cjdns(Ipv6Addr::from(<[u8; 16]>::try_from(bytes).ok()?)),
-        _ => AddrV2::Unknown(id, bytes.to_vec()),
-    })
 }
 
 /// A map with a bit flipped, cut, or with a byte more.
