@@ -7,3 +7,5 @@ pub mod MapLaws
 pub mod Instructions
 pub mod CoreLaws
 pub mod Examples
+pub mod ReverseLaws
+pub mod GrownLaws

@@ -4,3 +4,5 @@ pub mod Code
 pub mod Encode
 pub mod Instruction
 pub mod Core
+pub mod Grown
+pub mod Reverse

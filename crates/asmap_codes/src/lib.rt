@@ -1,8 +1,12 @@
 // The codes of an asmap program (document 01, Codes): the four rows of sizes, and what reading hands back. The decoder is
 // `asmap_decode`, the writer `asmap_encode`; both stand on the definitions and laws of this crate.
 ghost use mathlib.Core.Path.{_≡_};
-ghost use Prim.Native.Nat.{_^_, _<_};
+ghost use Prim.Native.Nat.{_+_, _-_, _*_, _/_, _^_, _≤_, _<_};
+ghost use lib.Dec.{eqb};
+ghost use lib.ListN.{length, getD};
 ghost use Rattle.asmap_codes.specs.Row.{typeRow, asnRow, matchRow, jumpRow};
+ghost use Rattle.asmap_codes.specs.Grown.{stops};
+ghost use Rattle.asmap_codes.specs.Reverse.{rev, swap};
 use asmap_program::Instruction;
 
 // The sizes of an opcode's code: four values from 0 on.
@@ -89,4 +93,58 @@ pub fn power(size: u8) -> u32
     ensures { λ r. ⌜ r ≡ 2 ^ size ⌝ }
 {
     1u32 << size
+}
+
+// Whether the last size of a row is as far above the first as the row is long. In each row no size is more than one above the
+// size before it: so this tells whether all sizes grow by one (`proofs/GrownLaws.antt`, `grown-of`).
+pub fn grows(sizes: &[u8]) -> bool
+    requires { ⌜ (0 < length (now sizes)) × (length (now sizes) ≤ 26) ⌝ }
+    ensures { λ r. ⌜ r ≡ eqb (getD (now (sizes .entry)) (length (now (sizes .entry)) - 1) 0) (getD (now (sizes .entry)) 0 0 + (length (now (sizes .entry)) - 1)) ⌝ }
+{
+    let first = sizes[0];
+    let top = sizes.len() - 1;
+    let last = sizes[top];
+    last as usize == first as usize + top
+}
+
+// How many bits stand before a size's own in a code, of a row of so many sizes: a one for each size that is passed, and the zero
+// that stops at a size, which the last one does not have.
+pub fn prefix_length(ones: usize, sizes: usize) -> usize
+    requires { ⌜ ones < 32 ⌝ }
+    ensures { λ r. ⌜ r ≡ ones + stops ones sizes ⌝ }
+{
+    if ones + 1 < sizes {
+        return ones + 1;
+    }
+    ones
+}
+
+// Swaps the neighbouring blocks of k bits of x. The mask has the lower block of each two.
+fn swapped(x: u64, k: u32, mask: u64) -> u64
+    requires { ⌜ (k < 64) × (mask + mask * 2 ^ k < 2 ^ 64) ⌝ }
+    ensures { λ r. ⌜ r ≡ swap k mask x ⌝ }
+{
+    ((x >> k) & mask) + ((x & mask) << k)
+}
+
+// The 64 bits of a word in reverse: blocks of one bit are swapped, then of two, up to 32.
+fn reversed(x: u64) -> u64
+    ensures { λ r. ⌜ r ≡ rev 64 x ⌝ }
+{
+    let ones = swapped(x, 1, 0x5555555555555555);
+    let twos = swapped(ones, 2, 0x3333333333333333);
+    let fours = swapped(twos, 4, 0x0f0f0f0f0f0f0f0f);
+    let eights = swapped(fours, 8, 0x00ff00ff00ff00ff);
+    let sixteens = swapped(eights, 16, 0x0000ffff0000ffff);
+    swapped(sixteens, 32, 0x00000000ffffffff)
+}
+
+// Bits of a word from bit `from` on, in reverse. A size's bits stand highest first in a code, while a word has the first bit
+// lowest: so the decoder and the writer reverse them, all at once. The word is reversed before it is known which bits are asked for.
+pub fn reversed_bits(w: u64, from: usize, size: u8) -> u32
+    requires { ⌜ (from < 64) × (from + size ≤ 64) × (size ≤ 32) ⌝ }
+    ensures { λ r. ⌜ r ≡ rev size (w / 2 ^ from) ⌝ }
+{
+    let highest = (reversed(w) << from) >> 32;
+    (highest >> (32 - size)) as u32
 }

@@ -12,7 +12,7 @@ use Rattle.asmap_codes.specs.Row.{typeRow, operandRow, inRange, span}
 use Rattle.asmap_codes.specs.Encode.{encodeOf, instructionBits}
 use Rattle.asmap_codes.proofs.RowLaws.{range-of}
 use Rattle.asmap_codes.proofs.Instructions.{instruction-length}
-use Rattle.asmap_encode.proofs.PartsLaws.{both}
+use Rattle.asmap_codes.proofs.GrownLaws.{both}
 use Rattle.asmap_encode.proofs.WordLaws.{puts-word, code-length}
 use Rattle.asmap_encode.specs.Write.{put, puts, none, pickWritten, writeAfter, writeCode, writeInstruction}
 use Rattle.asmap_encode.specs.Parts.{InRow, lengthWritten}

@@ -1,4 +1,3 @@
-pub mod ReverseLaws
 pub mod PartsLaws
 pub mod WordLaws
 pub mod EncodeLaws

@@ -9,7 +9,9 @@ use Rattle.asmap_codes.specs.Bits.{high, word}
 use Rattle.asmap_codes.specs.Row.{Row, inRange}
 use Rattle.asmap_codes.specs.Encode.{encodeOf}
 use Rattle.asmap_codes.proofs.RoundTrip.{length-high}
-use Rattle.asmap_encode.specs.Parts.{onesThen, zerosThen, stops, InRow, CodedAs, Shortened, numberOf, after, writtenAs}
+use Rattle.asmap_codes.specs.Grown.{stops}
+use Rattle.asmap_codes.specs.Reverse.{rev}
+use Rattle.asmap_encode.specs.Parts.{onesThen, zerosThen, InRow, CodedAs, Shortened, numberOf, after, writtenAs}
 use Rattle.asmap_encode.specs.Write.{put, puts, writeAfter}
 use Rattle.asmap_encode.specs.declared.Parts.{Parts}
 use Rattle.asmap_encode.specs.declared.Coded.{Coded}
@@ -19,8 +21,8 @@ use Rattle.asmap_encode.specs.declared.Written.the-variants.{Bits}
 use native.Mathlib.Numerals.{add-one}
 use native.Mathlib.Omega.{arith}
 use lib.Pow.{pow-pos, pow-add, pow-mono, shl-exact}
-use Rattle.asmap_encode.proofs.PartsLaws.{stops-fit}
-use Rattle.asmap_encode.proofs.ReverseLaws.{rev, rev-lt}
+use Rattle.asmap_codes.proofs.GrownLaws.{stops-fit}
+use Rattle.asmap_codes.proofs.ReverseLaws.{rev-lt}
 
 -- a word of k bits above n bits, in 64
 pub shifted : (w k n : ℕ) → w < 2 ^ k → n + k ≤ 64 → w * 2 ^ n % 2 ^ 64 ≡ w * 2 ^ n

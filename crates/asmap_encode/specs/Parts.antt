@@ -1,14 +1,13 @@
--- What the code of the writer speaks of on its way: the parts of a code, sizes that grow by one, and blocks of bits swapped.
+-- What the code of the writer speaks of on its way: the parts of a code.
 -- Assumes nothing.
-use Prim.Native.Nat.{ℕ, zero, suc, _+_, _-_, _*_, _/_, _^_, _≤_, _<_}
+use Prim.Native.Nat.{ℕ, zero, suc, _+_, _-_, _*_, _^_, _≤_, _<_}
 use mathlib.Core.Path.{_≡_}
-use mathlib.Core.Bool.{Bool, true, false, _&&_}
+use mathlib.Core.Bool.{true, false}
 use mathlib.Core.List.{List, [], _∷_}
-use lib.Bits.{bitAnd}
-use lib.Dec.{leb, ltb}
 use lib.ListN.{length}
 use Rattle.asmap_codes.specs.Bits.{high, word}
 use Rattle.asmap_codes.specs.Row.{Row, inRange}
+use Rattle.asmap_codes.specs.Grown.{stops}
 use Rattle.asmap_codes.specs.Encode.{encode}
 use Rattle.asmap_encode.specs.declared.Parts.{Parts}
 use Rattle.asmap_encode.specs.declared.Coded.{Coded}
@@ -17,34 +16,10 @@ use Rattle.asmap_encode.specs.declared.Word.{Word}
 use Rattle.asmap_encode.specs.declared.Written.{Written}
 use Rattle.asmap_encode.specs.declared.Written.the-variants.{Bits, Refused}
 
--- Blocks of k bits, each swapped with its neighbour; the mask m has the lower one of each two.
-abbrev pub swap : ℕ → ℕ → ℕ → ℕ
-swap k m x = bitAnd (x / 2 ^ k) m + bitAnd x m * 2 ^ k
-
--- Sizes of which none is more than one above the size before it.
-abbrev pub slow : List ℕ → Bool
-slow [] = true
-slow (s ∷ []) = true
-slow (s ∷ t ∷ ss) = leb t (suc s) && slow (t ∷ ss)
-
--- n sizes that grow by one.
-abbrev pub grown : ℕ → ℕ → List ℕ
-grown s zero = []
-grown s (suc n) = s ∷ grown (suc s) n
-
 -- So many ones, then bits.
 abbrev pub onesThen : ℕ → List ℕ → List ℕ
 onesThen zero bs = bs
 onesThen (suc n) bs = 1 ∷ onesThen n bs
-
--- How many zeros stop at a size of a row, by whether a size comes after it: one, but none at the last.
-abbrev pub stopIf : Bool → ℕ
-stopIf true = 1
-stopIf false = 0
-
--- The same for the size after so many ones, of a row of n sizes.
-abbrev pub stops : ℕ → ℕ → ℕ
-stops ones n = stopIf (ltb (ones + 1) n)
 
 -- So many zeros, then bits.
 abbrev pub zerosThen : ℕ → List ℕ → List ℕ

@@ -3,9 +3,9 @@ ghost use mathlib.Core.Path.{_≡_};
 ghost use mathlib.Core.Bool.{true};
 ghost use Prim.Native.Nat.{_+_, _*_, _^_, _≤_, _<_};
 ghost use lib.ListN.{length};
-ghost use Rattle.asmap_codes.specs.Bits.{high, word};
 ghost use Rattle.asmap_codes.specs.Row.{typeRow, asnRow, matchRow, jumpRow, operandRow, span};
-ghost use Rattle.asmap_encode.specs.Parts.{swap, stops, slow, GrownParts, CodeParts, Short, Shortened, CodedAs, after, writtenAs, lengthWritten};
+ghost use Rattle.asmap_codes.specs.Grown.{slow};
+ghost use Rattle.asmap_encode.specs.Parts.{GrownParts, CodeParts, Short, Shortened, CodedAs, after, writtenAs, lengthWritten};
 ghost use Rattle.asmap_encode.specs.Write.{writeCode, writeInstruction};
 use asmap_codes::ASN_BIT_SIZES;
 use asmap_codes::JUMP_BIT_SIZES;
@@ -36,25 +36,6 @@ pub enum Coded {
 pub enum Written {
     Bits(Word),
     Refused(u8),
-}
-
-// Swaps the neighbouring blocks of k bits of x. The mask has the lower block of each two.
-fn swapped(x: u32, k: u32, mask: u32) -> u32
-    requires { ⌜ (k < 32) × (mask + mask * 2 ^ k < 2 ^ 32) ⌝ }
-    ensures { λ r. ⌜ r ≡ swap k mask x ⌝ }
-{
-    ((x >> k) & mask) + ((x & mask) << k)
-}
-
-// The 32 bits of a number in reverse: blocks of one bit are swapped, then of two, up to 16.
-fn reversed(x: u32) -> u32
-    ensures { λ r. ⌜ r ≡ word (high 32 x) ⌝ }
-{
-    let ones = swapped(x, 1, 0x55555555);
-    let twos = swapped(ones, 2, 0x33333333);
-    let fours = swapped(twos, 4, 0x0f0f0f0f);
-    let eights = swapped(fours, 8, 0x00ff00ff);
-    swapped(eights, 16, 0x0000ffff)
 }
 
 // The parts of the code of x over sizes from `first` on that grow by one: x + 2^first is as wide as the size that has x, and
@@ -100,31 +81,16 @@ fn parts_looked_up(x: u32, sizes: &[u8]) -> Parts
     }
 }
 
-// The parts of the code of x, a value less its row's least. No size is more than one above the size before it: where the last
-// is as far above the first as the row is long, all sizes grow by one, and the bit width tells the size.
+// The parts of the code of x, a value less its row's least. Where all sizes grow by one, the bit width tells the size.
 fn parts_of(x: u32, sizes: &[u8]) -> Parts
-    requires { ⌜ (0 < length (now sizes)) × (span (now sizes) ≤ 2 ^ 31) × (x < span (now sizes)) × (slow (now sizes) ≡ true) ⌝ }
+    requires { ⌜ (0 < length (now sizes)) × (span (now sizes) ≤ 2 ^ 31) × (x < span (now sizes)) × (length (now sizes) ≤ 26) × (slow (now sizes) ≡ true) ⌝ }
     ensures { λ r. ⌜ CodeParts (now (sizes .entry)) x r ⌝ }
 {
-    let first = sizes[0];
-    let top = sizes.len() - 1;
-    let last = sizes[top];
-    if last as usize == first as usize + top {
+    if asmap_codes::grows(sizes) {
+        let first = sizes[0];
         return parts_grown(x, first);
     }
     parts_looked_up(x, sizes)
-}
-
-// How many bits stand before the size's own: a one for each size that is passed, and the zero that stops at a size, which the
-// last one does not have.
-fn prefix_length(ones: usize, sizes: usize) -> usize
-    requires { ⌜ ones < 32 ⌝ }
-    ensures { λ r. ⌜ r ≡ ones + stops ones sizes ⌝ }
-{
-    if ones + 1 < sizes {
-        return ones + 1;
-    }
-    ones
 }
 
 // The parts of a value's code in a row of sizes over a least value, of which there are `count` values. A value that the row does
@@ -139,7 +105,7 @@ fn row_parts(value: u32, least: u32, count: u32, sizes: &[u8]) -> Coded
     let x = value - least;
     if x < count {
         let parts = parts_of(x, sizes);
-        let prefix = prefix_length(parts.ones, sizes.len());
+        let prefix = asmap_codes::prefix_length(parts.ones, sizes.len());
         return Coded::In(prefix, parts);
     }
     Coded::Out
@@ -194,7 +160,7 @@ fn encode_bits(before: Word, prefix: usize, parts: Parts) -> Word
 {
     let ones = parts.ones;
     let size = parts.size;
-    let mantissa = reversed(parts.rest) as u64 >> (32 - size);
+    let mantissa = asmap_codes::reversed_bits(parts.rest as u64, 0, size) as u64;
     let code = ((1u64 << ones) - 1) + (mantissa << prefix);
     let len = before.len;
     Word {

@@ -10,7 +10,8 @@ use Rattle.asmap_codes.specs.Encode.{encode}
 use Rattle.asmap_encode.specs.Parts.{onesThen, CodeParts}
 use Rattle.asmap_codes.proofs.CodeLaws.{span-drop, size-small}
 use Rattle.asmap_encode.proofs.EncodeLaws.{encode-more, encode-stop, encode-last}
-use Rattle.asmap_encode.proofs.PartsLaws.{ones-more, stops-more, stops-last}
+use Rattle.asmap_codes.proofs.GrownLaws.{stops-more, stops-last}
+use Rattle.asmap_encode.proofs.PartsLaws.{ones-more}
 use Rattle.asmap_encode.proofs.parts_looked_up.Statement.{statement}
 use Rattle.asmap_encode.proofs.parts_looked_up.Tie as tie
 

@@ -2,9 +2,9 @@
 -- Assumes nothing.
 use borrow.Author.Needs.{needs}
 use native.Mathlib.Omega.{arith}
-use Rattle.asmap_encode.proofs.PartsLaws.{stops-more, stops-last}
-use Rattle.asmap_encode.proofs.prefix_length.Statement.{statement}
-use Rattle.asmap_encode.proofs.prefix_length.Tie as tie
+use Rattle.asmap_codes.proofs.GrownLaws.{stops-more, stops-last}
+use Rattle.asmap_codes.proofs.prefix_length.Statement.{statement}
+use Rattle.asmap_codes.proofs.prefix_length.Tie as tie
 
 add-if1 : tie.Need-add-if1
 add-if1 c = search needs

@@ -1,9 +1,9 @@
 -- `swapped` meets its contract: both copies of the mask fit (swap-fits).
 -- Assumes nothing.
 use borrow.Author.Needs.{needs}
-use Rattle.asmap_encode.proofs.ReverseLaws.{swap-shifted, swap-fits}
-use Rattle.asmap_encode.proofs.swapped.Statement.{statement}
-use Rattle.asmap_encode.proofs.swapped.Tie as tie
+use Rattle.asmap_codes.proofs.ReverseLaws.{swap-shifted, swap-fits}
+use Rattle.asmap_codes.proofs.swapped.Statement.{statement}
+use Rattle.asmap_codes.proofs.swapped.Tie as tie
 
 shr-result : tie.Need-shr-result
 shr-result c = search needs

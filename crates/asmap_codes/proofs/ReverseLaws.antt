@@ -8,12 +8,9 @@ use lib.Bits.{bitAnd, and-block, and-mask, and-zero-r, and-le-r}
 use lib.Dec.{lit<}
 use lib.Pow as pow
 use lib.Pow.{pow-pos, pow-mono, pow-add, shr-shr, split}
-use Rattle.asmap_codes.specs.Bits.{word, high}
-use Rattle.asmap_encode.specs.Parts.{swap}
-
--- the n lowest bits of x in reverse
-abbrev pub rev : ℕ → ℕ → ℕ
-rev n x = word (high n x)
+use Rattle.asmap_codes.specs.Bits.{low, number}
+use Rattle.asmap_codes.specs.Reverse.{rev, swap}
+use Rattle.asmap_codes.proofs.BitLaws.{length-low}
 
 pub rev-lt : (n x : ℕ) → rev n x < 2 ^ n
 rev-lt zero x = lit< tt
@@ -29,17 +26,45 @@ rev-add (suc n) k x =
     let m : 2 ^ suc n * rev k x ≡ 2 * (2 ^ n * rev k x) = rw (pow-succ' 2 n) (mul-assoc 2 (2 ^ n) (rev k x)) in
     rw e (omega (arith, rev-add n k x, ap (λ (i : ℕ). i % 2) q, m))
 
-rev-zero : (n : ℕ) → rev n 0 ≡ 0
-rev-zero zero = refl
-rev-zero (suc n) = omega (arith, rev-zero n, zero-div (2 ^ n))
+-- of n + k reversed bits, the highest k are the lowest k of the number, reversed
+pub rev-high : (n k x : ℕ) → rev (n + k) x / 2 ^ n ≡ rev k x
+rev-high n k x =
+    let e : rev (n + k) x ≡ rev k x * 2 ^ n + rev n (x / 2 ^ k) = rev-add n k x ∙ omega (arith, mul-comm (2 ^ n) (rev k x)) in
+    ap (λ (i : ℕ). i / 2 ^ n) e ∙ pow.high (rev k x) n (rev-lt n (x / 2 ^ k))
 
--- a number below 2 ^ k, of which n + k bits are reversed: its k bits stand above n zeros
-pub rev-small : (n k x : ℕ) → x < 2 ^ k → rev (n + k) x / 2 ^ n ≡ rev k x
-rev-small n k x h =
-    let z : x / 2 ^ k ≡ 0 = div-eq-of-lt h in
-    let e : rev (n + k) x ≡ rev k x * 2 ^ n + 0
-    = rev-add n k x ∙ omega (arith, ap (rev n) z, rev-zero n, mul-comm (2 ^ n) (rev k x)) in
-    ap (λ (i : ℕ). i / 2 ^ n) e ∙ pow.high (rev k x) n (pow-pos n)
+-- the number that bits write, the highest first, is the bits in reverse
+pub number-rev : (n x : ℕ) → number (low n x) ≡ rev n x
+number-rev zero x = refl
+number-rev (suc n) x =
+    let e : n + 1 ≡ suc n = omega arith in
+    let o : rev 1 x ≡ x % 2 = omega (arith, div-one x) in
+    let h : rev (suc n) x ≡ rev n (x / 2) + 2 ^ n * rev 1 x = ap (λ (i : ℕ). rev i x) (sym e) ∙ rev-add n 1 x in
+    omega (arith, number-rev n (x / 2), h, ap (λ (i : ℕ). 2 ^ n * i) o, ap (λ (i : ℕ). x % 2 * 2 ^ i) (length-low n (x / 2)), mul-comm (2 ^ n) (x % 2))
+
+-- n + k reversed bits k places up, of which n + k are kept: the k lowest of the number fall away
+rev-up : (n k x : ℕ) → rev (n + k) x * 2 ^ k % 2 ^ (n + k) ≡ rev n (x / 2 ^ k) * 2 ^ k
+rev-up n k x =
+    let R = rev n (x / 2 ^ k) in
+    let S = rev k x in
+    let l : R * 2 ^ k < 2 ^ (n + k) = rw (pow-add 2 n k) (omega (arith, mul-le-mul-right {m = suc R} {n = 2 ^ n} (2 ^ k) (rev-lt n (x / 2 ^ k)), suc-mul R (2 ^ k), pow-pos k)) in
+    let q : 2 ^ n * S * 2 ^ k ≡ S * 2 ^ (n + k) = ap (λ (i : ℕ). i * 2 ^ k) (mul-comm (2 ^ n) S) ∙ mul-assoc S (2 ^ n) (2 ^ k) ∙ ap (λ (i : ℕ). S * i) (sym (pow-add 2 n k)) in
+    let e : rev (n + k) x * 2 ^ k ≡ S * 2 ^ (n + k) + R * 2 ^ k = ap (λ (i : ℕ). i * 2 ^ k) (rev-add n k x) ∙ omega (arith, add-mul R (2 ^ n * S) (2 ^ k), q) in
+    ap (λ (i : ℕ). i % 2 ^ (n + k)) e ∙ pow.low S (n + k) l
+
+-- of a reversed word, s bits from bit k of the number on: first k places up, then down again
+pub rev-from : (k s x : ℕ) → k + s ≤ 64 → s ≤ 32 → rev 64 x * 2 ^ k % 2 ^ 64 / 2 ^ 32 / 2 ^ (32 - s) ≡ rev s (x / 2 ^ k)
+rev-from k s x h l =
+    let c = 64 - k - s in
+    let y = x / 2 ^ k in
+    let e : 64 ≡ c + s + k = omega arith in
+    let d : 32 + (32 - s) ≡ k + c = omega arith in
+    let z : rev (c + s) y * 2 ^ k ≡ rev (c + s) y * 2 ^ k + 0 = omega arith in
+    shr-shr (rev 64 x * 2 ^ k % 2 ^ 64) 32 (32 - s)
+    ∙ ap (λ (i : ℕ). rev 64 x * 2 ^ k % 2 ^ 64 / 2 ^ i) d
+    ∙ ap (λ (i : ℕ). i / 2 ^ (k + c)) (ap (λ (i : ℕ). rev i x * 2 ^ k % 2 ^ i) e ∙ rev-up (c + s) k x)
+    ∙ sym (shr-shr (rev (c + s) y * 2 ^ k) k c)
+    ∙ ap (λ (i : ℕ). i / 2 ^ c) (ap (λ (i : ℕ). i / 2 ^ k) z ∙ pow.high (rev (c + s) y) k (pow-pos k))
+    ∙ rev-high c s y
 
 -- ---- blocks
 
@@ -111,23 +136,25 @@ swap-lanes k (suc m) x =
     ∙ ap (λ (i : ℕ). i * Q + (l * P + b)) (swap-lanes k m (x / P / P) ∙ ap (lanes (k + k) m) (shr-shr x k k))
     ∙ omega (arith, rev-add k k x, mul-comm P l, mul-comm Q (lanes (k + k) m (x / Q)))
 
--- ---- 32 bits
+-- ---- 64 bits
 
 -- blocks swapped under a mask whose two copies fit
-module _ (k m x : ℕ) (h : m + m * 2 ^ k < 2 ^ 32) where
-  pub swap-shifted : bitAnd x m * 2 ^ k % 2 ^ 32 ≡ bitAnd x m * 2 ^ k
+module _ (k m x : ℕ) (h : m + m * 2 ^ k < 2 ^ 64) where
+  pub swap-shifted : bitAnd x m * 2 ^ k % 2 ^ 64 ≡ bitAnd x m * 2 ^ k
   swap-shifted = mod-eq-of-lt (omega (arith, mul-le-mul-right (2 ^ k) (and-le-r x m)))
 
-  pub swap-fits : swap k m x < 2 ^ 32
+  pub swap-fits : swap k m x < 2 ^ 64
   swap-fits = omega (arith, mul-le-mul-right (2 ^ k) (and-le-r x m), and-le-r (x / 2 ^ k) m)
 
-pub reverse-32 : (x : ℕ) → x < 2 ^ 32
-    → swap 16 65535 (swap 8 16711935 (swap 4 252645135 (swap 2 858993459 (swap 1 1431655765 x)))) ≡ rev 32 x
-reverse-32 x h =
-    ap (λ (i : ℕ). swap 16 65535 (swap 8 16711935 (swap 4 252645135 (swap 2 858993459 (swap 1 1431655765 i))))) (sym (lanes-one 32 x h))
-    ∙ ap (λ (i : ℕ). swap 16 65535 (swap 8 16711935 (swap 4 252645135 (swap 2 858993459 i)))) (swap-lanes 1 16 x)
-    ∙ ap (λ (i : ℕ). swap 16 65535 (swap 8 16711935 (swap 4 252645135 i))) (swap-lanes 2 8 x)
-    ∙ ap (λ (i : ℕ). swap 16 65535 (swap 8 16711935 i)) (swap-lanes 4 4 x)
-    ∙ ap (swap 16 65535) (swap-lanes 8 2 x)
-    ∙ swap-lanes 16 1 x
-    ∙ lanes-whole 32 x
+-- blocks of one bit are swapped, then of two, up to 32
+pub reverse-64 : (x : ℕ) → x < 2 ^ 64
+    → swap 32 4294967295 (swap 16 281470681808895 (swap 8 71777214294589695 (swap 4 1085102592571150095 (swap 2 3689348814741910323 (swap 1 6148914691236517205 x))))) ≡ rev 64 x
+reverse-64 x h =
+    ap (λ (i : ℕ). swap 32 4294967295 (swap 16 281470681808895 (swap 8 71777214294589695 (swap 4 1085102592571150095 (swap 2 3689348814741910323 (swap 1 6148914691236517205 i)))))) (sym (lanes-one 64 x h))
+    ∙ ap (λ (i : ℕ). swap 32 4294967295 (swap 16 281470681808895 (swap 8 71777214294589695 (swap 4 1085102592571150095 (swap 2 3689348814741910323 i))))) (swap-lanes 1 32 x)
+    ∙ ap (λ (i : ℕ). swap 32 4294967295 (swap 16 281470681808895 (swap 8 71777214294589695 (swap 4 1085102592571150095 i)))) (swap-lanes 2 16 x)
+    ∙ ap (λ (i : ℕ). swap 32 4294967295 (swap 16 281470681808895 (swap 8 71777214294589695 i))) (swap-lanes 4 8 x)
+    ∙ ap (λ (i : ℕ). swap 32 4294967295 (swap 16 281470681808895 i)) (swap-lanes 8 4 x)
+    ∙ ap (swap 32 4294967295) (swap-lanes 16 2 x)
+    ∙ swap-lanes 32 1 x
+    ∙ lanes-whole 64 x
