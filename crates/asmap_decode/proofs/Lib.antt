@@ -1,3 +1,4 @@
 pub mod WindowLaws
 pub mod ByteLaws
 pub mod OperandLaws
+pub mod GrownCode

@@ -1,7 +1,7 @@
 -- The decoder's model: a code read from a window, a number whose lowest bits are the map's bits from a place on, with zeros past the
 -- map's end. `proofs/WindowLaws.antt` shows that it is the code of the map.
 -- Assumes nothing.
-use Prim.Native.Nat.{ℕ, _+_, _*_, _/_, _%_, _^_, _≤_, _<_}
+use Prim.Native.Nat.{ℕ, zero, suc, _+_, _*_, _/_, _%_, _^_, _≤_, _<_}
 use mathlib.Core.Path.{_≡_}
 use mathlib.Core.List.{List, [], _∷_}
 use lib.Dec.{leb, eqb}
@@ -42,7 +42,16 @@ rowIn row at end w = codeIn (row .sizes) (row .least) at end w
 
 -- where the prefix of a code in a window ends: what is left of the code is the bits of one size
 pub record Stopped (ss : List ℕ) (v w : ℕ) (r : Prefix) : Type 0 where
-  pub index : r .index < length ss
   pub near : r .read ≤ length ss
-  pub small : r .value + 2 ^ getD ss (r .index) 0 ≤ 2 ^ 31
-  pub rest : (at end : ℕ) → codeIn ss v at end w ≡ tailIn (getD ss (r .index) 0) (r .value) (at + r .read) end (r .left)
+  pub small : r .value + 2 ^ r .size ≤ 2 ^ 31
+  pub rest : (at end : ℕ) → codeIn ss v at end w ≡ tailIn (r .size) (r .value) (at + r .read) end (r .left)
+
+-- one more where the bit is 1, none where it is 0
+abbrev pub oneMore : ℕ → ℕ → ℕ
+oneMore zero k = 0
+oneMore (suc b) k = suc k
+
+-- how many ones a window starts with, n at most
+unfoldable pub onesOf : ℕ → ℕ → ℕ
+onesOf zero w = 0
+onesOf (suc n) w = oneMore (w % 2) (onesOf n (w / 2))

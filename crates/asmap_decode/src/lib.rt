@@ -1,16 +1,19 @@
 // Reading codes and instructions (document 01, Codes): a window of the map's bits as one number, and one decoder over the
 // four rows of sizes.
 ghost use mathlib.Core.Path.{_≡_};
+ghost use mathlib.Core.Bool.{true};
 ghost use mathlib.Core.List.{[], _∷_};
 ghost use Prim.Native.Nat.{_+_, _*_, _^_, _≤_, _<_};
+ghost use lib.Dec.{leb};
 ghost use lib.ListN.{length, drop, getD};
 ghost use Rattle.asmap_program.specs.Map.{limit};
 ghost use Rattle.asmap_codes.specs.Bits.{mapBits, number, low};
 ghost use Rattle.asmap_codes.specs.Row.{typeRow, asnRow, matchRow, jumpRow, operandRow, span, Fit};
-ghost use Rattle.asmap_codes.specs.Code.{codeAt, readCode};
+ghost use Rattle.asmap_codes.specs.Grown.{slow, grown};
+ghost use Rattle.asmap_codes.specs.Code.{pick, codeAt, readCode};
 ghost use Rattle.asmap_codes.specs.Instruction.{readInstruction};
-ghost use Rattle.asmap_codes.specs.declared.Code.the-variants.{Value};
-ghost use Rattle.asmap_decode.specs.Window.{Window, Holds, tailIn, codeIn, rowIn, Stopped};
+ghost use Rattle.asmap_codes.specs.declared.Code.the-variants.{Value, Cut};
+ghost use Rattle.asmap_decode.specs.Window.{Window, Holds, codeIn, rowIn, Stopped, onesOf};
 use asmap_codes::ASN_BIT_SIZES;
 use asmap_codes::Code;
 use asmap_codes::Decoded;
@@ -117,17 +120,15 @@ fn first_bits(w: u64, size: u8) -> u32
     value
 }
 
-// The bits after a code's prefix, added to its value, in a map of `end` bits. The window has zeros past the end, so one
-// comparison, here, decides whether the code was cut.
-fn payload(w: u64, at: usize, end: usize, value: u32, size: u8) -> Code
-    requires { ⌜ (at < 2 ^ 40) × (value + 2 ^ size ≤ 2 ^ 31) ⌝ }
-    ensures { λ r. ⌜ r ≡ tailIn size value at end w ⌝ }
+// A code's value and the bit after it, in a map of `end` bits. The window has zeros past the end, so one comparison, here, decides
+// whether the code was cut.
+fn coded(value: u32, next: usize, end: usize) -> Code
+    ensures { λ r. ⌜ r ≡ pick (leb next end) (Value value next) Cut ⌝ }
 {
-    let next = at + size as usize;
     if end < next {
         return Code::Cut;
     }
-    Code::Value(value + first_bits(w, size), next)
+    Code::Value(value, next)
 }
 
 // Where a code's prefix ends: the value so far, the window and the number of bits read there, and the size that it stopped at.
@@ -135,7 +136,7 @@ pub struct Prefix {
     pub value: u32,
     pub left: u64,
     pub read: usize,
-    pub index: usize,
+    pub size: u8,
 }
 
 // The prefix of a code of a row: a bit for each size but the last; 1 adds 2 to the size and goes on, 0 stops.
@@ -148,6 +149,7 @@ fn read_prefix(w: u64, least: u32, sizes: &[u8]) -> Prefix
     let mut left = w;
     let mut i: usize = 0;
     while i < last {
+        let size = sizes[i];
         let bit = left % 2;
         left = left / 2;
         if bit == 0 {
@@ -155,28 +157,68 @@ fn read_prefix(w: u64, least: u32, sizes: &[u8]) -> Prefix
                 value: value,
                 left: left,
                 read: i + 1,
-                index: i,
+                size: size,
             };
         }
-        value += asmap_codes::power(sizes[i]);
+        value += asmap_codes::power(size);
         i += 1;
     }
+    let size = sizes[i];
     Prefix {
         value: value,
         left: left,
         read: i,
-        index: i,
+        size: size,
     }
 }
 
-// The decoder: the code of a row of sizes over a least value, at the window's first bit, which is bit `at` of a map of `end` bits.
-fn decode_bits(w: u64, at: usize, end: usize, least: u32, sizes: &[u8]) -> Code
+// The code of a row, size by size.
+fn decode_each(w: u64, at: usize, end: usize, least: u32, sizes: &[u8]) -> Code
     requires { ⌜ (at < 2 ^ 34) × (least + span (now sizes) ≤ 2 ^ 31) × (0 < length (now sizes)) × (length (now sizes) ≤ 26) ⌝ }
     ensures { λ r. ⌜ r ≡ codeIn (now (sizes .entry)) least at end w ⌝ }
 {
     let stop = read_prefix(w, least, sizes);
-    let index = stop.index;
-    payload(stop.left, at + stop.read, end, stop.value, sizes[index])
+    let size = stop.size;
+    let value = stop.value + first_bits(stop.left, size);
+    coded(value, at + stop.read + size as usize, end)
+}
+
+// How many ones a window starts with, `most` at most: the zeros that it would start with if each bit were the other.
+fn starting_ones(w: u64, most: usize) -> usize
+    requires { ⌜ most ≤ 64 ⌝ }
+    ensures { λ r. ⌜ r ≡ onesOf most w ⌝ }
+{
+    let ones = u64::trailing_zeros(18446744073709551615 - w) as usize;
+    if most < ones {
+        return most;
+    }
+    ones
+}
+
+// The code of a row whose sizes grow by one from `first` on, all at once: each one before the zero passes a size, and the sizes
+// passed have 2 to the size reached less 2 to the first values.
+fn decode_grown(w: u64, at: usize, end: usize, least: u32, first: u8, sizes: usize) -> Code
+    requires { ⌜ (at < 2 ^ 34) × (least + span (grown first sizes) ≤ 2 ^ 31) × (0 < sizes) × (sizes ≤ 26) ⌝ }
+    ensures { λ r. ⌜ r ≡ codeIn (grown first sizes) least at end w ⌝ }
+{
+    let ones = starting_ones(w, sizes - 1);
+    let prefix = asmap_codes::prefix_length(ones, sizes);
+    let size = first + ones as u8;
+    let passed = asmap_codes::power(size) - asmap_codes::power(first);
+    let value = least + passed + asmap_codes::reversed_bits(w, prefix, size);
+    coded(value, at + prefix + size as usize, end)
+}
+
+// The decoder: the code of a row of sizes over a least value, at the window's first bit, which is bit `at` of a map of `end` bits.
+fn decode_bits(w: u64, at: usize, end: usize, least: u32, sizes: &[u8]) -> Code
+    requires { ⌜ (at < 2 ^ 34) × (least + span (now sizes) ≤ 2 ^ 31) × (0 < length (now sizes)) × (length (now sizes) ≤ 26) × (slow (now sizes) ≡ true) ⌝ }
+    ensures { λ r. ⌜ r ≡ codeIn (now (sizes .entry)) least at end w ⌝ }
+{
+    if asmap_codes::grows(sizes) {
+        let first = sizes[0];
+        return decode_grown(w, at, end, least, first, sizes.len());
+    }
+    decode_each(w, at, end, least, sizes)
 }
 
 // ---- a call for each row: the code at a window's first bit, which is bit `at` of a map of `end` bits. Where the window holds
@@ -242,7 +284,7 @@ pub fn operand_in(w: u64, opcode: u32, at: usize, end: usize) -> Code
 
 // A code of a row. Its own test for the end keeps any `at` away from the sums of the decoder.
 fn decode_row(map: &[u8], at: usize, least: u32, sizes: &[u8]) -> Decoded
-    requires { ⌜ Fit (record { least = least; sizes = now sizes }) ⌝ }
+    requires { ⌜ Fit (record { least = least; sizes = now sizes }) × (slow (now sizes) ≡ true) ⌝ }
     ensures { λ r. ⌜ r ≡ readCode (now (map .entry)) at (record { least = least; sizes = now (sizes .entry) }) ⌝ }
 {
     let bytes = map.len();

@@ -12,21 +12,15 @@ use Rattle.asmap_decode.proofs.WindowLaws.{row-window, window-holds}
 use borrow.Author.Needs.{needs}
 use Rattle.asmap_decode.proofs.decode_instruction.Statement.{statement}
 use Rattle.asmap_decode.proofs.decode_instruction.Tie as tie
-use Rattle.asmap_decode.proofs.decode_instruction.Reads as reads
-use Rattle.asmap_decode.proofs.decode_instruction.Lts as lts
-use Rattle.asmap_decode.proofs.operand_in.Reads as operand-in-reads
-use Rattle.asmap_decode.proofs.operand_window.Reads as operand-window-reads
-use Rattle.asmap_decode.proofs.type_in.Reads as type-in-reads
-use Rattle.asmap_decode.proofs.window.Reads as window-reads
 
 -- the opcode and the operand that were read are those of the map
-typed : (k : lts.After-type-in (window-reads.Asked, window-reads.Learnt, type-in-reads.Asked, type-in-reads.Learnt, operand-window-reads.Asked, operand-window-reads.Learnt, operand-in-reads.Asked, operand-in-reads.Learnt) reads.Pre reads.Post) → codeAt (k .before .before .before .before .before .args .map .now) (k .before .before .before .before .before .args .at) typeRow ≡ k .type-in .result
+typed : (k : tie.After-type-in) → codeAt (k .before .before .before .before .before .args .map .now) (k .before .before .before .before .before .args .at) typeRow ≡ k .type-in .result
 typed k = let a = k .before .before .before .before .before .args in sym (k .type-in .ensures ∙ row-window (a .map .now) (a .at) _ typeRow (lit< tt) (window-holds (a .map .now) (a .at) _ typeRow (lit≤ tt) (k .before .window .ensures)))
 
-opcode : (k : lts.After-known-told (window-reads.Asked, window-reads.Learnt, type-in-reads.Asked, type-in-reads.Learnt, operand-window-reads.Asked, operand-window-reads.Learnt, operand-in-reads.Asked, operand-in-reads.Learnt) reads.Pre reads.Post) → codeAt (k .before .before .before .before .before .before .before .before .args .map .now) (k .before .before .before .before .before .before .before .before .args .at) typeRow ≡ Value (k .before .first .given .0 .0) (k .before .first .given .0 .1 .0)
+opcode : (k : tie.After-known-told) → codeAt (k .before .before .before .before .before .before .before .before .args .map .now) (k .before .before .before .before .before .before .before .before .args .at) typeRow ≡ Value (k .before .first .given .0 .0) (k .before .first .given .0 .1 .0)
 opcode k = typed (k .before .before .before) ∙ k .before .first .given .1
 
-operand : (k : lts.After-operand-in (window-reads.Asked, window-reads.Learnt, type-in-reads.Asked, type-in-reads.Learnt, operand-window-reads.Asked, operand-window-reads.Learnt, operand-in-reads.Asked, operand-in-reads.Learnt) reads.Pre reads.Post) → codeAt (k .before .before .before .before .before .before .before .before .before .before .args .map .now) (k .before .before .before .first .given .0 .1 .0) (operandRow (k .before .before .before .first .given .0 .0)) ≡ k .operand-in .result
+operand : (k : tie.After-operand-in) → codeAt (k .before .before .before .before .before .before .before .before .before .before .args .map .now) (k .before .before .before .first .given .0 .1 .0) (operandRow (k .before .before .before .first .given .0 .0)) ≡ k .operand-in .result
 operand k = let o = k .before .before .before .first .given .0 .0 in sym (k .operand-in .ensures ∙ row-window (k .before .before .before .before .before .before .before .before .before .before .args .map .now) _ _ (operandRow o) (long-operand o) (k .before .operand-window .ensures))
 
 returns : tie.Need-returns

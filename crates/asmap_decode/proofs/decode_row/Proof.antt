@@ -9,17 +9,13 @@ use Rattle.asmap_decode.proofs.WindowLaws.{row-window, window-holds}
 use borrow.Author.Needs.{needs}
 use Rattle.asmap_decode.proofs.decode_row.Statement.{statement}
 use Rattle.asmap_decode.proofs.decode_row.Tie as tie
-use Rattle.asmap_decode.proofs.decode_row.Reads as reads
-use Rattle.asmap_decode.proofs.decode_row.Lts as lts
-use Rattle.asmap_decode.proofs.decode_bits.Reads as decode-bits-reads
-use Rattle.asmap_decode.proofs.window.Reads as window-reads
 
 -- what was read is the code of the map
-read : (k : lts.After-decode-bits (window-reads.Asked, window-reads.Learnt, decode-bits-reads.Asked, decode-bits-reads.Learnt) reads.Pre reads.Post)
+read : (k : tie.After-decode-bits)
     → codeAt (k .before .before .before .before .before .before .args .map .now) (k .before .before .before .before .before .before .args .at) (record { least = k .before .before .before .before .before .before .args .least; sizes = k .before .before .before .before .before .before .args .sizes .now }) ≡ k .decode-bits .result
 read k =
     let a = k .before .before .before .before .before .before .args in
-    let f = k .before .before .before .before .before .before .pre in
+    let f = k .before .before .before .before .before .before .pre .0 in
     let row : Row = record { least = a .least; sizes = a .sizes .now } in
     sym (k .decode-bits .ensures ∙ row-window (a .map .now) (a .at) _ row (f .many) (window-holds (a .map .now) (a .at) _ row (f .short) (k .before .window .ensures)))
 
@@ -32,7 +28,7 @@ mul-if2 c = search needs
 returns-2 : tie.Need-returns-2
 returns-2 c =
     let a = c .before .before .before .before .args in
-    sym (read-at (a .map .now) (a .at) (record { least = a .least; sizes = a .sizes .now }) (omega arith) _ (past-end (a .map .now) (a .at) (record { least = a .least; sizes = a .sizes .now }) (c .before .before .before .before .pre .many) (omega arith)))
+    sym (read-at (a .map .now) (a .at) (record { least = a .least; sizes = a .sizes .now }) (omega arith) _ (past-end (a .map .now) (a .at) (record { least = a .least; sizes = a .sizes .now }) (c .before .before .before .before .pre .0 .many) (omega arith)))
 
 window-requires : tie.Need-window-requires
 window-requires c κs = search needs

@@ -28,25 +28,24 @@ loop-holds c =
     let a = c .before .args in
     (omega arith, omega arith, λ at end. ap (λ (p : ℕ). codeIn (a .sizes .now) (a .least) p end (a .w)) (omega arith))
 
-add-t11 : tie.Need-add-t11 Inv-loop μ-loop
-add-t11 c = omega arith
+shared-slice-read-size : tie.Need-shared-slice-read-size Inv-loop μ-loop
+shared-slice-read-size c = omega arith
+
+add-t15 : tie.Need-add-t15 Inv-loop μ-loop
+add-t15 c = omega arith
 
 returns : tie.Need-returns Inv-loop μ-loop
 returns c =
-    let l = c .before .before .loop in
-    let ss = c .before .before .before .before .args .sizes .now in
+    let l = c .before .before .before .loop in
+    let ss = c .before .before .before .before .before .args .sizes .now in
     let d = span-drop ss (l .i) (omega arith) in
     record {
-      index = omega arith;
       near = omega arith;
       small = omega (arith, l .inv .1, d);
       rest = λ at end.
           let p : at + l .i + 1 ≡ at + (l .i + 1) = omega arith in
           rw (← p) (l .inv .2 at end ∙ turn-stop ss (l .value) (at + l .i) end (l .left) (l .i) (omega arith) (omega arith));
     }
-
-shared-slice-read-power : tie.Need-shared-slice-read-power Inv-loop μ-loop
-shared-slice-read-power c = omega arith
 
 power-requires : tie.Need-power-requires Inv-loop μ-loop
 power-requires c κs =
@@ -78,13 +77,15 @@ loop-again c =
           rw (c .power .ensures, ← p) (l .inv .2 at end ∙ turn-more ss (l .value) (at + l .i) end (l .left) (l .i) (omega arith) (omega arith)),
     )
 
+shared-slice-read-size-2 : tie.Need-shared-slice-read-size-2 Inv-loop μ-loop
+shared-slice-read-size-2 c = omega arith
+
 returns-2 : tie.Need-returns-2 Inv-loop μ-loop
 returns-2 c =
-    let l = c .before .loop in
-    let ss = c .before .before .before .args .sizes .now in
+    let l = c .before .before .loop in
+    let ss = c .before .before .before .before .args .sizes .now in
     let d = span-drop ss (l .i) (omega arith) in
     record {
-      index = omega arith;
       near = omega arith;
       small = omega (arith, l .inv .1, d);
       rest = λ at end. l .inv .2 at end ∙ turn-last ss (l .value) (at + l .i) end (l .left) (l .i) (omega arith);
@@ -98,12 +99,13 @@ read-prefix-spec =
     μ-loop
     sub-last
     loop-holds
-    add-t11
+    shared-slice-read-size
+    add-t15
     returns
-    shared-slice-read-power
     power-requires
     add-value
     add-i
     loop-less
     loop-again
+    shared-slice-read-size-2
     returns-2)
