@@ -1,13 +1,13 @@
 -- What the walk's loop knows where it stands, and where each instruction leaves it: what lies behind is counted, and what lies ahead
 -- is the defined walk from here. Rests on asmap_program's `Ahead` and on what asmap_codes says of a code that was read.
 -- Assumes nothing.
-use Prim.Native.Nat.{ℕ, suc, _+_, _-_, _*_, _^_, _≤_, _<_}
+use Prim.Native.Nat.{ℕ, zero, suc, _+_, _-_, _*_, _%_, _^_, _≤_, _<_}
 use mathlib.Core.Bool.{Bool, true, false, cond}
 use mathlib.Core.Path.{_≡_, refl, sym, ap, subst, _∙_}
 use mathlib.Core.Logic.{_≢_}
 use mathlib.Core.List.{List, [], _∷_}
 use native.Mathlib.Omega.{arith}
-use borrow.Author.Tests.{eq-eqb, ne-eqb, lt-ltb, le-ltb, lt-leb, le-leb}
+use borrow.Author.Tests.{eqb-true, eq-eqb, ne-eqb, lt-ltb, le-ltb, lt-leb, le-leb}
 use lib.Dec.{eqb, lit<}
 use lib.ListN.{length}
 use Rattle.asmap_program.specs.declared.Instruction.{Instruction}
@@ -21,10 +21,11 @@ use Rattle.asmap_codes.specs.declared.Code.the-variants.{Value, Cut}
 use Rattle.asmap_codes.specs.Row.{typeRow, operandRow, span}
 use Rattle.asmap_codes.specs.Code.{codeAt}
 use Rattle.asmap_codes.specs.Instruction.{mapOf}
-use Rattle.asmap_codes.proofs.Inside.{value-at, long-operand}
+use Rattle.asmap_codes.proofs.Inside.{value-at, long-operand, past-end}
 use Rattle.asmap_codes.proofs.MapLaws.{laws, fetch-cut, fetch-operand}
 use Rattle.asmap_walk.specs.Interpret.{walkOf, summary}
 use Rattle.asmap_walk.specs.declared.Ending.{Ending}
+use Rattle.asmap_walk.proofs.AddressLaws.{same-equal}
 
 -- m: the map, a: the address, w: the number of its bits that the walk may use
 module _ (m a : List ℕ) (w : ℕ) where
@@ -139,20 +140,23 @@ module _ {m a : List ℕ} {w pos used default count op at x n : ℕ} (R : Taken 
   below-row : (k : ℕ) → op ≡ k → x < operandRow k .least + span (operandRow k .sizes)
   below-row k o = subst (λ (j : ℕ). x < operandRow j .least + span (operandRow j .sizes)) o (read .below)
 
-  landing : (b : Bool) → x < 2 ^ 31 → (pos < cond b (n + x) n) × (cond b (n + x) n < 2 ^ 32)
-  landing true h = (omega (arith, read .start), omega (arith, read .near))
-  landing false h = (read .start, omega (arith, read .near))
+  -- a JUMP lands further on, wherever it goes
+  pub jump-onward : op ≡ 1 → (b : Bool) → (pos < cond b (n + x) n) × (cond b (n + x) n < 2 ^ 32)
+  jump-onward o true = let l = below-row 1 o in (omega (arith, read .start), omega (arith, read .near))
+  jump-onward o false = (read .start, omega (arith, read .near))
 
-  pub jump-onward : op ≡ 1 → (pos′ : ℕ) → pos′ ≡ cond (eqb (addressBit a used) 1) (n + x) n → (pos < pos′) × (pos′ < 2 ^ 32)
-  jump-onward o pos′ z = let b = below-row 1 o in rw z (landing (eqb (addressBit a used) 1) (omega arith))
-
-  pub jump-goes : op ≡ 1 → used < w → (pos′ : ℕ) → pos′ ≡ cond (eqb (addressBit a used) 1) (n + x) n → Walking m a w pos′ (used + 1) default (count + 1)
+  -- b: whether the address bit is 1
+  pub jump-goes : op ≡ 1 → used < w → (b : Bool) → eqb (addressBit a used) 1 ≡ b → Walking m a w (cond b (n + x) n) (used + 1) default (count + 1)
   unfolding enough
-  jump-goes o h pos′ z =
-      let f = jump-onward o pos′ z in
-      goes 1 o pos′ (used + 1) default
-      (rw (lt-ltb used w h, end-is, z) (ap (λ (u : ℕ). Goes i (record { at = cond (eqb (addressBit a used) 1) (n + x) n; used = u; default = default })) (omega arith)))
+  jump-goes o h b e =
+      let f = jump-onward o b in
+      goes 1 o (cond b (n + x) n) (used + 1) default
+      (rw (lt-ltb used w h, end-is, e) (ap (λ (u : ℕ). Goes i (record { at = cond b (n + x) n; used = u; default = default })) (omega arith)))
       (f .0) (f .1) (omega arith)
+
+  -- a JUMP to the map's end or past it: no opcode is there, and its bit was read
+  pub jump-past : op ≡ 1 → used < w → eqb (addressBit a used) 1 ≡ true → 8 * length m ≤ n + x → EndsBy m a w Aborted 0 (count + 1) (used + 1)
+  jump-past o h e k = cut-opcode (jump-goes o h true e) (past-end m (n + x) typeRow (lit< tt) k)
 
   pub match-some : op ≡ 2 → 2 ≤ x
   match-some o = subst (λ (k : ℕ). operandRow k .least ≤ x) o (read .above)
@@ -173,6 +177,11 @@ module _ {m a : List ℕ} {w pos used default count op at x n : ℕ} (R : Taken 
 
   pub match-goes : op ≡ 2 → used + lengthOf x ≤ w → compared (addressBit a) (lengthOf x) x used ≡ Equal → (u : ℕ) → u ≡ used + lengthOf x → Walking m a w n u default (count + 1)
   match-goes o h z u y = goes 2 o n u default (match-turn h Equal z ∙ rw (end-is, y)) (read .start) (omega (arith, read .near)) (omega arith)
+
+  -- the bits that it compares, taken out as one number y, are the lowest of x
+  pub match-same : op ≡ 2 → used + lengthOf x ≤ w → (k y : ℕ) → k ≡ lengthOf x → ((j : ℕ) → j < k → bitOf y j ≡ addressBit a (used + (k - 1 - j)))
+      → (same : Bool) → same ≡ eqb (y % 2 ^ k) (x % 2 ^ k) → same ≡ true → Walking m a w n (used + k) default (count + 1)
+  match-same o h k y e f same q t = match-goes o h (same-equal a x used k y e f (eqb-true (y % 2 ^ k) (x % 2 ^ k) (sym q ∙ t))) (used + k) (omega arith)
 
   pub default-goes : op ≢ 0 → op ≢ 1 → op ≢ 2 → Walking m a w n used x (count + 1)
   default-goes z y t =
@@ -232,3 +241,23 @@ module _ {a : List ℕ} {w x used₀ used left : ℕ} (C : Comparing a w x used�
   pub all-equal : left ≡ 0 → compared (addressBit a) (lengthOf x) x used₀ ≡ Equal
   unfolding compared
   all-equal h = C .rest ∙ ap (λ (k : ℕ). compared (addressBit a) k x used) h
+
+-- the same place, written otherwise
+pub comparing-from : {a : List ℕ} {w x used₀ used₁ used left : ℕ} → used₀ ≡ used₁ → Comparing a w x used₀ used left → Comparing a w x used₁ used left
+comparing-from {a} {w} {x} {used₀} {used₁} {used} {left} e C = subst (λ (i : ℕ). Comparing a w x i used left) e C
+
+-- r equal bits are used
+pub front-goes : {a : List ℕ} {w x used₀ used left : ℕ} (C : Comparing a w x used₀ used left) (r : ℕ) → r ≤ left
+    → ((k : ℕ) → k < left → left ≤ k + r → bitOf x k ≡ addressBit a (used + (left - 1 - k))) → Comparing a w x used₀ (used + r) (left - r)
+front-goes {a} {w} {x} {used₀} {used} {left} C zero h f =
+    let u : used ≡ used + 0 = omega arith in
+    let l : left ≡ left - 0 = omega arith in
+    subst (λ (i : ℕ). Comparing a w x used₀ i (left - 0)) u (subst (λ (j : ℕ). Comparing a w x used₀ used j) l C)
+front-goes {a} {w} {x} {used₀} {used} {left} C (suc r) h f =
+    let p = front-goes C r (omega arith) (λ k l q. f k l (omega arith)) in
+    let k = left - r - 1 in
+    let z : used + (left - 1 - k) ≡ used + r = omega arith in
+    let g = equal-goes p (omega arith) (ap (addressBit a) (sym z) ∙ sym (f k (omega arith) (omega arith))) in
+    let u : used + r + 1 ≡ used + suc r = omega arith in
+    let l : left - r - 1 ≡ left - suc r = omega arith in
+    subst (λ (i : ℕ). Comparing a w x used₀ i (left - suc r)) u (subst (λ (j : ℕ). Comparing a w x used₀ (used + r + 1) j) l g)

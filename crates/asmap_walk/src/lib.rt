@@ -1,11 +1,11 @@
 // The walk of a map by an address (document 01, Walk): which number an address is sent to, and how that was found out.
 ghost use mathlib.Core.Path.{_≡_};
-ghost use mathlib.Core.Bool.{cond};
 ghost use mathlib.Core.List.{[], _∷_};
-ghost use Prim.Native.Nat.{ℕ, _+_, _-_, _*_, _^_, _≤_, _<_};
+ghost use Prim.Native.Nat.{ℕ, _+_, _-_, _*_, _%_, _^_, _≤_, _<_};
+ghost use lib.Bits.{bitXor};
 ghost use lib.Dec.{eqb};
 ghost use lib.ListN.{length, getD};
-ghost use Rattle.asmap_program.specs.Map.{limit, addressBit, bitOf, ipv4Mapped};
+ghost use Rattle.asmap_program.specs.Map.{limit, addressBit, bitOf, ipv4Mapped, Width};
 ghost use Rattle.asmap_walk.specs.Interpret.{walkOf, summary, interpretOf};
 ghost use Rattle.asmap_walk.specs.Promise.{Demand3, CoreNumber};
 use asmap_codes::Code;
@@ -76,16 +76,22 @@ fn bit_of(x: u32, k: u8) -> u32
     (x >> k) % 2
 }
 
-// Where a JUMP that ends at `next` goes on: there, or `offset` bits further where the address bit is 1. That may lie past the map's
-// end; the next opcode is cut there.
-fn jump_to(bit: u32, next: usize, offset: u32) -> usize
-    requires { ⌜ next < 2 ^ 32 ⌝ }
-    ensures { λ r. ⌜ r ≡ cond (eqb bit 1) (next + offset) next ⌝ }
+// Whether the lowest n bits of two numbers are the same.
+fn same_bits(a: u32, b: u32, n: u8) -> bool
+    requires { ⌜ n < 32 ⌝ }
+    ensures { λ r. ⌜ r ≡ eqb (a % 2 ^ n) (b % 2 ^ n) ⌝ }
 {
-    if bit == 1 {
-        return next + offset as usize;
-    }
-    next
+    let weight = asmap_codes::power(n);
+    a % weight == b % weight
+}
+
+// How many of the lowest n bits of two numbers are the same, from the highest of them down to the first that differs.
+fn same_front(a: u32, b: u32, n: u8) -> u8
+    requires { ⌜ n < 32 ⌝ }
+    ensures { λ r. ⌜ (r ≤ n) × Width (bitXor a b % 2 ^ n) (n - r) ⌝ }
+{
+    let differing = (a ^ b) % asmap_codes::power(n);
+    n - asmap_program::bit_width(differing) as u8
 }
 
 fn finish(kind: Kind, number: u32, count: u32, bits: u8) -> Ending
@@ -136,8 +142,15 @@ fn walk_bits(map: &[u8], address: &[u8], width: u8) -> Ending
                 if width <= used {
                     return abort(count, used);
                 }
-                pos = jump_to(address_bit(address, used), next, operand);
+                let bit = address_bit(address, used);
                 used += 1;
+                if bit == 1 {
+                    pos = next + operand as usize;
+                    // At the map's end or past it there is no opcode to read.
+                    if end <= pos {
+                        return abort(count, used);
+                    }
+                }
             }
             asmap_program::MATCH => {
                 let mut left = asmap_program::match_length(operand);
@@ -145,6 +158,15 @@ fn walk_bits(map: &[u8], address: &[u8], width: u8) -> Ending
                     return abort(count, used);
                 }
                 let bits = address_bits(address, used, left);
+                // Most often all bits are equal.
+                if same_bits(bits, operand, left) {
+                    used += left;
+                    continue 'walk;
+                }
+                // Else the loop starts at the first that differs.
+                let front = same_front(bits, operand, left);
+                used += front;
+                left -= front;
                 while 0 < left {
                     left -= 1;
                     if bit_of(bits, left) != bit_of(operand, left) {

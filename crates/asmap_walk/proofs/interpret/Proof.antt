@@ -5,9 +5,6 @@ use Rattle.asmap_walk.proofs.Promised.{refuses-address, refuses-map, ha
 use borrow.Author.Needs.{needs}
 use Rattle.asmap_walk.proofs.interpret.Statement.{statement}
 use Rattle.asmap_walk.proofs.interpret.Tie as tie
-use Rattle.asmap_walk.proofs.interpret.Reads as reads
-use Rattle.asmap_walk.proofs.interpret.Lts as lts
-use Rattle.asmap_walk.proofs.walk_bits.Reads as walk-bits-reads
 
 returns : tie.Need-returns
 returns c = let a = c .before .before .before .args in refuses-address (a .map .now) (a .address .now) (λ e. c .if1 .taken (omega arith))

@@ -2,36 +2,26 @@
 -- Assumes nothing.
 use borrow.Author.Needs.{needs}
 use native.Mathlib.Omega.{arith}
+use mathlib.Core.Bool.{true, false}
 use mathlib.Core.Path.{_≡_, _∙_, sym}
-use Prim.Native.Nat.{ℕ, _-_, _^_}
+use Prim.Native.Nat.{ℕ, _+_, _-_, _^_}
 use lib.Dec.{lit<, lit≤}
 use Rattle.asmap_program.specs.Map.{bitOf, addressBit}
+use borrow.Author.Tests.{eq-eqb, ne-eqb}
 use Rattle.asmap_codes.specs.Row.{typeRow, operandRow}
 use Rattle.asmap_codes.specs.Code.{codeAt}
 use Rattle.asmap_codes.proofs.Inside.{long-operand}
 use Rattle.asmap_decode.proofs.WindowLaws.{row-window, window-holds}
-use Rattle.asmap_walk.proofs.Walking.{Walking, Taken, Comparing, walking-start, opcode-read, cut-opcode, cut-operand, read, returns-ends, jump-ends, jump-onward, jump-goes, match-some, match-most, match-ends, match-differs, match-goes, default-goes, comparing-start, bit-left, next-bit, equal-goes, different-ends, all-equal}
+use Rattle.asmap_walk.proofs.Walking.{Walking, Taken, Comparing, walking-start, opcode-read, cut-opcode, cut-operand, read, returns-ends, jump-ends, jump-onward, jump-goes, jump-past, match-some, match-most, match-ends, match-differs, match-goes, default-goes, match-same, comparing-start, bit-left, next-bit, equal-goes, different-ends, all-equal, comparing-from, front-goes}
+use Rattle.asmap_walk.proofs.AddressLaws.{front-same}
 use Rattle.asmap_walk.proofs.walk_bits.Statement.{statement}
 use Rattle.asmap_walk.proofs.walk_bits.Tie as tie
-use Rattle.asmap_walk.proofs.walk_bits.Reads as reads
-use Rattle.asmap_walk.proofs.walk_bits.Lts as lts
-use Rattle.asmap_decode.proofs.operand_in.Reads as operand-in-reads
-use Rattle.asmap_decode.proofs.operand_window.Reads as operand-window-reads
-use Rattle.asmap_decode.proofs.type_in.Reads as type-in-reads
-use Rattle.asmap_decode.proofs.window.Reads as window-reads
-use Rattle.asmap_program.proofs.match_length.Reads as match-length-reads
-use Rattle.asmap_walk.proofs.abort.Reads as abort-reads
-use Rattle.asmap_walk.proofs.address_bit.Reads as address-bit-reads
-use Rattle.asmap_walk.proofs.address_bits.Reads as address-bits-reads
-use Rattle.asmap_walk.proofs.bit_of.Reads as bit-of-reads
-use Rattle.asmap_walk.proofs.finish.Reads as finish-reads
-use Rattle.asmap_walk.proofs.jump_to.Reads as jump-to-reads
 
 abbrev Inv-loop : tie.InvT-loop
-Inv-loop map address width end pos used₀ default count w opcode at rest operand next left₀ bits used left = Comparing address width operand used₀ used left
+Inv-loop map address width end pos used₀ default count w opcode at rest operand next left₀ bits front used left = Comparing address width operand (used₀ - front) used left
 
 abbrev μ-loop : tie.MeasureT-loop
-μ-loop map address width end pos used₀ default count w opcode at rest operand next left₀ bits used left = left
+μ-loop map address width end pos used₀ default count w opcode at rest operand next left₀ bits front used left = left
 
 abbrev Inv-walk : tie.InvT-walk
 Inv-walk map address width end pos₀ used₀ default₀ count₀ pos used default count = Walking map address width pos used default count
@@ -42,86 +32,17 @@ abbrev μ-walk : tie.MeasureT-walk
 -- ---- what is known where an instruction was read whole, said once
 
 -- the opcode and the operand that were read are those of the map
-typed : (k : lts.After-type-in (
-  window-reads.Asked,
-  window-reads.Learnt,
-  type-in-reads.Asked,
-  type-in-reads.Learnt,
-  abort-reads.Asked,
-  abort-reads.Learnt,
-  operand-window-reads.Asked,
-  operand-window-reads.Learnt,
-  operand-in-reads.Asked,
-  operand-in-reads.Learnt,
-  finish-reads.Asked,
-  finish-reads.Learnt,
-  address-bit-reads.Asked,
-  address-bit-reads.Learnt,
-  jump-to-reads.Asked,
-  jump-to-reads.Learnt,
-  match-length-reads.Asked,
-  match-length-reads.Learnt,
-  address-bits-reads.Asked,
-  address-bits-reads.Learnt,
-  bit-of-reads.Asked,
-  bit-of-reads.Learnt,
-) reads.Pre reads.Post Inv-loop μ-loop Inv-walk μ-walk) → codeAt (k .before .before .before .before .before .args .map .now) (k .before .before .walk .pos) typeRow ≡ k .type-in .result
+typed : (k : tie.After-type-in Inv-loop μ-loop Inv-walk μ-walk) → codeAt (k .before .before .before .before .before .args .map .now) (k .before .before .walk .pos) typeRow ≡ k .type-in .result
 typed k =
     let m = k .before .before .before .before .before .args .map .now in
     let p = k .before .before .walk .pos in
     sym (k .type-in .ensures ∙ row-window m p _ typeRow (lit< tt) (window-holds m p _ typeRow (lit≤ tt) (k .before .window .ensures)))
 
-operand : (k : lts.After-operand-in (
-  window-reads.Asked,
-  window-reads.Learnt,
-  type-in-reads.Asked,
-  type-in-reads.Learnt,
-  abort-reads.Asked,
-  abort-reads.Learnt,
-  operand-window-reads.Asked,
-  operand-window-reads.Learnt,
-  operand-in-reads.Asked,
-  operand-in-reads.Learnt,
-  finish-reads.Asked,
-  finish-reads.Learnt,
-  address-bit-reads.Asked,
-  address-bit-reads.Learnt,
-  jump-to-reads.Asked,
-  jump-to-reads.Learnt,
-  match-length-reads.Asked,
-  match-length-reads.Learnt,
-  address-bits-reads.Asked,
-  address-bits-reads.Learnt,
-  bit-of-reads.Asked,
-  bit-of-reads.Learnt,
-) reads.Pre reads.Post Inv-loop μ-loop Inv-walk μ-walk) → codeAt (k .before .before .before .before .before .before .before .before .before .before .args .map .now) (k .before .before .before .first .given .0 .1 .0) (operandRow (k .before .before .before .first .given .0 .0)) ≡ k .operand-in .result
+operand : (k : tie.After-operand-in Inv-loop μ-loop Inv-walk μ-walk) → codeAt (k .before .before .before .before .before .before .before .before .before .before .args .map .now) (k .before .before .before .first .given .0 .1 .0) (operandRow (k .before .before .before .first .given .0 .0)) ≡ k .operand-in .result
 operand k = let o = k .before .before .before .first .given .0 .0 in sym (k .operand-in .ensures ∙ row-window (k .before .before .before .before .before .before .before .before .before .before .args .map .now) _ _ (operandRow o) (long-operand o) (k .before .operand-window .ensures))
 
 abbrev WasRead : Type 0
-WasRead = lts.After-known-told2 (
-  window-reads.Asked,
-  window-reads.Learnt,
-  type-in-reads.Asked,
-  type-in-reads.Learnt,
-  abort-reads.Asked,
-  abort-reads.Learnt,
-  operand-window-reads.Asked,
-  operand-window-reads.Learnt,
-  operand-in-reads.Asked,
-  operand-in-reads.Learnt,
-  finish-reads.Asked,
-  finish-reads.Learnt,
-  address-bit-reads.Asked,
-  address-bit-reads.Learnt,
-  jump-to-reads.Asked,
-  jump-to-reads.Learnt,
-  match-length-reads.Asked,
-  match-length-reads.Learnt,
-  address-bits-reads.Asked,
-  address-bits-reads.Learnt,
-  bit-of-reads.Asked,
-  bit-of-reads.Learnt,
-) reads.Pre reads.Post Inv-loop μ-loop Inv-walk μ-walk
+WasRead = tie.After-known-told2 Inv-loop μ-loop Inv-walk μ-walk
 
 taken : (k : WasRead)
     → Taken (k .before .before .before .before .before .before .before .before .before .before .before .before .before .args .map .now) (k .before .before .before .before .before .before .before .before .before .before .before .before .before .args .address .now) (k .before .before .before .before .before .before .before .before .before .before .before .before .before .args .width)
@@ -134,33 +55,19 @@ taken k = record {
   operand = operand (k .before .before .before) ∙ k .before .second .given .1;
 }
 
--- in the loop over a MATCH's bits: the next of those taken out is the next of the address
-next : (k : lts.In-loop (
-  window-reads.Asked,
-  window-reads.Learnt,
-  type-in-reads.Asked,
-  type-in-reads.Learnt,
-  abort-reads.Asked,
-  abort-reads.Learnt,
-  operand-window-reads.Asked,
-  operand-window-reads.Learnt,
-  operand-in-reads.Asked,
-  operand-in-reads.Learnt,
-  finish-reads.Asked,
-  finish-reads.Learnt,
-  address-bit-reads.Asked,
-  address-bit-reads.Learnt,
-  jump-to-reads.Asked,
-  jump-to-reads.Learnt,
-  match-length-reads.Asked,
-  match-length-reads.Learnt,
-  address-bits-reads.Asked,
-  address-bits-reads.Learnt,
-  bit-of-reads.Asked,
-  bit-of-reads.Learnt,
-) reads.Pre reads.Post Inv-loop μ-loop Inv-walk μ-walk)
-    → bitOf (k .before .before .address-bits .result) (k .before .loop .left - 1) ≡ addressBit (k .before .before .before .before .before .before .before .before .before .before .before .before .before .before .before .before .before .before .before .args .address .now) (k .before .loop .used)
-next k = next-bit (k .before .loop .inv) (k .loop-test .taken) _ _ (k .before .before .before .before .match-length .ensures) (k .before .before .address-bits .ensures)
+-- in the loop over a MATCH's bits: the MATCH began where the walk stood, and the bits equal at its front are behind
+comparing : (k : tie.At-loop Inv-loop μ-loop Inv-walk μ-walk)
+    → Comparing (k .before .before .before .before .before .before .before .before .before .before .before .before .before .before .before .before .before .before .before .before .before .args .address .now) (k .before .before .before .before .before .before .before .before .before .before .before .before .before .before .before .before .before .before .before .before .before .args .width)
+    (k .before .before .before .before .before .before .before .before .before .second .given .0 .0) (k .before .before .before .before .before .before .before .before .before .before .before .before .before .before .before .before .before .before .walk .used) (k .loop .used) (k .loop .left)
+comparing k =
+    let u = k .before .before .before .before .before .before .before .before .before .before .before .before .before .before .before .before .before .before .walk .used in
+    let e : u + k .before .same-front .result - k .before .same-front .result ≡ u = omega arith in
+    comparing-from e (k .loop .inv)
+
+-- the next of the bits taken out is the next of the address
+next : (k : tie.In-loop Inv-loop μ-loop Inv-walk μ-walk)
+    → bitOf (k .before .before .before .before .before .address-bits .result) (k .before .loop .left - 1) ≡ addressBit (k .before .before .before .before .before .before .before .before .before .before .before .before .before .before .before .before .before .before .before .before .before .before .args .address .now) (k .before .loop .used)
+next k = next-bit (comparing (k .before)) (k .loop-test .taken) _ _ (k .before .before .before .before .before .before .before .match-length .ensures) (k .before .before .before .before .before .address-bits .ensures)
 
 mul-end : tie.Need-mul-end Inv-loop μ-loop Inv-walk μ-walk
 mul-end c = omega arith
@@ -226,25 +133,14 @@ returns-4 c = c .abort3 .ensures ∙ jump-ends (taken (c .before .before .before
 address-bit-requires : tie.Need-address-bit-requires Inv-loop μ-loop Inv-walk μ-walk
 address-bit-requires c κs = omega (arith, taken (c .before .before) .walking .width, c .if1 .left)
 
-jump-to-requires : tie.Need-jump-to-requires Inv-loop μ-loop Inv-walk μ-walk
-jump-to-requires c κs = omega (arith, read (taken (c .before .before .before)) .near)
-
 add-used : tie.Need-add-used Inv-loop μ-loop Inv-walk μ-walk
-add-used c = omega (arith, taken (c .before .before .before .before) .walking .narrow, c .before .before .if1 .left)
+add-used c = omega (arith, taken (c .before .before .before) .walking .narrow, c .before .if1 .left)
 
-walk-less : tie.Need-walk-less Inv-loop μ-loop Inv-walk μ-walk
-walk-less c =
-    let o = jump-onward (taken (c .before .before .before .before)) (c .before .before .before .match3 .keys2) _ (rw (c .before .address-bit .ensures) at (c .jump-to .ensures)) in
-    omega (arith, o .0, o .1)
+cast-pos : tie.Need-cast-pos Inv-loop μ-loop Inv-walk μ-walk
+cast-pos c = search needs
 
-walk-again : tie.Need-walk-again Inv-loop μ-loop Inv-walk μ-walk
-walk-again c = jump-goes (taken (c .before .before .before .before)) (c .before .before .before .match3 .keys2) (omega (arith, c .before .before .if1 .left)) _ (rw (c .before .address-bit .ensures) at (c .jump-to .ensures))
-
-match-length-requires : tie.Need-match-length-requires Inv-loop μ-loop Inv-walk μ-walk
-match-length-requires c κs = omega (arith, match-some (taken (c .before)) (c .match3 .keys3))
-
-sub-if2 : tie.Need-sub-if2 Inv-loop μ-loop Inv-walk μ-walk
-sub-if2 c = omega (arith, taken (c .before .before) .walking .room)
+add-pos : tie.Need-add-pos Inv-loop μ-loop Inv-walk μ-walk
+add-pos c = omega (arith, read (taken (c .before .before .before .before)) .near)
 
 abort-requires-4 : tie.Need-abort-requires-4 Inv-loop μ-loop Inv-walk μ-walk
 abort-requires-4 c κs = tt
@@ -252,25 +148,85 @@ abort-requires-4 c κs = tt
 returns-5 : tie.Need-returns-5 Inv-loop μ-loop Inv-walk μ-walk
 returns-5 c =
     c .abort4 .ensures
-    ∙ match-ends (taken (c .before .before .before .before)) (c .before .before .before .match3 .keys3) (omega (arith, c .before .if2 .taken, c .before .before .match-length .ensures, taken (c .before .before .before .before) .walking .room))
+    ∙ jump-past (taken (c .before .before .before .before .before .before)) (c .before .before .before .before .before .match3 .keys2) (omega (arith, c .before .before .before .before .if1 .left)) (eq-eqb _ 1 (sym (c .before .before .before .address-bit .ensures) ∙ c .before .before .if2 .taken)) (omega (arith, c .before .if3 .taken))
+
+walk-less : tie.Need-walk-less Inv-loop μ-loop Inv-walk μ-walk
+walk-less c =
+    let o = jump-onward (taken (c .before .before .before .before .before)) (c .before .before .before .before .match3 .keys2) true in
+    omega (arith, o .0, o .1)
+
+walk-again : tie.Need-walk-again Inv-loop μ-loop Inv-walk μ-walk
+walk-again c = jump-goes (taken (c .before .before .before .before .before)) (c .before .before .before .before .match3 .keys2) (omega (arith, c .before .before .before .if1 .left)) true (eq-eqb _ 1 (sym (c .before .before .address-bit .ensures) ∙ c .before .if2 .taken))
+
+walk-less-2 : tie.Need-walk-less-2 Inv-loop μ-loop Inv-walk μ-walk
+walk-less-2 c =
+    let o = jump-onward (taken (c .before .before .before .before)) (c .before .before .before .match3 .keys2) false in
+    omega (arith, o .0, o .1)
+
+walk-again-2 : tie.Need-walk-again-2 Inv-loop μ-loop Inv-walk μ-walk
+walk-again-2 c = jump-goes (taken (c .before .before .before .before)) (c .before .before .before .match3 .keys2) (omega (arith, c .before .before .if1 .left)) false (ne-eqb _ 1 (λ z. c .if2 .left (c .before .address-bit .ensures ∙ z)))
+
+match-length-requires : tie.Need-match-length-requires Inv-loop μ-loop Inv-walk μ-walk
+match-length-requires c κs = omega (arith, match-some (taken (c .before)) (c .match3 .keys3))
+
+sub-if4 : tie.Need-sub-if4 Inv-loop μ-loop Inv-walk μ-walk
+sub-if4 c = omega (arith, taken (c .before .before) .walking .room)
+
+abort-requires-5 : tie.Need-abort-requires-5 Inv-loop μ-loop Inv-walk μ-walk
+abort-requires-5 c κs = tt
+
+returns-6 : tie.Need-returns-6 Inv-loop μ-loop Inv-walk μ-walk
+returns-6 c =
+    c .abort5 .ensures
+    ∙ match-ends (taken (c .before .before .before .before)) (c .before .before .before .match3 .keys3) (omega (arith, c .before .if4 .taken, c .before .before .match-length .ensures, taken (c .before .before .before .before) .walking .room))
 
 address-bits-requires : tie.Need-address-bits-requires Inv-loop μ-loop Inv-walk μ-walk
 address-bits-requires c κs = omega (arith, match-most (taken (c .before .before .before)) (c .before .before .match3 .keys3), c .before .match-length .ensures)
 
-loop-holds : tie.Need-loop-holds Inv-loop μ-loop Inv-walk μ-walk
-loop-holds c = comparing-start (taken (c .before .before .before .before)) (c .before .before .before .match3 .keys3) _ (c .before .before .match-length .ensures) (omega (arith, c .before .if2 .left, taken (c .before .before .before .before) .walking .room))
+same-bits-requires : tie.Need-same-bits-requires Inv-loop μ-loop Inv-walk μ-walk
+same-bits-requires c κs = omega (arith, match-most (taken (c .before .before .before .before)) (c .before .before .before .match3 .keys3), c .before .before .match-length .ensures)
 
-walk-less-2 : tie.Need-walk-less-2 Inv-loop μ-loop Inv-walk μ-walk
-walk-less-2 c = let r = read (taken (c .before .before .before .before .before .before)) in omega (arith, r .start, r .near)
+add-used-2 : tie.Need-add-used-2 Inv-loop μ-loop Inv-walk μ-walk
+add-used-2 c = omega (arith, c .before .before .before .if4 .left, taken (c .before .before .before .before .before .before) .walking .narrow)
 
-walk-again-2 : tie.Need-walk-again-2 Inv-loop μ-loop Inv-walk μ-walk
-walk-again-2 c =
-    let l = c .before .loop .inv in
-    let z : c .before .loop .left ≡ 0 = omega (arith, c .loop-test .left) in
-    match-goes (taken (c .before .before .before .before .before .before)) (c .before .before .before .before .before .match3 .keys3) (l .room) (all-equal l z) _ (omega (arith, l .place, z))
+walk-less-3 : tie.Need-walk-less-3 Inv-loop μ-loop Inv-walk μ-walk
+walk-less-3 c = let r = read (taken (c .before .before .before .before .before .before)) in omega (arith, r .start, r .near)
+
+walk-again-3 : tie.Need-walk-again-3 Inv-loop μ-loop Inv-walk μ-walk
+walk-again-3 c =
+    let l = c .before .before .before .before .match-length .ensures in
+    match-same (taken (c .before .before .before .before .before .before)) (c .before .before .before .before .before .match3 .keys3) (omega (arith, c .before .before .before .if4 .left, l, taken (c .before .before .before .before .before .before) .walking .room)) _ _ l
+    (c .before .before .address-bits .ensures) _ (c .before .same-bits .ensures) (c .if5 .taken)
+
+same-front-requires : tie.Need-same-front-requires Inv-loop μ-loop Inv-walk μ-walk
+same-front-requires c κs = omega (arith, match-most (taken (c .before .before .before .before .before .before)) (c .before .before .before .before .before .match3 .keys3), c .before .before .before .before .match-length .ensures)
+
+add-used-3 : tie.Need-add-used-3 Inv-loop μ-loop Inv-walk μ-walk
+add-used-3 c = omega (arith, c .before .before .before .before .if4 .left, c .same-front .ensures .0, taken (c .before .before .before .before .before .before .before) .walking .narrow)
 
 sub-left : tie.Need-sub-left Inv-loop μ-loop Inv-walk μ-walk
-sub-left c = omega (arith, c .loop-test .taken)
+sub-left c = omega (arith, c .same-front .ensures .0)
+
+loop-holds : tie.Need-loop-holds Inv-loop μ-loop Inv-walk μ-walk
+loop-holds c =
+    let t = taken (c .before .before .before .before .before .before .before) in
+    let r = c .same-front in
+    let s = comparing-start t (c .before .before .before .before .before .before .match3 .keys3) _ (c .before .before .before .before .before .match-length .ensures) (omega (arith, c .before .before .before .before .if4 .left, t .walking .room)) in
+    let u = c .before .before .before .before .before .before .before .before .before .before .before .before .before .before .before .before .before .walk .used in
+    let e : u ≡ u + r .result - r .result = omega arith in
+    comparing-from e (front-goes s (r .result) (r .ensures .0) (λ k l q. sym (front-same _ _ _ (r .result) (r .ensures .1) k l q) ∙ c .before .before .before .address-bits .ensures k l))
+
+walk-less-4 : tie.Need-walk-less-4 Inv-loop μ-loop Inv-walk μ-walk
+walk-less-4 c = let r = read (taken (c .before .before .before .before .before .before .before .before .before)) in omega (arith, r .start, r .near)
+
+walk-again-4 : tie.Need-walk-again-4 Inv-loop μ-loop Inv-walk μ-walk
+walk-again-4 c =
+    let l = comparing (c .before) in
+    let z : c .before .loop .left ≡ 0 = omega (arith, c .loop-test .left) in
+    match-goes (taken (c .before .before .before .before .before .before .before .before .before)) (c .before .before .before .before .before .before .before .before .match3 .keys3) (l .room) (all-equal l z) _ (omega (arith, l .place, z))
+
+sub-left-2 : tie.Need-sub-left-2 Inv-loop μ-loop Inv-walk μ-walk
+sub-left-2 c = omega (arith, c .loop-test .taken)
 
 bit-of-requires : tie.Need-bit-of-requires Inv-loop μ-loop Inv-walk μ-walk
 bit-of-requires c κs = omega (arith, c .before .loop .inv .short)
@@ -278,8 +234,8 @@ bit-of-requires c κs = omega (arith, c .before .loop .inv .short)
 bit-of-requires-2 : tie.Need-bit-of-requires-2 Inv-loop μ-loop Inv-walk μ-walk
 bit-of-requires-2 c κs = omega (arith, c .before .before .loop .inv .short)
 
-add-used-2 : tie.Need-add-used-2 Inv-loop μ-loop Inv-walk μ-walk
-add-used-2 c = omega (arith, bit-left (c .before .before .before .before .loop .inv) (c .before .before .before .loop-test .taken), taken (c .before .before .before .before .before .before .before .before .before) .walking .narrow)
+add-used-4 : tie.Need-add-used-4 Inv-loop μ-loop Inv-walk μ-walk
+add-used-4 c = omega (arith, bit-left (c .before .before .before .before .loop .inv) (c .before .before .before .loop-test .taken), taken (c .before .before .before .before .before .before .before .before .before .before .before .before) .walking .narrow)
 
 loop-less : tie.Need-loop-less Inv-loop μ-loop Inv-walk μ-walk
 loop-less c = omega (arith, c .before .before .before .loop-test .taken)
@@ -287,26 +243,26 @@ loop-less c = omega (arith, c .before .before .before .loop-test .taken)
 loop-again : tie.Need-loop-again Inv-loop μ-loop Inv-walk μ-walk
 loop-again c =
     equal-goes (c .before .before .before .before .loop .inv) (c .before .before .before .loop-test .taken)
-    (sym (next (c .before .before .before)) ∙ sym (c .before .before .bit-of .ensures) ∙ c .if3 .left ∙ c .before .bit-of2 .ensures)
+    (sym (next (c .before .before .before)) ∙ sym (c .before .before .bit-of .ensures) ∙ c .if6 .left ∙ c .before .bit-of2 .ensures)
 
-walk-less-3 : tie.Need-walk-less-3 Inv-loop μ-loop Inv-walk μ-walk
-walk-less-3 c = let r = read (taken (c .before)) in omega (arith, r .start, r .near)
+walk-less-5 : tie.Need-walk-less-5 Inv-loop μ-loop Inv-walk μ-walk
+walk-less-5 c = let r = read (taken (c .before)) in omega (arith, r .start, r .near)
 
-walk-again-3 : tie.Need-walk-again-3 Inv-loop μ-loop Inv-walk μ-walk
-walk-again-3 c = default-goes (taken (c .before)) (c .match3 .rest .0 .0 .1) (c .match3 .rest .0 .1) (c .match3 .rest .1)
+walk-again-5 : tie.Need-walk-again-5 Inv-loop μ-loop Inv-walk μ-walk
+walk-again-5 c = default-goes (taken (c .before)) (c .match3 .rest .0 .0 .1) (c .match3 .rest .0 .1) (c .match3 .rest .1)
 
 add-finish : tie.Need-add-finish Inv-loop μ-loop Inv-walk μ-walk
-add-finish c = omega (arith, bit-left (c .before .before .before .before .loop .inv) (c .before .before .before .loop-test .taken), taken (c .before .before .before .before .before .before .before .before .before) .walking .narrow)
+add-finish c = omega (arith, bit-left (c .before .before .before .before .loop .inv) (c .before .before .before .loop-test .taken), taken (c .before .before .before .before .before .before .before .before .before .before .before .before) .walking .narrow)
 
 finish-requires-2 : tie.Need-finish-requires-2 Inv-loop μ-loop Inv-walk μ-walk
 finish-requires-2 c κs = tt
 
-returns-6 : tie.Need-returns-6 Inv-loop μ-loop Inv-walk μ-walk
-returns-6 c =
-    let l = c .before .before .before .before .before .loop .inv in
+returns-7 : tie.Need-returns-7 Inv-loop μ-loop Inv-walk μ-walk
+returns-7 c =
+    let l = comparing (c .before .before .before .before .before) in
     c .finish2 .ensures
-    ∙ match-differs (taken (c .before .before .before .before .before .before .before .before .before .before)) (c .before .before .before .before .before .before .before .before .before .match3 .keys3) (l .room) _
-    (different-ends l (c .before .before .before .before .loop-test .taken) (λ z. c .before .if3 .taken (c .before .before .before .bit-of .ensures ∙ next (c .before .before .before .before) ∙ z ∙ sym (c .before .before .bit-of2 .ensures))))
+    ∙ match-differs (taken (c .before .before .before .before .before .before .before .before .before .before .before .before .before)) (c .before .before .before .before .before .before .before .before .before .before .before .before .match3 .keys3) (l .room) _
+    (different-ends l (c .before .before .before .before .loop-test .taken) (λ z. c .before .if6 .taken (c .before .before .before .bit-of .ensures ∙ next (c .before .before .before .before) ∙ z ∙ sym (c .before .before .bit-of2 .ensures))))
 
 pub walk-bits-spec : {M : Type 1} → statement M
 walk-bits-spec =
@@ -336,26 +292,38 @@ walk-bits-spec =
     abort-requires-3
     returns-4
     address-bit-requires
-    jump-to-requires
     add-used
-    walk-less
-    walk-again
-    match-length-requires
-    sub-if2
+    cast-pos
+    add-pos
     abort-requires-4
     returns-5
-    address-bits-requires
-    loop-holds
+    walk-less
+    walk-again
     walk-less-2
     walk-again-2
-    sub-left
-    bit-of-requires
-    bit-of-requires-2
+    match-length-requires
+    sub-if4
+    abort-requires-5
+    returns-6
+    address-bits-requires
+    same-bits-requires
     add-used-2
-    loop-less
-    loop-again
     walk-less-3
     walk-again-3
+    same-front-requires
+    add-used-3
+    sub-left
+    loop-holds
+    walk-less-4
+    walk-again-4
+    sub-left-2
+    bit-of-requires
+    bit-of-requires-2
+    add-used-4
+    loop-less
+    loop-again
+    walk-less-5
+    walk-again-5
     add-finish
     finish-requires-2
-    returns-6)
+    returns-7)
