@@ -1,13 +1,18 @@
 -- What the crates below promise of their answers, carried over to the numbers that the calls hand out: demand 3 for walk and pick,
--- and that no walk behind a group aborts.
+-- what Core answers, and that no walk behind a group aborts.
 -- Assumes nothing.
 use Prim.Native.Nat.{ℕ}
-use mathlib.Core.Path.{_≡_, _∙_, refl, ap, subst}
+use mathlib.Core.Path.{_≡_, _∙_, refl, sym, ap, subst}
 use mathlib.Core.Logic.{_⊎_, inl, inr, _≢_}
 use mathlib.Core.List.{List, [], _∷_}
 use native.Mathlib.Omega.{arith}
+use borrow.Author.Tests.{eq-eqb, ne-eqb}
 use Rattle.asmap_program.specs.declared.Kind.{Kind}
 use Rattle.asmap_program.specs.declared.Kind.the-variants.{Returned, Differed, Aborted}
+use Rattle.asmap_program.specs.declared.Verdict.{Verdict}
+use Rattle.asmap_program.specs.declared.Verdict.the-variants as verdict
+use Rattle.asmap_program.specs.Core.{Number}
+use Rattle.asmap_check.specs.Check.{LikeCore}
 use Rattle.asmap_walk.specs.declared.Ending.{Ending}
 use Rattle.asmap_walk.specs.declared.Interpreted.{Interpreted}
 use Rattle.asmap_walk.specs.declared.Interpreted.the-variants.{Ended}
@@ -20,9 +25,9 @@ use Rattle.netgroup_pick.specs.declared.PickAnswer.the-variants as pick
 use Rattle.netgroup_pick.specs.Pick.{Handed}
 use Rattle.netgroup_pick.specs.Pick as below
 use Rattle.answers.specs.Outcome.{handed, IsDone, Hands}
-use Rattle.answers.specs.Maps.{kindNumber, endNumbers, walkMade}
+use Rattle.answers.specs.Maps.{mapChecked, kindNumber, endNumbers, walkMade}
 use Rattle.answers.specs.Groups.{groupFound, totalsOf, pickMade, Picks}
-use Rattle.answers.specs.Promise.{Finished, Demand3}
+use Rattle.answers.specs.Promise.{Finished, Demand3, CoreVerdict, CoreNumber}
 use Rattle.answers.proofs.Handing.{Counted, hands}
 
 -- ---- the walk
@@ -50,6 +55,23 @@ walk-finished m a x r kind number count bits lent p e c d h l =
     let k = t .2 .0 in
     let q : x ≡ Ended (summary (walkOf m a 128)) = t .1 ∙ ap Ended (k .exact) in
     finished m a r kind number count bits (subst (walk.Kept m a 128) (k .exact) k) (rw q at e)
+
+-- the number is the one that Core gives
+pub core-number : (m a : List ℕ) (x : Interpreted) (r kind number count bits : ℕ) (lent : List ℕ) → walk.CoreNumber m a x
+    → r ∷ kind ∷ number ∷ count ∷ bits ∷ [] ≡ handed (walkMade x) lent → CoreNumber m a number
+unfolding handed walkMade
+core-number m a x r kind number count bits lent p e c d h l =
+    let t = p c d h l in
+    let q : r ∷ kind ∷ number ∷ count ∷ bits ∷ [] ≡ 0 ∷ endNumbers (t .0) = rw (t .1) at e in
+    let n : t .0 .number ≡ number = cc in
+    t .2 ∙ ap Number n
+
+-- ---- the check: 0 where Core accepts, and no other number
+
+pub core-verdict : (m : List ℕ) (x : Verdict) {r : ℕ} {lent left : List ℕ} → LikeCore m 128 x → Hands (mapChecked x) r lent left → CoreVerdict m r
+unfolding handed IsDone mapChecked
+core-verdict m (verdict.Accepted c d) {r} p h l = let e = h .numbers in let z : r ≡ 0 = cc in p l ∙ sym (eq-eqb r 0 z)
+core-verdict m (verdict.Refused n) {r} p h l = p l ∙ sym (ne-eqb r 0 (λ z. h .zero-is-done z))
 
 -- ---- groups and pick: where the answer is 0, what was found is in the lent numbers at exit
 

@@ -1,11 +1,15 @@
--- Demand 3 for the walk, in the numbers that its call hands out.
+-- Demand 3 for the walk, and what Bitcoin Core answers to the same bytes, in the numbers that the calls hand out.
 -- Assumes nothing.
 use Prim.Native.Nat.{ℕ, _+_, _*_, _≤_}
 use mathlib.Core.Path.{_≡_}
 use mathlib.Core.Logic.{_⊎_}
 use mathlib.Core.List.{List, [], _∷_}
+use lib.Dec.{eqb}
 use lib.ListN.{length}
 use Rattle.asmap_program.specs.declared.Verdict.the-variants.{Accepted}
+use Rattle.asmap_program.specs.Map.{limit, addressBit}
+use Rattle.asmap_program.specs.Core.{coreCheck, Number, coreInterpret}
+use Rattle.asmap_codes.specs.Core.{fileOf}
 use Rattle.asmap_check.specs.Check.{checkOf}
 use Rattle.asmap_walk.specs.Interpret.{walkOf, summary}
 use Rattle.asmap_walk.specs.Promise.{Kept}
@@ -24,3 +28,12 @@ pub record Finished (m a : List ℕ) (r kind number count bits : ℕ) : Type 0 w
 -- so it is wherever the check accepts the map, for every address of 16 bytes
 abbrev pub Demand3 : List ℕ → List ℕ → ℕ → ℕ → ℕ → ℕ → ℕ → Type 0
 Demand3 m a r kind number count bits = (c d : ℕ) → checkOf m 128 ≡ Accepted c d → length a ≡ 16 → Finished m a r kind number count bits
+
+-- Core's SanityCheckASMap (the paper core-asmap.md) over 128 address bits accepts a map within the limit exactly where the check's call
+-- answers 0.
+abbrev pub CoreVerdict : List ℕ → ℕ → Type 0
+CoreVerdict m r = length m ≤ limit → coreCheck (fileOf m) 128 ≡ eqb r 0
+
+-- Core's Interpret gives the number that the walk's call hands out, wherever the check accepts the map, for every address of 16 bytes.
+abbrev pub CoreNumber : List ℕ → List ℕ → ℕ → Type 0
+CoreNumber m a number = (c d : ℕ) → checkOf m 128 ≡ Accepted c d → length a ≡ 16 → coreInterpret (addressBit a) 128 (fileOf m) ≡ Number number

@@ -6,7 +6,7 @@ ghost use Rattle.asmap_records.specs.Unpack.{unpackOf};
 ghost use Rattle.asmap_records.specs.Pack.{packOf};
 ghost use Rattle.answers.specs.Outcome.{Hands};
 ghost use Rattle.answers.specs.Maps.{mapChecked, walkMade, Writes};
-ghost use Rattle.answers.specs.Promise.{Demand3};
+ghost use Rattle.answers.specs.Promise.{Demand3, CoreVerdict, CoreNumber};
 use answers::maps::hand_bytes;
 use answers::maps::hand_verdict;
 use answers::maps::hand_walk;
@@ -15,6 +15,7 @@ use answers::maps::hand_walk;
 #[no_mangle]
 pub extern "C" fn corbastrigo_sanity_check(map: &[u8], count: &mut u32, depth: &mut u8) -> u8
     ensures { λ r. ⌜ Hands (mapChecked (checkOf (now (map .entry)) 128)) r (now (count .entry) ∷ now (depth .entry) ∷ []) (now (count .exit) ∷ now (depth .exit) ∷ []) ⌝ }
+    ensures core { λ r. ⌜ CoreVerdict (now (map .entry)) r ⌝ }
 {
     hand_verdict(asmap_check::sanity_check(map), count, depth)
 }
@@ -32,6 +33,7 @@ pub extern "C" fn corbastrigo_interpret(
 ) -> u8
     ensures { λ r. ⌜ Hands (walkMade (interpretOf (now (map .entry)) (now (address .entry)))) r (now (kind .entry) ∷ now (number .entry) ∷ now (count .entry) ∷ now (bits .entry) ∷ []) (now (kind .exit) ∷ now (number .exit) ∷ now (count .exit) ∷ now (bits .exit) ∷ []) ⌝ }
     ensures demand3 { λ r. ⌜ Demand3 (now (map .entry)) (now (address .entry)) r (now (kind .exit)) (now (number .exit)) (now (count .exit)) (now (bits .exit)) ⌝ }
+    ensures core { λ r. ⌜ CoreNumber (now (map .entry)) (now (address .entry)) (now (number .exit)) ⌝ }
 {
     hand_walk(
         asmap_walk::interpret(map, address),

@@ -1,8 +1,8 @@
--- How the walk ended is handed out, and what is promised of it (`walk-finished`).
+-- How the walk ended is handed out, and what is promised of it (`walk-finished`, `core-number`).
 -- Assumes nothing.
 use Rattle.answers.specs.Maps.{walkMade}
 use Rattle.answers.proofs.Handing.{hands}
-use Rattle.answers.proofs.Promised.{walk-finished}
+use Rattle.answers.proofs.Promised.{walk-finished, core-number}
 use Rattle.answers.proofs.NeverZeroMaps.{walk-made}
 use borrow.Author.Needs.{needs}
 use Rattle.corbastrigo.proofs.maps.corbastrigo_interpret.Statement.{statement}
@@ -18,7 +18,10 @@ returns : tie.Need-returns
 returns c =
     let a = c .before .before .before .before .before .before .before .before .args in
     let w = c .before .before .before .before .before .interpret .ensures in
-    (hands walkMade (w .0) (walk-made (a .map .now) (a .address .now)) (c .hand-walk .ensures), walk-finished (a .map .now) (a .address .now) _ _ _ _ _ _ _ (w .1 .0) (c .hand-walk .ensures))
+    let h = c .hand-walk .ensures in (
+      hands walkMade (w .0) (walk-made (a .map .now) (a .address .now)) h,
+      (walk-finished (a .map .now) (a .address .now) _ _ _ _ _ _ _ (w .1 .0) h, core-number (a .map .now) (a .address .now) _ _ _ _ _ _ _ (w .1 .1) h),
+    )
 
 pub corbastrigo-interpret-spec : {M : Type 1} → statement M
 corbastrigo-interpret-spec = tie.close (tie.spec interpret-requires hand-walk-requires returns)

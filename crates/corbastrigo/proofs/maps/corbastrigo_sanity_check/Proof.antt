@@ -1,7 +1,10 @@
--- The check's verdict is handed out.
+-- The check's verdict is handed out, and it is Core's (`core-verdict`).
 -- Assumes nothing.
+use mathlib.Core.Path.{subst}
 use Rattle.answers.specs.Maps.{mapChecked}
+use Rattle.asmap_check.specs.Check.{checkOf, LikeCore}
 use Rattle.answers.proofs.Handing.{hands}
+use Rattle.answers.proofs.Promised.{core-verdict}
 use Rattle.answers.proofs.NeverZeroMaps.{map-checked}
 use borrow.Author.Needs.{needs}
 use Rattle.corbastrigo.proofs.maps.corbastrigo_sanity_check.Statement.{statement}
@@ -14,7 +17,11 @@ hand-verdict-requires : tie.Need-hand-verdict-requires
 hand-verdict-requires c κs = search needs
 
 returns : tie.Need-returns
-returns c = hands mapChecked (c .before .before .before .sanity-check .ensures .0) (map-checked (c .before .before .before .before .before .args .map .now) 128) (c .hand-verdict .ensures)
+returns c =
+    let m = c .before .before .before .before .before .args .map .now in
+    let v = c .before .before .before .sanity-check .ensures in
+    let h = hands mapChecked (v .0) (map-checked m 128) (c .hand-verdict .ensures) in
+    (h, core-verdict m (checkOf m 128) (subst (LikeCore m 128) (v .0) (v .1)) h)
 
 pub corbastrigo-sanity-check-spec : {M : Type 1} → statement M
 corbastrigo-sanity-check-spec =
