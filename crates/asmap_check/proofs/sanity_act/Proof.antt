@@ -17,25 +17,15 @@ use Rattle.asmap_decode.proofs.WindowLaws.{row-window, window-holds}
 use Rattle.asmap_check.specs.Act.{refusing, onOperand, acts}
 use Rattle.asmap_check.proofs.sanity_act.Statement.{statement}
 use Rattle.asmap_check.proofs.sanity_act.Tie as tie
-use Rattle.asmap_check.proofs.sanity_act.Reads as reads
-use Rattle.asmap_check.proofs.sanity_act.Lts as lts
-use Rattle.asmap_check.proofs.past.Reads as past-reads
-use Rattle.asmap_check.proofs.sanity_default.Reads as sanity-default-reads
-use Rattle.asmap_check.proofs.sanity_jump.Reads as sanity-jump-reads
-use Rattle.asmap_check.proofs.sanity_match.Reads as sanity-match-reads
-use Rattle.asmap_check.proofs.sanity_return.Reads as sanity-return-reads
-use Rattle.asmap_decode.proofs.operand_window.Reads as operand-window-reads
-use Rattle.asmap_decode.proofs.type_in.Reads as type-in-reads
-use Rattle.asmap_decode.proofs.window.Reads as window-reads
 
 -- what was read is the opcode of the map
-typed : (k : lts.After-type-in (past-reads.Asked, past-reads.Learnt, window-reads.Asked, window-reads.Learnt, type-in-reads.Asked, type-in-reads.Learnt, operand-window-reads.Asked, operand-window-reads.Learnt, sanity-return-reads.Asked, sanity-return-reads.Learnt, sanity-jump-reads.Asked, sanity-jump-reads.Learnt, sanity-match-reads.Asked, sanity-match-reads.Learnt, sanity-default-reads.Asked, sanity-default-reads.Learnt) reads.Pre reads.Post) → codeAt (k .before .before .before .before .before .args .map .now) (k .before .before .before .before .before .args .pos) typeRow ≡ k .type-in .result
+typed : (k : tie.After-type-in) → codeAt (k .before .before .before .before .before .args .map .now) (k .before .before .before .before .before .args .pos) typeRow ≡ k .type-in .result
 typed k = let a = k .before .before .before .before .before .args in sym (k .type-in .ensures ∙ row-window (a .map .now) (a .pos) _ typeRow (lit< tt) (window-holds (a .map .now) (a .pos) _ typeRow (lit≤ tt) (k .before .window .ensures)))
 
 -- what is known once the opcode was read, and its operand's window made
 abbrev Opcode-read : Type 0
 Opcode-read =
-    lts.After-operand-window (past-reads.Asked, past-reads.Learnt, window-reads.Asked, window-reads.Learnt, type-in-reads.Asked, type-in-reads.Learnt, operand-window-reads.Asked, operand-window-reads.Learnt, sanity-return-reads.Asked, sanity-return-reads.Learnt, sanity-jump-reads.Asked, sanity-jump-reads.Learnt, sanity-match-reads.Asked, sanity-match-reads.Learnt, sanity-default-reads.Asked, sanity-default-reads.Learnt) reads.Pre reads.Post
+    tie.After-operand-window
 
 read : (k : Opcode-read) → codeAt (k .before .before .before .before .before .before .before .before .before .args .map .now) (k .before .before .before .before .before .before .before .before .before .args .pos) typeRow ≡ Value (k .before .before .got .given .0 .0) (k .before .before .got .given .0 .1 .0)
 read k = typed (k .before .before .before .before) ∙ k .before .before .got .given .1

@@ -15,16 +15,6 @@ use Rattle.asmap_check.proofs.StateLaws.{length-opens}
 use Rattle.asmap_check.proofs.Turn.{Turn, Turned, turn-end, less, certain, room-opens, turn-opens, turn-closes, turn-uses, turn-keeps, turn-accepts, turn-refuses}
 use Rattle.asmap_check.proofs.sanity_check_bits.Statement.{statement}
 use Rattle.asmap_check.proofs.sanity_check_bits.Tie as tie
-use Rattle.asmap_check.proofs.sanity_check_bits.Reads as reads
-use Rattle.asmap_check.proofs.sanity_check_bits.Lts as lts
-use Rattle.asmap_check.proofs.CheckState.close_jump.Reads as close-jump-reads
-use Rattle.asmap_check.proofs.CheckState.new.Reads as new-reads
-use Rattle.asmap_check.proofs.CheckState.open_jump.Reads as open-jump-reads
-use Rattle.asmap_check.proofs.CheckState.use_bits.Reads as use-bits-reads
-use Rattle.asmap_check.proofs.after_match.Reads as after-match-reads
-use Rattle.asmap_check.proofs.innermost.Reads as innermost-reads
-use Rattle.asmap_check.proofs.larger.Reads as larger-reads
-use Rattle.asmap_check.proofs.sanity_act.Reads as sanity-act-reads
 
 abbrev Inv-loop : tie.InvT-loop
 Inv-loop map bits end state₀ pos₀ previous₀ count₀ deepest₀ state pos previous count deepest = Standing map bits (stateOf state pos previous count deepest)
@@ -33,7 +23,7 @@ abbrev μ-loop : tie.MeasureT-loop
 μ-loop map bits end state₀ pos₀ previous₀ count₀ deepest₀ state pos previous count deepest = 8 * length map - pos
 
 -- what is known in a turn, said once: after `sanity_act`
-turn : (k : lts.After-sanity-act (new-reads.Asked, new-reads.Learnt, innermost-reads.Asked, innermost-reads.Learnt, sanity-act-reads.Asked, sanity-act-reads.Learnt, use-bits-reads.Asked, use-bits-reads.Learnt, open-jump-reads.Asked, open-jump-reads.Learnt, larger-reads.Asked, larger-reads.Learnt, close-jump-reads.Asked, close-jump-reads.Learnt, after-match-reads.Asked, after-match-reads.Learnt) reads.Pre reads.Post Inv-loop μ-loop)
+turn : (k : tie.After-sanity-act Inv-loop μ-loop)
     → Turn (k .before .before .before .before .before .before .before .before .before .args .map .now) (k .before .before .before .before .before .before .before .before .before .args .bits) (k .before .before .before .before .before .loop .state) (k .before .before .before .before .before .loop .pos) (k .before .before .before .before .before .loop .previous) (k .before .before .before .before .before .loop .count) (k .before .before .before .before .before .loop .deepest) (k .sanity-act .result)
 turn k =
     let l = k .before .before .before .before .before .loop in
@@ -44,11 +34,11 @@ turn k =
     }
 
 -- the arrays have room for a jump that opens
-space : (k : lts.After-use-bits (new-reads.Asked, new-reads.Learnt, innermost-reads.Asked, innermost-reads.Learnt, sanity-act-reads.Asked, sanity-act-reads.Learnt, use-bits-reads.Asked, use-bits-reads.Learnt, open-jump-reads.Asked, open-jump-reads.Learnt, larger-reads.Asked, larger-reads.Learnt, close-jump-reads.Asked, close-jump-reads.Learnt, after-match-reads.Asked, after-match-reads.Learnt) reads.Pre reads.Post Inv-loop μ-loop) → k .before .before .before .before .before .before .before .before .before .loop .state .depth < 128
+space : (k : tie.After-use-bits Inv-loop μ-loop) → k .before .before .before .before .before .before .before .before .before .loop .state .depth < 128
 space k = omega (arith, room-opens (turn (k .before .before .before .before)) _ _ (k .before .before .asked .given .1), k .before .before .before .before .before .before .before .before .before .before .before .before .before .pre)
 
 -- a jump has opened: `use_bits`, the stores, `open_jump`, `larger`
-opened : (k : lts.After-larger (new-reads.Asked, new-reads.Learnt, innermost-reads.Asked, innermost-reads.Learnt, sanity-act-reads.Asked, sanity-act-reads.Learnt, use-bits-reads.Asked, use-bits-reads.Learnt, open-jump-reads.Asked, open-jump-reads.Learnt, larger-reads.Asked, larger-reads.Learnt, close-jump-reads.Asked, close-jump-reads.Learnt, after-match-reads.Asked, after-match-reads.Learnt) reads.Pre reads.Post Inv-loop μ-loop)
+opened : (k : tie.After-larger Inv-loop μ-loop)
     → Turned (k .before .before .before .before .before .before .before .before .before .before .before .before .before .before .before .args .map .now) (k .before .before .before .before .before .before .before .before .before .before .before .before .before .before .before .args .bits) (k .before .before .before .before .before .before .before .before .before .before .before .loop .pos) (stateOf (k .before .open-jump .result) (k .before .before .before .before .asked .given .0 .0) Other (k .before .before .before .before .before .before .before .before .before .before .before .loop .count + 1) (k .larger .result))
 opened k =
     let l = k .before .before .before .before .before .before .before .before .before .before .before .loop in

@@ -9,13 +9,9 @@ use Rattle.asmap_decode.proofs.WindowLaws.{row-window}
 use borrow.Author.Needs.{needs}
 use Rattle.asmap_check.proofs.sanity_default.Statement.{statement}
 use Rattle.asmap_check.proofs.sanity_default.Tie as tie
-use Rattle.asmap_check.proofs.sanity_default.Reads as reads
-use Rattle.asmap_check.proofs.sanity_default.Lts as lts
-use Rattle.asmap_check.proofs.is_default.Reads as is-default-reads
-use Rattle.asmap_decode.proofs.asn_in.Reads as asn-in-reads
 
 -- what was read is the code of the map
-code : (k : lts.After-asn-in (is-default-reads.Asked, is-default-reads.Learnt, asn-in-reads.Asked, asn-in-reads.Learnt) reads.Pre reads.Post) → codeAt (k .before .before .before .before .args .map .now) (k .before .before .before .before .args .at) asnRow ≡ k .asn-in .result
+code : (k : tie.After-asn-in) → codeAt (k .before .before .before .before .args .map .now) (k .before .before .before .before .args .at) asnRow ≡ k .asn-in .result
 code k = let a = k .before .before .before .before .args in sym (k .asn-in .ensures ∙ row-window (a .map .now) (a .at) (a .w) asnRow (lit< tt) (k .before .before .before .before .pre .2))
 
 is-default-requires : tie.Need-is-default-requires

@@ -13,18 +13,14 @@ use borrow.Author.Tests.{eq-eqb, ne-eqb}
 use Rattle.asmap_check.specs.Act.{refusing}
 use Rattle.asmap_check.proofs.sanity_jump.Statement.{statement}
 use Rattle.asmap_check.proofs.sanity_jump.Tie as tie
-use Rattle.asmap_check.proofs.sanity_jump.Reads as reads
-use Rattle.asmap_check.proofs.sanity_jump.Lts as lts
-use Rattle.asmap_decode.proofs.jump_in.Reads as jump-in-reads
-use Rattle.asmap_check.proofs.past.Reads as past-reads
 
 -- what was read is the code of the map
-code : (k : lts.After-jump-in (jump-in-reads.Asked, jump-in-reads.Learnt, past-reads.Asked, past-reads.Learnt) reads.Pre reads.Post) → codeAt (k .before .before .args .map .now) (k .before .before .args .at) jumpRow ≡ k .jump-in .result
+code : (k : tie.After-jump-in) → codeAt (k .before .before .args .map .now) (k .before .before .args .at) jumpRow ≡ k .jump-in .result
 code k = let a = k .before .before .args in sym (k .jump-in .ensures ∙ row-window (a .map .now) (a .at) (a .w) jumpRow (lit< tt) (k .before .before .pre .2))
 
 -- what is known once the operand was read
 abbrev Operand-read : Type 0
-Operand-read = lts.After-known-told (jump-in-reads.Asked, jump-in-reads.Learnt, past-reads.Asked, past-reads.Learnt) reads.Pre reads.Post
+Operand-read = tie.After-known-told
 
 operand : (k : Operand-read) → codeAt (k .before .before .before .before .before .args .map .now) (k .before .before .before .before .before .args .at) jumpRow ≡ Value (k .before .got .given .0 .0) (k .before .got .given .0 .1 .0)
 operand k = code (k .before .before .before) ∙ k .before .got .given .1

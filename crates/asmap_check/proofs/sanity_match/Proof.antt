@@ -13,19 +13,14 @@ use borrow.Author.Tests.{lt-ltb, le-ltb}
 use Rattle.asmap_check.specs.Act.{refusing}
 use Rattle.asmap_check.proofs.sanity_match.Statement.{statement}
 use Rattle.asmap_check.proofs.sanity_match.Tie as tie
-use Rattle.asmap_check.proofs.sanity_match.Reads as reads
-use Rattle.asmap_check.proofs.sanity_match.Lts as lts
-use Rattle.asmap_decode.proofs.match_in.Reads as match-in-reads
-use Rattle.asmap_program.proofs.match_length.Reads as match-length-reads
-use Rattle.asmap_check.proofs.short_again.Reads as short-again-reads
 
 -- what was read is the code of the map
-code : (k : lts.After-match-in (match-in-reads.Asked, match-in-reads.Learnt, match-length-reads.Asked, match-length-reads.Learnt, short-again-reads.Asked, short-again-reads.Learnt) reads.Pre reads.Post) → codeAt (k .before .before .args .map .now) (k .before .before .args .at) matchRow ≡ k .match-in .result
+code : (k : tie.After-match-in) → codeAt (k .before .before .args .map .now) (k .before .before .args .at) matchRow ≡ k .match-in .result
 code k = let a = k .before .before .args in sym (k .match-in .ensures ∙ row-window (a .map .now) (a .at) (a .w) matchRow (lit< tt) (k .before .before .pre .2))
 
 -- what is known once the operand was read
 abbrev Operand-read : Type 0
-Operand-read = lts.After-known-told (match-in-reads.Asked, match-in-reads.Learnt, match-length-reads.Asked, match-length-reads.Learnt, short-again-reads.Asked, short-again-reads.Learnt) reads.Pre reads.Post
+Operand-read = tie.After-known-told
 
 operand : (k : Operand-read) → codeAt (k .before .before .before .before .before .args .map .now) (k .before .before .before .before .before .args .at) matchRow ≡ Value (k .before .got .given .0 .0) (k .before .got .given .0 .1 .0)
 operand k = code (k .before .before .before) ∙ k .before .got .given .1

@@ -15,19 +15,14 @@ use borrow.Author.Tests.{eq-eqb, ne-eqb}
 use Rattle.asmap_check.specs.Act.{refusing}
 use Rattle.asmap_check.proofs.sanity_return.Statement.{statement}
 use Rattle.asmap_check.proofs.sanity_return.Tie as tie
-use Rattle.asmap_check.proofs.sanity_return.Reads as reads
-use Rattle.asmap_check.proofs.sanity_return.Lts as lts
-use Rattle.asmap_check.proofs.is_default.Reads as is-default-reads
-use Rattle.asmap_decode.proofs.asn_in.Reads as asn-in-reads
-use Rattle.asmap_check.proofs.padded.Reads as padded-reads
 
 -- what was read is the code of the map
-code : (k : lts.After-asn-in (is-default-reads.Asked, is-default-reads.Learnt, asn-in-reads.Asked, asn-in-reads.Learnt, padded-reads.Asked, padded-reads.Learnt) reads.Pre reads.Post) → codeAt (k .before .before .before .before .args .map .now) (k .before .before .before .before .args .at) asnRow ≡ k .asn-in .result
+code : (k : tie.After-asn-in) → codeAt (k .before .before .before .before .args .map .now) (k .before .before .before .before .args .at) asnRow ≡ k .asn-in .result
 code k = let a = k .before .before .before .before .args in sym (k .asn-in .ensures ∙ row-window (a .map .now) (a .at) (a .w) asnRow (lit< tt) (k .before .before .before .before .pre .2))
 
 -- what is known once the operand was read
 abbrev Operand-read : Type 0
-Operand-read = lts.After-known-told (is-default-reads.Asked, is-default-reads.Learnt, asn-in-reads.Asked, asn-in-reads.Learnt, padded-reads.Asked, padded-reads.Learnt) reads.Pre reads.Post
+Operand-read = tie.After-known-told
 
 operand : (k : Operand-read) → codeAt (k .before .before .before .before .before .before .before .args .map .now) (k .before .before .before .before .before .before .before .args .at) asnRow ≡ Value (k .before .got .given .0 .0) (k .before .got .given .0 .1 .0)
 operand k = code (k .before .before .before) ∙ k .before .got .given .1

@@ -5,8 +5,6 @@ use lib.Count.{leading-le}
 use Rattle.asmap_program.proofs.Length.{width-leading}
 use Rattle.asmap_program.proofs.bit_width.Statement.{statement}
 use Rattle.asmap_program.proofs.bit_width.Tie as tie
-use Rattle.asmap_program.proofs.bit_width.Reads as reads
-use Rattle.asmap_program.proofs.bit_width.Lts as lts
 
 sub-result : tie.Need-sub-result
 sub-result c = omega (arith, leading-le 32 (c .args .x))

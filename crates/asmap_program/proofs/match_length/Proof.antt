@@ -4,9 +4,6 @@ use native.Mathlib.Omega.{arith}
 use Rattle.asmap_program.proofs.Length.{length-below}
 use Rattle.asmap_program.proofs.match_length.Statement.{statement}
 use Rattle.asmap_program.proofs.match_length.Tie as tie
-use Rattle.asmap_program.proofs.match_length.Reads as reads
-use Rattle.asmap_program.proofs.match_length.Lts as lts
-use Rattle.asmap_program.proofs.bit_width.Reads as bit-width-reads
 
 bit-width-requires : tie.Need-bit-width-requires
 bit-width-requires c κs = tt

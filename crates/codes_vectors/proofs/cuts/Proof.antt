@@ -7,9 +7,6 @@ use borrow.Author.Needs.{needs}
 use lib.ListN.{length}
 use Rattle.codes_vectors.proofs.cuts.Statement.{statement}
 use Rattle.codes_vectors.proofs.cuts.Tie as tie
-use Rattle.codes_vectors.proofs.cuts.Reads as reads
-use Rattle.codes_vectors.proofs.cuts.Lts as lts
-use Rattle.codes_vectors.proofs.is_cut.Reads as is-cut-reads
 
 abbrev Inv-loop : tie.InvT-loop
 Inv-loop row word refused₀ len kept₀ refused kept = (kept ≤ len) × (refused ≤ kept)

@@ -7,10 +7,6 @@ use borrow.Author.Needs.{needs}
 use lib.ListN.{length}
 use Rattle.codes_vectors.proofs.placed.Statement.{statement}
 use Rattle.codes_vectors.proofs.placed.Tie as tie
-use Rattle.codes_vectors.proofs.placed.Reads as reads
-use Rattle.codes_vectors.proofs.placed.Lts as lts
-use Rattle.codes_vectors.proofs.kept_bit.Reads as kept-bit-reads
-use Rattle.codes_vectors.proofs.masked.Reads as masked-reads
 
 abbrev Inv-loop : tie.InvT-loop
 Inv-loop bits kept at bytes₀ rest₀ i₀ bytes rest i = (i ≤ 64) × (16 ≡ length bytes)

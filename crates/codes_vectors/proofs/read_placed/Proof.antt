@@ -6,10 +6,6 @@ use lib.Seq.{length-take-le}
 use borrow.Author.Needs.{needs}
 use Rattle.codes_vectors.proofs.read_placed.Statement.{statement}
 use Rattle.codes_vectors.proofs.read_placed.Tie as tie
-use Rattle.codes_vectors.proofs.read_placed.Reads as reads
-use Rattle.codes_vectors.proofs.read_placed.Lts as lts
-use Rattle.codes_vectors.proofs.placed.Reads as placed-reads
-use Rattle.codes_vectors.proofs.read.Reads as read-reads
 
 returns : tie.Need-returns
 returns c = search needs

@@ -8,8 +8,6 @@ use lib.ListN.{length}
 use Rattle.codes_vectors.proofs.reads.Statement.{statement}
 use Rattle.codes_vectors.proofs.reads.Tie as tie
 use Rattle.codes_vectors.proofs.reads.Reads as reads
-use Rattle.codes_vectors.proofs.reads.Lts as lts
-use Rattle.codes_vectors.proofs.is_read.Reads as is-read-reads
 
 abbrev Inv-loop : tie.InvT-loop
 Inv-loop row value word found₀ at₀ found at = (at ≤ 8) × (found ≤ at)

@@ -7,14 +7,6 @@ use borrow.Author.Needs.{needs}
 use lib.ListN.{length}
 use Rattle.codes_vectors.proofs.say_instructions.Statement.{statement}
 use Rattle.codes_vectors.proofs.say_instructions.Tie as tie
-use Rattle.codes_vectors.proofs.say_instructions.Reads as reads
-use Rattle.codes_vectors.proofs.say_instructions.Lts as lts
-use Rattle.codes_vectors.proofs.next_place.Reads as next-place-reads
-use Rattle.codes_vectors.proofs.say_instruction.Reads as say-instruction-reads
-use Rattle.codes_vectors.proofs.say_refusal.Reads as say-refusal-reads
-use Rattle.asmap_decode.proofs.decode_instruction.Reads as decode-instruction-reads
-use Rattle.vectors.proofs.number.Reads as number-reads
-use Rattle.vectors.proofs.say.Reads as say-reads
 
 abbrev Inv-loop : tie.InvT-loop
 Inv-loop map at₀ t6 t7 counter₀ at counter = counter ≤ 64

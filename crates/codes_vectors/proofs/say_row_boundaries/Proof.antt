@@ -7,12 +7,6 @@ use borrow.Author.Needs.{needs}
 use lib.ListN.{length}
 use Rattle.codes_vectors.proofs.say_row_boundaries.Statement.{statement}
 use Rattle.codes_vectors.proofs.say_row_boundaries.Tie as tie
-use Rattle.codes_vectors.proofs.say_row_boundaries.Reads as reads
-use Rattle.codes_vectors.proofs.say_row_boundaries.Lts as lts
-use Rattle.codes_vectors.proofs.least.Reads as least-reads
-use Rattle.codes_vectors.proofs.say_code.Reads as say-code-reads
-use Rattle.codes_vectors.proofs.say_size.Reads as say-size-reads
-use Rattle.codes_vectors.proofs.size_of.Reads as size-of-reads
 
 abbrev Inv-loop : tie.InvT-loop
 Inv-loop row first₀ i₀ first i = i ≤ 26

@@ -8,19 +8,11 @@ use Rattle.netaddr.proofs.Lengths.{length-at, of-ipv4, of-ipv6}
 use borrow.Author.Needs.{needs}
 use Rattle.netaddr.proofs.skip_relay.Statement.{statement}
 use Rattle.netaddr.proofs.skip_relay.Tie as tie
-use Rattle.netaddr.proofs.skip_relay.Reads as reads
-use Rattle.netaddr.proofs.skip_relay.Lts as lts
-use Rattle.netaddr.proofs.ip_unroutable.Reads as ip-unroutable-reads
-use Rattle.netaddr_ranges.proofs.ipv4_unroutable.Reads as ipv4-unroutable-reads
-use Rattle.netaddr.proofs.octets4.Reads as octets4-reads
-use Rattle.netaddr.proofs.outside_cjdns.Reads as outside-cjdns-reads
 
 -- the place after the three tests that name ids 5, 3 and 6
 abbrev After-ids : Type 0
 After-ids =
-    lts.Else3 (outside-cjdns-reads.Asked, outside-cjdns-reads.Learnt, octets4-reads.Asked, octets4-reads.Learnt, ipv4-unroutable-reads.Asked, ipv4-unroutable-reads.Learnt, ip-unroutable-reads.Asked, ip-unroutable-reads.Learnt)
-    reads.Pre
-    reads.Post
+    tie.Else3
 
 -- where only the port and the address are left to ask
 after-ids : (k : After-ids) → let a = k .before .before .before .before .before .args in skips (a .id) (a .address .now) (a .port) ≡ byPortAndAddress (a .id) (a .address .now) (a .port)

@@ -11,13 +11,6 @@ use Rattle.netaddr_ranges.proofs.Truth.{taken, passed, choose-either, unless-bo
 use borrow.Author.Needs.{needs}
 use Rattle.netaddr_ipv6.proofs.ipv6_embedded_bogon.Statement.{statement}
 use Rattle.netaddr_ipv6.proofs.ipv6_embedded_bogon.Tie as tie
-use Rattle.netaddr_ipv6.proofs.ipv6_embedded_bogon.Reads as reads
-use Rattle.netaddr_ipv6.proofs.ipv6_embedded_bogon.Lts as lts
-use Rattle.netaddr_ipv6.proofs.ipv4_compatible.Reads as ipv4-compatible-reads
-use Rattle.netaddr_ranges.proofs.ipv4_unroutable.Reads as ipv4-unroutable-reads
-use Rattle.netaddr_ipv6.proofs.ipv6_nat64.Reads as ipv6-nat64-reads
-use Rattle.netaddr_ipv6.proofs.ipv6_translated.Reads as ipv6-translated-reads
-use Rattle.netaddr_ipv6.proofs.zero_bytes.Reads as zero-bytes-reads
 
 -- the six rows as the code asks them: the three that go by the last four bytes as one
 in-turn : (a : List ℕ) → decided embeddedRows a ≡
@@ -32,9 +25,7 @@ in-turn a =
 -- the place after the tests of 2001::/32 and 2002::/16
 abbrev After-two : Type 0
 After-two =
-    lts.Else2 (ipv6-nat64-reads.Asked, ipv6-nat64-reads.Learnt, ipv6-translated-reads.Asked, ipv6-translated-reads.Learnt, ipv4-compatible-reads.Asked, ipv4-compatible-reads.Learnt, ipv4-unroutable-reads.Asked, ipv4-unroutable-reads.Learnt, zero-bytes-reads.Asked, zero-bytes-reads.Learnt)
-    reads.Pre
-    reads.Post
+    tie.Else2
 
 -- the rows after these, by what the calls found
 after-two : (k : After-two) → let a = k .before .before .before .before .before .before .args .t1 in

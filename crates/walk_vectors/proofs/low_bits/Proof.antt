@@ -5,8 +5,6 @@ use native.Mathlib.Omega.{arith}
 use borrow.Author.Needs.{needs}
 use Rattle.walk_vectors.proofs.low_bits.Statement.{statement}
 use Rattle.walk_vectors.proofs.low_bits.Tie as tie
-use Rattle.walk_vectors.proofs.low_bits.Reads as reads
-use Rattle.walk_vectors.proofs.low_bits.Lts as lts
 
 rem-result : tie.Need-rem-result
 rem-result c = search needs

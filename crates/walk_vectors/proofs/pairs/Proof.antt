@@ -7,8 +7,6 @@ use borrow.Author.Needs.{needs}
 use lib.ListN.{length}
 use Rattle.walk_vectors.proofs.pairs.Statement.{statement}
 use Rattle.walk_vectors.proofs.pairs.Tie as tie
-use Rattle.walk_vectors.proofs.pairs.Reads as reads
-use Rattle.walk_vectors.proofs.pairs.Lts as lts
 
 abbrev Inv-loop : tie.InvT-loop
 Inv-loop end map₀ i₀ map i = length map ≡ 390

@@ -7,12 +7,6 @@ use borrow.Author.Needs.{needs}
 use lib.ListN.{length}
 use Rattle.walk_vectors.proofs.walk_cuts.Statement.{statement}
 use Rattle.walk_vectors.proofs.walk_cuts.Tie as tie
-use Rattle.walk_vectors.proofs.walk_cuts.Reads as reads
-use Rattle.walk_vectors.proofs.walk_cuts.Lts as lts
-use Rattle.walk_vectors.proofs.low_bits.Reads as low-bits-reads
-use Rattle.walk_vectors.proofs.next_power.Reads as next-power-reads
-use Rattle.walk_vectors.proofs.print_cut.Reads as print-cut-reads
-use Rattle.walk_vectors.proofs.print_walk_of_first.Reads as print-walk-of-first-reads
 
 abbrev Inv-loop : tie.InvT-loop
 Inv-loop name map address cut₀ bit₀ power₀ cut bit power = (length cut ≡ 64) × (0 < power)
