@@ -42,9 +42,10 @@ pub fn ipv6(random: &mut Random) -> Ipv6Addr {
     Ipv6Addr::from(octets)
 }
 
-pub fn addresses(v6: bool, count: usize) -> Vec<[u8; 16]> {
+/// Addresses of which so many in a hundred are of IPv6.
+pub fn addresses(v6: u64, count: usize) -> Vec<[u8; 16]> {
     let random = &mut Random(SEED + 1);
-    let address = |random: &mut Random| match v6 {
+    let address = |random: &mut Random| match v6 == 100 || v6 > 0 && random.percent(v6) {
         true => ipv6(random).octets(),
         false => ipv4(random).to_ipv6_mapped().octets(),
     };

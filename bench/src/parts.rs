@@ -56,7 +56,7 @@ pub fn walk() {
     head("Walk", "ns a walk");
     for (name, map) in inputs::maps() {
         let original = AsMap::from_bytes(map.clone()).expect("the shapes are accepted");
-        for (kind, v6) in [("IPv4", false), ("IPv6", true)] {
+        for (kind, v6) in [("IPv4", 0), ("IPv6", 100), ("one in five IPv6", 20)] {
             let addresses = inputs::addresses(v6, 4_096);
             let counts: u32 = addresses.iter().map(|address| ours_walk(&map, address).1).sum();
             for address in &addresses {
@@ -317,7 +317,7 @@ pub fn count(call: &str, bytes: usize) {
         "unpack" => keep(unpacked(&map, &mut records)),
         "pack" => keep(corbastrigo::pack_into(&records, &mut out)),
         "walk" => {
-            let addresses = inputs::addresses(false, 4_096);
+            let addresses = inputs::addresses(0, 4_096);
             let counts: u32 = addresses.iter().map(|address| ours_walk(&map, address).1).sum();
             println!("walk: {} addresses, {counts} instructions", addresses.len());
         }
