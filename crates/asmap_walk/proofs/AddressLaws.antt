@@ -2,16 +2,15 @@
 -- Assumes nothing.
 use Prim.Native.Nat.{ℕ, zero, suc, _+_, _-_, _*_, _/_, _%_, _^_, _≤_, _<_}
 use mathlib.Core.Path.{_≡_, refl, sym, ap, _∙_}
+use mathlib.Core.Logic.{_≢_}
 use mathlib.Core.List.{List}
-use native.Mathlib.Nat.{div-eq-of-lt}
+use native.Mathlib.Nat.{div-eq-of-lt, pow-succ'}
 use native.Mathlib.Decide.{decLt}
 use native.Mathlib.Omega.{arith}
-use lib.Bits.{bitXor, xor-zero-r, xor-shr, xor-mod}
-use lib.Pow.{pow-mono, shr-shr, field, mod-mod-pow}
+use lib.Bits.{bitXor, xor-zero-r, xor-self, xor-shr, xor-mod}
+use lib.Pow.{pow-mono, high, shr-shr, field, mod-mod-pow}
 use lib.ListN.{getD}
-use borrow.Author.Tests.{eq-eqb}
-use Rattle.asmap_program.specs.Map.{bitOf, lengthOf, addressBit, Width}
-use Rattle.asmap_program.specs.Walk.{Equal, compared}
+use Rattle.asmap_program.specs.Map.{bitOf, addressBit, Width}
 use Rattle.asmap_codes.proofs.GrownLaws.{pow-inverse}
 use Rattle.asmap_decode.proofs.ByteLaws.{bit-below, bit-above}
 
@@ -46,19 +45,9 @@ low-bit y n k h =
     ∙ ap (λ (z : ℕ). z % 2) (field y (n - 1 - k + 1) k)
     ∙ mod-mod-pow (y / 2 ^ k) (n - 1 - k) 1
 
--- the bits of v are those of the address, one by one
-compared-equal : (f : ℕ → ℕ) (n v u : ℕ) → ((k : ℕ) → k < n → bitOf v k ≡ f (u + (n - 1 - k))) → compared f n v u ≡ Equal
-unfolding compared
-compared-equal f zero v u h = refl
-compared-equal f (suc n) v u h =
-    let e : u + (suc n - 1 - n) ≡ u = omega arith in
-    rw (eq-eqb (bitOf v n) (f u) (h n (omega arith) ∙ ap f e)) (compared-equal f n v (suc u) (λ k l. let z : u + (suc n - 1 - k) ≡ suc u + (n - 1 - k) = omega arith in h k (omega arith) ∙ ap f z))
-
--- The bits that a MATCH of x compares, taken out as one number y: where its lowest are those of x, every bit is equal.
-pub same-equal : (a : List ℕ) (x used n y : ℕ) → n ≡ lengthOf x → ((k : ℕ) → k < n → bitOf y k ≡ addressBit a (used + (n - 1 - k))) → y % 2 ^ n ≡ x % 2 ^ n
-    → compared (addressBit a) (lengthOf x) x used ≡ Equal
-same-equal a x used n y e f h =
-    rw (← e) (compared-equal (addressBit a) n x used (λ k l. sym (low-bit x n k l) ∙ ap (λ (z : ℕ). z / 2 ^ k % 2) (sym h) ∙ low-bit y n k l ∙ f k l))
+-- two numbers with the same n lowest bits have each of them the same
+pub same-low : (x y n k : ℕ) → y % 2 ^ n ≡ x % 2 ^ n → k < n → bitOf x k ≡ bitOf y k
+same-low x y n k h l = sym (low-bit x n k l) ∙ ap (λ (z : ℕ). z / 2 ^ k % 2) (sym h) ∙ low-bit y n k l
 
 -- two bits that do not differ
 no-difference : (u v : ℕ) → u < 2 → v < 2 → bitXor u v ≡ 0 → u ≡ v
@@ -66,6 +55,13 @@ no-difference zero zero h l e = refl
 no-difference zero (suc v) h l e = absurd (omega arith)
 no-difference (suc u) zero h l e = absurd (omega (arith, sym (xor-zero-r (suc u)) ∙ e))
 no-difference (suc u) (suc v) h l e = omega arith
+
+-- a number from 2 ^ k to below twice that
+div-once : (x k : ℕ) → 2 ^ k ≤ x → x < 2 ^ suc k → x / 2 ^ k ≡ 1
+div-once x k h l =
+    let d = pow-succ' 2 k in
+    let e : x ≡ 1 * 2 ^ k + (x - 2 ^ k) = omega arith in
+    ap (λ (i : ℕ). i / 2 ^ k) e ∙ high 1 k (omega (arith, d))
 
 -- n bits are at most n wide
 pub width-most : (x n r : ℕ) → Width x r → x < 2 ^ n → r ≤ n
@@ -75,10 +71,30 @@ width-most x n r w h = go (decLt 0 x)
     go (yes l) = omega (arith, pow-inverse (r - 1) n (omega (arith, w .low l)))
     go (no l) = omega (arith, w .none (omega arith))
 
--- Of n bits of two numbers, those above the width of what differs are the same.
-pub front-same : (a b n r : ℕ) → Width (bitXor a b % 2 ^ n) (n - r) → (k : ℕ) → k < n → n ≤ k + r → bitOf a k ≡ bitOf b k
-front-same a b n r w k h l =
-    let z : bitXor a b % 2 ^ n / 2 ^ k ≡ 0 = div-eq-of-lt (omega (arith, w .high, pow-mono {i = n - r} {j = k} (omega arith))) in
-    let e : bitXor a b / 2 ^ k % 2 ≡ 0 = sym (low-bit (bitXor a b) n k h) ∙ ap (λ (x : ℕ). x % 2) z in
-    let d : bitXor (a / 2 ^ k % 2) (b / 2 ^ k % 2) ≡ 0 = sym (xor-mod (a / 2 ^ k) (b / 2 ^ k) 1) ∙ ap (λ (x : ℕ). x % 2) (sym (xor-shr a b k)) ∙ e in
-    no-difference (a / 2 ^ k % 2) (b / 2 ^ k % 2) (omega arith) (omega arith) d
+-- a bit of what differs is where the bits differ
+differing-bit : (a b k : ℕ) → bitXor a b / 2 ^ k % 2 ≡ bitXor (bitOf a k) (bitOf b k)
+differing-bit a b k = ap (λ (x : ℕ). x % 2) (xor-shr a b k) ∙ xor-mod (a / 2 ^ k) (b / 2 ^ k) 1
+
+-- Of n bits of two numbers, those above the width of what differs are the same, and the next is not.
+module _ (a b n r : ℕ) (w : Width (bitXor a b % 2 ^ n) (n - r)) where
+  pub front-same : (k : ℕ) → k < n → n ≤ k + r → bitOf a k ≡ bitOf b k
+  front-same k h l =
+      let z : bitXor a b % 2 ^ n / 2 ^ k ≡ 0 = div-eq-of-lt (omega (arith, w .high, pow-mono {i = n - r} {j = k} (omega arith))) in
+      no-difference (bitOf a k) (bitOf b k) (omega arith) (omega arith) (sym (differing-bit a b k) ∙ sym (low-bit (bitXor a b) n k h) ∙ ap (λ (x : ℕ). x % 2) z)
+
+  pub front-differs : r < n → bitOf a (n - 1 - r) ≢ bitOf b (n - 1 - r)
+  front-differs h e =
+      let k = n - 1 - r in
+      let x = bitXor a b % 2 ^ n in
+      let s : 0 < x = go (decLt 0 x) in
+      let p : n - r ≡ suc k = omega arith in
+      let q : n - r - 1 ≡ k = omega arith in
+      let u : 2 ^ k ≤ x = rw q at (w .low s) in
+      let v : x < 2 ^ suc k = rw p at (w .high) in
+      let one : x / 2 ^ k ≡ 1 = div-once x k u v in
+      let d : bitXor (bitOf a k) (bitOf b k) ≡ 0 = ap (λ (y : ℕ). bitXor y (bitOf b k)) e ∙ xor-self (bitOf b k) in
+      absurd (omega (arith, sym (ap (λ (y : ℕ). y % 2) one) ∙ low-bit (bitXor a b) n k (omega arith) ∙ differing-bit a b k ∙ d))
+    where
+      go : Dec (0 < bitXor a b % 2 ^ n) → 0 < bitXor a b % 2 ^ n
+      go (yes l) = l
+      go (no l) = absurd (omega (arith, w .none (omega arith)))

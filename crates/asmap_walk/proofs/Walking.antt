@@ -1,13 +1,13 @@
 -- What the walk's loop knows where it stands, and where each instruction leaves it: what lies behind is counted, and what lies ahead
 -- is the defined walk from here. Rests on asmap_program's `Ahead` and on what asmap_codes says of a code that was read.
 -- Assumes nothing.
-use Prim.Native.Nat.{ℕ, zero, suc, _+_, _-_, _*_, _%_, _^_, _≤_, _<_}
+use Prim.Native.Nat.{ℕ, zero, suc, _+_, _-_, _*_, _^_, _≤_, _<_}
 use mathlib.Core.Bool.{Bool, true, false, cond}
 use mathlib.Core.Path.{_≡_, refl, sym, ap, subst, _∙_}
 use mathlib.Core.Logic.{_≢_}
 use mathlib.Core.List.{List, [], _∷_}
 use native.Mathlib.Omega.{arith}
-use borrow.Author.Tests.{eqb-true, eq-eqb, ne-eqb, lt-ltb, le-ltb, lt-leb, le-leb}
+use borrow.Author.Tests.{eq-eqb, ne-eqb, lt-ltb, le-ltb, lt-leb, le-leb}
 use lib.Dec.{eqb, lit<}
 use lib.ListN.{length}
 use Rattle.asmap_program.specs.declared.Instruction.{Instruction}
@@ -25,7 +25,6 @@ use Rattle.asmap_codes.proofs.Inside.{value-at, long-operand, past-end}
 use Rattle.asmap_codes.proofs.MapLaws.{laws, fetch-cut, fetch-operand}
 use Rattle.asmap_walk.specs.Interpret.{walkOf, summary}
 use Rattle.asmap_walk.specs.declared.Ending.{Ending}
-use Rattle.asmap_walk.proofs.AddressLaws.{same-equal}
 
 -- m: the map, a: the address, w: the number of its bits that the walk may use
 module _ (m a : List ℕ) (w : ℕ) where
@@ -178,11 +177,6 @@ module _ {m a : List ℕ} {w pos used default count op at x n : ℕ} (R : Taken 
   pub match-goes : op ≡ 2 → used + lengthOf x ≤ w → compared (addressBit a) (lengthOf x) x used ≡ Equal → (u : ℕ) → u ≡ used + lengthOf x → Walking m a w n u default (count + 1)
   match-goes o h z u y = goes 2 o n u default (match-turn h Equal z ∙ rw (end-is, y)) (read .start) (omega (arith, read .near)) (omega arith)
 
-  -- the bits that it compares, taken out as one number y, are the lowest of x
-  pub match-same : op ≡ 2 → used + lengthOf x ≤ w → (k y : ℕ) → k ≡ lengthOf x → ((j : ℕ) → j < k → bitOf y j ≡ addressBit a (used + (k - 1 - j)))
-      → (same : Bool) → same ≡ eqb (y % 2 ^ k) (x % 2 ^ k) → same ≡ true → Walking m a w n (used + k) default (count + 1)
-  match-same o h k y e f same q t = match-goes o h (same-equal a x used k y e f (eqb-true (y % 2 ^ k) (x % 2 ^ k) (sym q ∙ t))) (used + k) (omega arith)
-
   pub default-goes : op ≢ 0 → op ≢ 1 → op ≢ 2 → Walking m a w n used x (count + 1)
   default-goes z y t =
       let o : op ≡ 3 = omega (arith, read .known) in
@@ -205,12 +199,6 @@ comparing-start R o left e h = record { from = omega arith; place = omega arith;
 module _ {a : List ℕ} {w x used₀ used left : ℕ} (C : Comparing a w x used₀ used left) where
   pub bit-left : 0 < left → used < w
   bit-left h = omega (arith, C .place, C .room)
-
-  -- of the bits that the MATCH compares, taken out as one number b, the next is that of the address
-  pub next-bit : 0 < left → (n b : ℕ) → n ≡ lengthOf x → ((k : ℕ) → k < n → bitOf b k ≡ addressBit a (used₀ + (n - 1 - k))) → bitOf b (left - 1) ≡ addressBit a used
-  next-bit h n b e f =
-      let z : used₀ + (n - 1 - (left - 1)) ≡ used = omega (arith, C .from, C .place) in
-      f (left - 1) (omega (arith, C .from, C .place)) ∙ ap (addressBit a) z
 
   one-less : 0 < left → left ≡ suc (left - 1)
   one-less h = omega arith

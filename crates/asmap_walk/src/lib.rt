@@ -8,6 +8,7 @@ ghost use lib.ListN.{length, getD};
 ghost use Rattle.asmap_program.specs.Map.{limit, addressBit, bitOf, ipv4Mapped, Width};
 ghost use Rattle.asmap_walk.specs.Interpret.{walkOf, summary, interpretOf};
 ghost use Rattle.asmap_walk.specs.Promise.{Demand3, CoreNumber};
+ghost use Rattle.asmap_walk.specs.Front.{Front};
 use asmap_codes::Code;
 use asmap_program::ADDRESS_BITS;
 use asmap_program::Kind;
@@ -57,7 +58,7 @@ fn address_byte(address: &[u8], at: usize) -> u32
 }
 
 // The address bits that a MATCH of length n compares, at most 8 from bit `at` on, in one number: the last of them is its lowest bit.
-// They stand in two bytes. Taken out once, they cost the loop that compares them no load and no division.
+// They stand in two bytes.
 fn address_bits(address: &[u8], at: u8, n: u8) -> u32
     requires { ⌜ n ≤ 8 ⌝ }
     ensures { λ r. ⌜ ((k : ℕ) → k < n → bitOf r k ≡ addressBit (now (address .entry)) (at + (n - 1 - k))) ⌝ }
@@ -92,6 +93,20 @@ fn same_front(a: u32, b: u32, n: u8) -> u8
 {
     let differing = (a ^ b) % asmap_codes::power(n);
     n - asmap_program::bit_width(differing) as u8
+}
+
+// How many bits at the front of a MATCH of length n are those of the address from bit `at` on: all n, or those before the first
+// that differs.
+fn equal_front(address: &[u8], at: u8, operand: u32, n: u8) -> u8
+    requires { ⌜ n ≤ 8 ⌝ }
+    ensures { λ r. ⌜ Front (now (address .entry)) at operand n r ⌝ }
+{
+    let bits = address_bits(address, at, n);
+    // Most often all are equal, which is told sooner than where they differ.
+    if same_bits(bits, operand, n) {
+        return n;
+    }
+    same_front(bits, operand, n)
 }
 
 fn finish(kind: Kind, number: u32, count: u32, bits: u8) -> Ending
@@ -153,23 +168,17 @@ fn walk_bits(map: &[u8], address: &[u8], width: u8) -> Ending
                 }
             }
             asmap_program::MATCH => {
-                let mut left = asmap_program::match_length(operand);
-                if width - used < left {
+                let length = asmap_program::match_length(operand);
+                if width - used < length {
                     return abort(count, used);
                 }
-                let bits = address_bits(address, used, left);
-                // Most often all bits are equal.
-                if same_bits(bits, operand, left) {
-                    used += left;
-                    continue 'walk;
-                }
-                // Else the loop starts at the first that differs.
-                let front = same_front(bits, operand, left);
+                // The bits equal at its front are passed at once: the loop meets the first that differs, if one does.
+                let front = equal_front(address, used, operand, length);
                 used += front;
-                left -= front;
+                let mut left = length - front;
                 while 0 < left {
                     left -= 1;
-                    if bit_of(bits, left) != bit_of(operand, left) {
+                    if address_bit(address, used) != bit_of(operand, left) {
                         break 'walk;
                     }
                     used += 1;

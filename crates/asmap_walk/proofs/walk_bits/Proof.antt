@@ -12,16 +12,15 @@ use Rattle.asmap_codes.specs.Row.{typeRow, operandRow}
 use Rattle.asmap_codes.specs.Code.{codeAt}
 use Rattle.asmap_codes.proofs.Inside.{long-operand}
 use Rattle.asmap_decode.proofs.WindowLaws.{row-window, window-holds}
-use Rattle.asmap_walk.proofs.Walking.{Walking, Taken, Comparing, walking-start, opcode-read, cut-opcode, cut-operand, read, returns-ends, jump-ends, jump-onward, jump-goes, jump-past, match-some, match-most, match-ends, match-differs, match-goes, default-goes, match-same, comparing-start, bit-left, next-bit, equal-goes, different-ends, all-equal, comparing-from, front-goes}
-use Rattle.asmap_walk.proofs.AddressLaws.{front-same}
+use Rattle.asmap_walk.proofs.Walking.{Walking, Taken, Comparing, walking-start, opcode-read, cut-opcode, cut-operand, read, returns-ends, jump-ends, jump-onward, jump-goes, jump-past, match-some, match-most, match-ends, match-differs, match-goes, default-goes, comparing-start, bit-left, equal-goes, different-ends, all-equal, comparing-from, front-goes}
 use Rattle.asmap_walk.proofs.walk_bits.Statement.{statement}
 use Rattle.asmap_walk.proofs.walk_bits.Tie as tie
 
 abbrev Inv-loop : tie.InvT-loop
-Inv-loop map address width end pos used₀ default count w opcode at rest operand next left₀ bits front used left = Comparing address width operand (used₀ - front) used left
+Inv-loop map address width end pos used₀ default count w opcode at rest operand next length front left₀ used left = Comparing address width operand (used₀ - front) used left
 
 abbrev μ-loop : tie.MeasureT-loop
-μ-loop map address width end pos used₀ default count w opcode at rest operand next left₀ bits front used left = left
+μ-loop map address width end pos used₀ default count w opcode at rest operand next length front left₀ used left = left
 
 abbrev Inv-walk : tie.InvT-walk
 Inv-walk map address width end pos₀ used₀ default₀ count₀ pos used default count = Walking map address width pos used default count
@@ -57,17 +56,12 @@ taken k = record {
 
 -- in the loop over a MATCH's bits: the MATCH began where the walk stood, and the bits equal at its front are behind
 comparing : (k : tie.At-loop Inv-loop μ-loop Inv-walk μ-walk)
-    → Comparing (k .before .before .before .before .before .before .before .before .before .before .before .before .before .before .before .before .before .before .before .before .before .args .address .now) (k .before .before .before .before .before .before .before .before .before .before .before .before .before .before .before .before .before .before .before .before .before .args .width)
-    (k .before .before .before .before .before .before .before .before .before .second .given .0 .0) (k .before .before .before .before .before .before .before .before .before .before .before .before .before .before .before .before .before .before .walk .used) (k .loop .used) (k .loop .left)
+    → Comparing (k .before .before .before .before .before .before .before .before .before .before .before .before .before .before .before .before .before .before .args .address .now) (k .before .before .before .before .before .before .before .before .before .before .before .before .before .before .before .before .before .before .args .width)
+    (k .before .before .before .before .before .before .second .given .0 .0) (k .before .before .before .before .before .before .before .before .before .before .before .before .before .before .before .walk .used) (k .loop .used) (k .loop .left)
 comparing k =
-    let u = k .before .before .before .before .before .before .before .before .before .before .before .before .before .before .before .before .before .before .walk .used in
-    let e : u + k .before .same-front .result - k .before .same-front .result ≡ u = omega arith in
+    let u = k .before .before .before .before .before .before .before .before .before .before .before .before .before .before .before .walk .used in
+    let e : u + k .before .equal-front .result - k .before .equal-front .result ≡ u = omega arith in
     comparing-from e (k .loop .inv)
-
--- the next of the bits taken out is the next of the address
-next : (k : tie.In-loop Inv-loop μ-loop Inv-walk μ-walk)
-    → bitOf (k .before .before .before .before .before .address-bits .result) (k .before .loop .left - 1) ≡ addressBit (k .before .before .before .before .before .before .before .before .before .before .before .before .before .before .before .before .before .before .before .before .before .before .args .address .now) (k .before .loop .used)
-next k = next-bit (comparing (k .before)) (k .loop-test .taken) _ _ (k .before .before .before .before .before .before .before .match-length .ensures) (k .before .before .before .before .before .address-bits .ensures)
 
 mul-end : tie.Need-mul-end Inv-loop μ-loop Inv-walk μ-walk
 mul-end c = omega arith
@@ -180,79 +174,59 @@ returns-6 c =
     c .abort5 .ensures
     ∙ match-ends (taken (c .before .before .before .before)) (c .before .before .before .match3 .keys3) (omega (arith, c .before .if4 .taken, c .before .before .match-length .ensures, taken (c .before .before .before .before) .walking .room))
 
-address-bits-requires : tie.Need-address-bits-requires Inv-loop μ-loop Inv-walk μ-walk
-address-bits-requires c κs = omega (arith, match-most (taken (c .before .before .before)) (c .before .before .match3 .keys3), c .before .match-length .ensures)
-
-same-bits-requires : tie.Need-same-bits-requires Inv-loop μ-loop Inv-walk μ-walk
-same-bits-requires c κs = omega (arith, match-most (taken (c .before .before .before .before)) (c .before .before .before .match3 .keys3), c .before .before .match-length .ensures)
+equal-front-requires : tie.Need-equal-front-requires Inv-loop μ-loop Inv-walk μ-walk
+equal-front-requires c κs = omega (arith, match-most (taken (c .before .before .before)) (c .before .before .match3 .keys3), c .before .match-length .ensures)
 
 add-used-2 : tie.Need-add-used-2 Inv-loop μ-loop Inv-walk μ-walk
-add-used-2 c = omega (arith, c .before .before .before .if4 .left, taken (c .before .before .before .before .before .before) .walking .narrow)
+add-used-2 c = omega (arith, c .before .if4 .left, c .equal-front .ensures .most, taken (c .before .before .before .before) .walking .narrow)
+
+sub-left : tie.Need-sub-left Inv-loop μ-loop Inv-walk μ-walk
+sub-left c = omega (arith, c .equal-front .ensures .most)
+
+loop-holds : tie.Need-loop-holds Inv-loop μ-loop Inv-walk μ-walk
+loop-holds c =
+    let t = taken (c .before .before .before .before) in
+    let r = c .equal-front in
+    let s = comparing-start t (c .before .before .before .match3 .keys3) _ (c .before .before .match-length .ensures) (omega (arith, c .before .if4 .left, t .walking .room)) in
+    let u = c .before .before .before .before .before .before .before .before .before .before .before .before .before .before .walk .used in
+    let e : u ≡ u + r .result - r .result = omega arith in
+    comparing-from e (front-goes s (r .result) (r .ensures .most) (r .ensures .same))
 
 walk-less-3 : tie.Need-walk-less-3 Inv-loop μ-loop Inv-walk μ-walk
 walk-less-3 c = let r = read (taken (c .before .before .before .before .before .before)) in omega (arith, r .start, r .near)
 
 walk-again-3 : tie.Need-walk-again-3 Inv-loop μ-loop Inv-walk μ-walk
 walk-again-3 c =
-    let l = c .before .before .before .before .match-length .ensures in
-    match-same (taken (c .before .before .before .before .before .before)) (c .before .before .before .before .before .match3 .keys3) (omega (arith, c .before .before .before .if4 .left, l, taken (c .before .before .before .before .before .before) .walking .room)) _ _ l
-    (c .before .before .address-bits .ensures) _ (c .before .same-bits .ensures) (c .if5 .taken)
-
-same-front-requires : tie.Need-same-front-requires Inv-loop μ-loop Inv-walk μ-walk
-same-front-requires c κs = omega (arith, match-most (taken (c .before .before .before .before .before .before)) (c .before .before .before .before .before .match3 .keys3), c .before .before .before .before .match-length .ensures)
-
-add-used-3 : tie.Need-add-used-3 Inv-loop μ-loop Inv-walk μ-walk
-add-used-3 c = omega (arith, c .before .before .before .before .if4 .left, c .same-front .ensures .0, taken (c .before .before .before .before .before .before .before) .walking .narrow)
-
-sub-left : tie.Need-sub-left Inv-loop μ-loop Inv-walk μ-walk
-sub-left c = omega (arith, c .same-front .ensures .0)
-
-loop-holds : tie.Need-loop-holds Inv-loop μ-loop Inv-walk μ-walk
-loop-holds c =
-    let t = taken (c .before .before .before .before .before .before .before) in
-    let r = c .same-front in
-    let s = comparing-start t (c .before .before .before .before .before .before .match3 .keys3) _ (c .before .before .before .before .before .match-length .ensures) (omega (arith, c .before .before .before .before .if4 .left, t .walking .room)) in
-    let u = c .before .before .before .before .before .before .before .before .before .before .before .before .before .before .before .before .before .walk .used in
-    let e : u ≡ u + r .result - r .result = omega arith in
-    comparing-from e (front-goes s (r .result) (r .ensures .0) (λ k l q. sym (front-same _ _ _ (r .result) (r .ensures .1) k l q) ∙ c .before .before .before .address-bits .ensures k l))
-
-walk-less-4 : tie.Need-walk-less-4 Inv-loop μ-loop Inv-walk μ-walk
-walk-less-4 c = let r = read (taken (c .before .before .before .before .before .before .before .before .before)) in omega (arith, r .start, r .near)
-
-walk-again-4 : tie.Need-walk-again-4 Inv-loop μ-loop Inv-walk μ-walk
-walk-again-4 c =
     let l = comparing (c .before) in
     let z : c .before .loop .left ≡ 0 = omega (arith, c .loop-test .left) in
-    match-goes (taken (c .before .before .before .before .before .before .before .before .before)) (c .before .before .before .before .before .before .before .before .match3 .keys3) (l .room) (all-equal l z) _ (omega (arith, l .place, z))
+    match-goes (taken (c .before .before .before .before .before .before)) (c .before .before .before .before .before .match3 .keys3) (l .room) (all-equal l z) _ (omega (arith, l .place, z))
 
 sub-left-2 : tie.Need-sub-left-2 Inv-loop μ-loop Inv-walk μ-walk
 sub-left-2 c = omega (arith, c .loop-test .taken)
 
+address-bit-requires-2 : tie.Need-address-bit-requires-2 Inv-loop μ-loop Inv-walk μ-walk
+address-bit-requires-2 c κs = omega (arith, bit-left (c .before .loop .inv) (c .loop-test .taken), taken (c .before .before .before .before .before .before) .walking .width)
+
 bit-of-requires : tie.Need-bit-of-requires Inv-loop μ-loop Inv-walk μ-walk
-bit-of-requires c κs = omega (arith, c .before .loop .inv .short)
+bit-of-requires c κs = omega (arith, c .before .before .loop .inv .short)
 
-bit-of-requires-2 : tie.Need-bit-of-requires-2 Inv-loop μ-loop Inv-walk μ-walk
-bit-of-requires-2 c κs = omega (arith, c .before .before .loop .inv .short)
-
-add-used-4 : tie.Need-add-used-4 Inv-loop μ-loop Inv-walk μ-walk
-add-used-4 c = omega (arith, bit-left (c .before .before .before .before .loop .inv) (c .before .before .before .loop-test .taken), taken (c .before .before .before .before .before .before .before .before .before .before .before .before) .walking .narrow)
+add-used-3 : tie.Need-add-used-3 Inv-loop μ-loop Inv-walk μ-walk
+add-used-3 c = omega (arith, bit-left (c .before .before .before .before .loop .inv) (c .before .before .before .loop-test .taken), taken (c .before .before .before .before .before .before .before .before .before) .walking .narrow)
 
 loop-less : tie.Need-loop-less Inv-loop μ-loop Inv-walk μ-walk
 loop-less c = omega (arith, c .before .before .before .loop-test .taken)
 
 loop-again : tie.Need-loop-again Inv-loop μ-loop Inv-walk μ-walk
-loop-again c =
-    equal-goes (c .before .before .before .before .loop .inv) (c .before .before .before .loop-test .taken)
-    (sym (next (c .before .before .before)) ∙ sym (c .before .before .bit-of .ensures) ∙ c .if6 .left ∙ c .before .bit-of2 .ensures)
+loop-again c = equal-goes (c .before .before .before .before .loop .inv) (c .before .before .before .loop-test .taken) (sym (c .before .before .address-bit2 .ensures) ∙ c .if5 .left ∙ c .before .bit-of .ensures)
 
-walk-less-5 : tie.Need-walk-less-5 Inv-loop μ-loop Inv-walk μ-walk
-walk-less-5 c = let r = read (taken (c .before)) in omega (arith, r .start, r .near)
+walk-less-4 : tie.Need-walk-less-4 Inv-loop μ-loop Inv-walk μ-walk
+walk-less-4 c = let r = read (taken (c .before)) in omega (arith, r .start, r .near)
 
-walk-again-5 : tie.Need-walk-again-5 Inv-loop μ-loop Inv-walk μ-walk
-walk-again-5 c = default-goes (taken (c .before)) (c .match3 .rest .0 .0 .1) (c .match3 .rest .0 .1) (c .match3 .rest .1)
+walk-again-4 : tie.Need-walk-again-4 Inv-loop μ-loop Inv-walk μ-walk
+walk-again-4 c = default-goes (taken (c .before)) (c .match3 .rest .0 .0 .1) (c .match3 .rest .0 .1) (c .match3 .rest .1)
 
 add-finish : tie.Need-add-finish Inv-loop μ-loop Inv-walk μ-walk
-add-finish c = omega (arith, bit-left (c .before .before .before .before .loop .inv) (c .before .before .before .loop-test .taken), taken (c .before .before .before .before .before .before .before .before .before .before .before .before) .walking .narrow)
+add-finish c = omega (arith, bit-left (c .before .before .before .before .loop .inv) (c .before .before .before .loop-test .taken), taken (c .before .before .before .before .before .before .before .before .before) .walking .narrow)
 
 finish-requires-2 : tie.Need-finish-requires-2 Inv-loop μ-loop Inv-walk μ-walk
 finish-requires-2 c κs = tt
@@ -261,8 +235,8 @@ returns-7 : tie.Need-returns-7 Inv-loop μ-loop Inv-walk μ-walk
 returns-7 c =
     let l = comparing (c .before .before .before .before .before) in
     c .finish2 .ensures
-    ∙ match-differs (taken (c .before .before .before .before .before .before .before .before .before .before .before .before .before)) (c .before .before .before .before .before .before .before .before .before .before .before .before .match3 .keys3) (l .room) _
-    (different-ends l (c .before .before .before .before .loop-test .taken) (λ z. c .before .if6 .taken (c .before .before .before .bit-of .ensures ∙ next (c .before .before .before .before) ∙ z ∙ sym (c .before .before .bit-of2 .ensures))))
+    ∙ match-differs (taken (c .before .before .before .before .before .before .before .before .before .before)) (c .before .before .before .before .before .before .before .before .before .match3 .keys3) (l .room) _
+    (different-ends l (c .before .before .before .before .loop-test .taken) (λ z. c .before .if5 .taken (c .before .before .before .address-bit2 .ensures ∙ z ∙ sym (c .before .before .bit-of .ensures))))
 
 pub walk-bits-spec : {M : Type 1} → statement M
 walk-bits-spec =
@@ -305,25 +279,20 @@ walk-bits-spec =
     sub-if4
     abort-requires-5
     returns-6
-    address-bits-requires
-    same-bits-requires
+    equal-front-requires
     add-used-2
-    walk-less-3
-    walk-again-3
-    same-front-requires
-    add-used-3
     sub-left
     loop-holds
-    walk-less-4
-    walk-again-4
+    walk-less-3
+    walk-again-3
     sub-left-2
+    address-bit-requires-2
     bit-of-requires
-    bit-of-requires-2
-    add-used-4
+    add-used-3
     loop-less
     loop-again
-    walk-less-5
-    walk-again-5
+    walk-less-4
+    walk-again-4
     add-finish
     finish-requires-2
     returns-7)
