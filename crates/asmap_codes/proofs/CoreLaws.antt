@@ -19,16 +19,17 @@ use Rattle.asmap_program.specs.declared.Verdict.the-variants.{Accepted}
 use Rattle.asmap_program.proofs.CoreCheck.{core-verdict}
 use Rattle.asmap_program.proofs.CoreWalk.{core-number}
 use Rattle.asmap_codes.specs.Bits.{mapBits, number, allZero}
-use Rattle.asmap_codes.specs.Row.{Row, typeRow, operandRow, Fit}
-use Rattle.asmap_codes.specs.Code.{tail, code, codeAt}
+use Rattle.asmap_codes.specs.Row.{Row, typeRow, asnRow, matchRow, jumpRow, operandRow, Fit}
+use Rattle.asmap_codes.specs.Code.{tail, code, codeAt, readCode}
 use Rattle.asmap_codes.specs.Instruction.{withOperand, withOpcode, fetchAt, paddedFrom, mapOf}
-use Rattle.asmap_codes.specs.Core.{mantissa, decodeBits, Agrees, fileOf}
+use Rattle.asmap_codes.specs.Core.{mantissa, decodeBits, Agrees, SameRead, CoreReads, fileOf}
 use Rattle.asmap_codes.specs.declared.Code.{Code}
 use Rattle.asmap_codes.specs.declared.Code.the-variants.{Value, Cut}
+use Rattle.asmap_codes.specs.declared.Decoded.{Decoded}
 use Rattle.asmap_codes.proofs.BitLaws.{AllBits, bits-map, length-mapBits}
 use Rattle.asmap_codes.proofs.RowLaws.{type-fit, operand-fit}
 use Rattle.asmap_codes.proofs.CodeLaws.{heads}
-use Rattle.asmap_codes.proofs.Inside.{value-at, long-operand}
+use Rattle.asmap_codes.proofs.Inside.{value-at, read-at, read-cut, long-operand}
 use Rattle.asmap_codes.proofs.MapLaws.{laws}
 
 module _ (B : List ℕ) (all : AllBits B) where
@@ -109,6 +110,33 @@ module _ (m : List ℕ) where
       go : (c : Code) → codeAt m p row ≡ c → Agrees c (decodeBits (mapBits m) (row .sizes) (row .least) p) → c ≡ Cut
       go Cut q a = refl
       go (Value v n) q a = absurd (omega (arith, value-at m p row v n (f .many) q .below, f .small, ap (λ (r : Read). r .value) a))
+
+  -- what a call that reads a code of the row hands back
+  read-is-core : (row : Row) → Fit row → (p : ℕ) → CoreReads m p (readCode m p row) (decodeBits (mapBits m) (row .sizes) (row .least) p)
+  read-is-core row f p h k = go (codeAt m p row) refl (decode-bits-is-core row p k)
+    where
+      go : (c : Code) → codeAt m p row ≡ c → Agrees c (decodeBits (mapBits m) (row .sizes) (row .least) p)
+          → SameRead (readCode m p row) (decodeBits (mapBits m) (row .sizes) (row .least) p)
+      go Cut q a = rw (read-cut m p row h q) a
+      go (Value v n) q a = rw (read-at m p row h v n q) (a, omega (arith, value-at m p row v n (f .many) q .below, f .small))
+
+  -- the same for each of Core's four decoders, of a call's answer r
+  module _ (p : ℕ) (r : Decoded) where
+    pub type-is-core : r ≡ readCode m p typeRow → CoreReads m p r (fileOf m .decodeType p)
+    unfolding fileOf
+    type-is-core e = rw e (read-is-core typeRow type-fit p)
+
+    pub asn-is-core : r ≡ readCode m p asnRow → CoreReads m p r (fileOf m .decodeASN p)
+    unfolding fileOf
+    asn-is-core e = rw e (read-is-core asnRow (operand-fit 0) p)
+
+    pub match-is-core : r ≡ readCode m p matchRow → CoreReads m p r (fileOf m .decodeMatch p)
+    unfolding fileOf
+    match-is-core e = rw e (read-is-core matchRow (operand-fit 2) p)
+
+    pub jump-is-core : r ≡ readCode m p jumpRow → CoreReads m p r (fileOf m .decodeJump p)
+    unfolding fileOf
+    jump-is-core e = rw e (read-is-core jumpRow (operand-fit 1) p)
 
   operand-agrees : (op q : ℕ) → q ≤ 8 * length m → Agrees (codeAt m q (operandRow op)) (decodeOf (fileOf m) op q)
   unfolding fileOf

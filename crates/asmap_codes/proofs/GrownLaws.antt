@@ -12,7 +12,7 @@ use lib.Dec.{leb}
 use lib.ListN.{length, getD}
 use lib.Pow.{pow-mono}
 use Rattle.asmap_codes.specs.Row.{span}
-use Rattle.asmap_codes.specs.Grown.{slow, grown, stopIf, stops}
+use Rattle.asmap_codes.specs.models.Grown.{slow, grown, stopIf, stops}
 
 pub both : (a b : Bool) → (a && b) ≡ true → (a ≡ true) × (b ≡ true)
 both true b e = (refl, e)

@@ -1,18 +1,17 @@
 -- A code that is read ends past its start and inside the map, and its value is in its row's range.
 -- Assumes nothing.
-use mathlib.Core.Path.{_≡_, refl}
+use mathlib.Core.Path.{_≡_, refl, ap}
 use mathlib.Core.List.{List, [], _∷_}
 use Prim.Native.Nat.{ℕ, zero, suc, _+_, _*_, _^_, _≤_, _<_}
 use native.Mathlib.Omega.{arith}
-use mathlib.Core.Bool.{false}
 use borrow.Author.Tests.{lt-ltb, le-ltb}
 use lib.ListN.{length, drop, drop-of-length-le}
+use Rattle.asmap_program.specs.Map.{cutReason}
 use Rattle.asmap_codes.specs.Bits.{mapBits}
 use Rattle.asmap_codes.specs.Row.{Row, operandRow, span}
-use Rattle.asmap_codes.specs.Code.{tail, code, codeAt, answered, readCode}
-use Rattle.asmap_codes.specs.declared.Code.{Code}
+use Rattle.asmap_codes.specs.Code.{tail, code, codeAt, partFrom, readCode}
 use Rattle.asmap_codes.specs.declared.Code.the-variants.{Value, Cut}
-use Rattle.asmap_codes.specs.declared.Decoded.the-variants.{Refused}
+use Rattle.asmap_codes.specs.declared.Decoded.the-variants.{Found, Refused}
 use Rattle.asmap_codes.proofs.BitLaws.{length-mapBits, bits-map, bits-drop, length-left}
 use Rattle.asmap_codes.proofs.RowLaws.{operand-fit}
 use Rattle.asmap_codes.proofs.RoundTrip.{tail-read, cut-no-value, was-read}
@@ -77,10 +76,18 @@ past-end m at row h k = rw (drop-of-length-le (mapBits m) {i = at} (omega (arith
     none (s ∷ []) l = absurd (omega arith)
     none (s ∷ t ∷ ss) l = refl
 
+-- whichever part a code is, cut it has the number 4
+pub cut-number : (n : ℕ) → cutReason (partFrom n) ≡ 4
+cut-number zero = refl
+cut-number (suc n) = refl
+
 -- what reading a code hands back: 1 before 4
 module _ (m : List ℕ) (at : ℕ) (row : Row) where
   pub read-long : 16777216 < length m → readCode m at row ≡ Refused 1
   read-long h = rw (lt-ltb 16777216 (length m) h)
 
-  pub read-at : length m ≤ 16777216 → (c : Code) → codeAt m at row ≡ c → readCode m at row ≡ answered false c
-  read-at h c e = rw (le-ltb 16777216 (length m) h, e)
+  pub read-at : length m ≤ 16777216 → (v n : ℕ) → codeAt m at row ≡ Value v n → readCode m at row ≡ Found v n
+  read-at h v n e = rw (le-ltb 16777216 (length m) h, e)
+
+  pub read-cut : length m ≤ 16777216 → codeAt m at row ≡ Cut → readCode m at row ≡ Refused 4
+  read-cut h e = rw (le-ltb 16777216 (length m) h, e) (ap Refused (cut-number (row .least)))

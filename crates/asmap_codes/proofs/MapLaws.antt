@@ -2,7 +2,7 @@
 -- Assumes nothing.
 use mathlib.Core.Path.{_≡_, _∙_, refl, ap, subst}
 use mathlib.Core.List.{List}
-use Prim.Native.Nat.{ℕ, _*_, _≤_, _<_}
+use Prim.Native.Nat.{ℕ, zero, suc, _*_, _≤_, _<_}
 use native.Mathlib.Omega.{arith}
 use borrow.Author.Tests.{lt-ltb, le-ltb}
 use mathlib.Core.Bool.{false}
@@ -20,6 +20,13 @@ use Rattle.asmap_codes.proofs.Inside.{value-at, long-operand}
 least-match : (op : ℕ) → op ≡ 2 → operandRow op .least ≡ 2
 least-match op e = rw e
 
+-- no row of an operand begins below 1
+least-operand : (op : ℕ) → 1 ≤ operandRow op .least
+least-operand zero = omega arith
+least-operand (suc zero) = omega arith
+least-operand (suc (suc zero)) = omega arith
+least-operand (suc (suc (suc op))) = omega arith
+
 abbrev Seen : List ℕ → ℕ → Fetched → Type 0
 Seen m p (Whole i) = Stands (mapOf m) p i
 Seen m p CutOpcode = Unit {0}
@@ -31,7 +38,7 @@ module _ (m : List ℕ) where
   operand-seen p op e h k Cut q = tt
   operand-seen p op e h k (Value v n) q =
       let x = value-at m e (operandRow op) v n (long-operand op) q in
-      record { here = refl; some = omega (arith, x .past); fits = omega (arith, x .past, x .inside); known = k; wide = λ z. omega (arith, least-match op z, x .above) }
+      record { here = refl; some = omega (arith, x .past); fits = omega (arith, x .past, x .inside); known = k; from-one = omega (arith, least-operand op, x .above); wide = λ z. omega (arith, least-match op z, x .above) }
 
   opcode-seen : (p : ℕ) (c : Code) → codeAt m p typeRow ≡ c → Seen m p (withOpcode m p c)
   opcode-seen p Cut q = tt

@@ -2,14 +2,14 @@
 -- Assumes nothing.
 use mathlib.Core.Path.{_≡_, _∙_, refl, sym, ap, ap₂}
 use Prim.Native.Nat.{ℕ, zero, suc, _+_, _-_, _*_, _/_, _%_, _^_, _≤_, _<_}
-use native.Mathlib.Nat.{pow-succ', mul-assoc, mul-comm, mul-add, add-mul, suc-mul, mul-zero, div-one, zero-div, div-eq-of-lt, mod-lt, mod-eq-of-lt, mul-le-mul-right}
+use native.Mathlib.Nat.{pow-succ', mul-assoc, mul-comm, mul-add, add-mul, suc-mul, mul-zero, div-one, mod-lt, mod-eq-of-lt, mul-le-mul-right}
 use native.Mathlib.Omega.{arith}
 use lib.Bits.{bitAnd, and-block, and-mask, and-zero-r, and-le-r}
 use lib.Dec.{lit<}
 use lib.Pow as pow
 use lib.Pow.{pow-pos, pow-mono, pow-add, shr-shr, split}
 use Rattle.asmap_codes.specs.Bits.{low, number}
-use Rattle.asmap_codes.specs.Reverse.{rev, swap}
+use Rattle.asmap_codes.specs.models.Reverse.{rev, swap}
 use Rattle.asmap_codes.proofs.BitLaws.{length-low}
 
 pub rev-lt : (n x : ℕ) → rev n x < 2 ^ n

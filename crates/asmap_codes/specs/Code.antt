@@ -5,7 +5,7 @@ use mathlib.Core.Bool.{Bool, true, false}
 use mathlib.Core.List.{List, [], _∷_}
 use lib.Dec.{leb, ltb}
 use lib.ListN.{length, take, drop}
-use Rattle.asmap_program.specs.Map.{limit}
+use Rattle.asmap_program.specs.Map.{limit, Part, Opcode, Operand, cutReason}
 use Rattle.asmap_codes.specs.Bits.{mapBits, number}
 use Rattle.asmap_codes.specs.Row.{Row}
 use Rattle.asmap_codes.specs.declared.Code.{Code}
@@ -35,13 +35,18 @@ code (s ∷ t ∷ ss) v at (suc b ∷ bs) = code (t ∷ ss) (v + 2 ^ s) (at + 1)
 abbrev pub codeAt : List ℕ → ℕ → Row → Code
 codeAt m at row = code (row .sizes) (row .least) at (drop at (mapBits m))
 
--- A code as it is handed back (document 01, "What a call hands back", Order): refused 1 for a map over the limit, then 4 for
--- a code that is no value.
-abbrev pub answered : Bool → Code → Decoded
-answered true c = Refused 1
-answered false (Value v n) = Found v n
-answered false Cut = Refused 4
+-- A code as it is handed back (document 01, "What a call hands back", Order): refused 1 for a map over the limit, then with the
+-- number of a cut for a code that is no value; p: which part of an instruction the code is.
+abbrev pub answered : Part → Bool → Code → Decoded
+answered p true c = Refused 1
+answered p false (Value v n) = Found v n
+answered p false Cut = Refused (cutReason p)
+
+-- Which part of an instruction the codes over a least value are: the row of the opcodes alone begins at 0.
+abbrev pub partFrom : ℕ → Part
+partFrom zero = Opcode
+partFrom (suc n) = Operand
 
 -- Reading a code of a row, for every map and every bit of it or past it.
 abbrev pub readCode : List ℕ → ℕ → Row → Decoded
-readCode m at row = answered (ltb limit (length m)) (codeAt m at row)
+readCode m at row = answered (partFrom (row .least)) (ltb limit (length m)) (codeAt m at row)

@@ -5,7 +5,7 @@ use mathlib.Core.Bool.{Bool, true, false, _&&_}
 use mathlib.Core.List.{List}
 use lib.Dec.{leb, ltb}
 use lib.ListN.{length, drop}
-use Rattle.asmap_program.specs.Map.{Map, Fetched, Whole, CutOpcode, CutOperand, cutReason, limit}
+use Rattle.asmap_program.specs.Map.{Map, Fetched, Whole, CutOpcode, CutOperand, Opcode, Operand, cutReason, limit}
 use Rattle.asmap_codes.specs.Bits.{mapBits, allZero}
 use Rattle.asmap_codes.specs.Row.{typeRow, operandRow}
 use Rattle.asmap_codes.specs.Code.{codeAt}
@@ -41,8 +41,8 @@ mapOf m = record { fetch = fetchAt m; bits = 8 * length m; padded = paddedFrom m
 abbrev pub answeredWhole : Bool → Fetched → DecodedInstruction
 answeredWhole true f = Refused 1
 answeredWhole false (Whole i) = Found i
-answeredWhole false CutOpcode = Refused (cutReason CutOpcode)
-answeredWhole false (CutOperand op) = Refused (cutReason (CutOperand op))
+answeredWhole false CutOpcode = Refused (cutReason Opcode)
+answeredWhole false (CutOperand op) = Refused (cutReason Operand)
 
 -- Reading an instruction, for every map and every bit of it or past it.
 unfoldable pub readInstruction : List ℕ → ℕ → DecodedInstruction

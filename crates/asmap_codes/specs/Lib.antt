@@ -4,5 +4,4 @@ pub mod Code
 pub mod Encode
 pub mod Instruction
 pub mod Core
-pub mod Grown
-pub mod Reverse
+pub mod models

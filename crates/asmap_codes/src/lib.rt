@@ -5,8 +5,8 @@ ghost use Prim.Native.Nat.{_+_, _-_, _*_, _/_, _^_, _≤_, _<_};
 ghost use lib.Dec.{eqb};
 ghost use lib.ListN.{length, getD};
 ghost use Rattle.asmap_codes.specs.Row.{typeRow, asnRow, matchRow, jumpRow};
-ghost use Rattle.asmap_codes.specs.Grown.{stops};
-ghost use Rattle.asmap_codes.specs.Reverse.{rev, swap};
+ghost use Rattle.asmap_codes.specs.models.Grown.{stops};
+ghost use Rattle.asmap_codes.specs.models.Reverse.{rev, swap};
 use asmap_program::Instruction;
 
 // The sizes of an opcode's code: four values from 0 on.

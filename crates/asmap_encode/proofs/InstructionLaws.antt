@@ -15,8 +15,9 @@ use Rattle.asmap_codes.proofs.Instructions.{instruction-length}
 use Rattle.asmap_codes.proofs.GrownLaws.{both}
 use Rattle.asmap_encode.proofs.WordLaws.{puts-word, code-length}
 use Rattle.asmap_encode.specs.Write.{put, puts, none, pickWritten, writeAfter, writeCode, writeInstruction}
-use Rattle.asmap_encode.specs.Parts.{InRow, lengthWritten}
-use Rattle.asmap_encode.specs.declared.Parts.{Parts}
+use Rattle.asmap_code_parts.specs.models.Parts.{InRow}
+use Rattle.asmap_encode.specs.models.Words.{lengthWritten}
+use Rattle.asmap_code_parts.specs.declared.Parts.{Parts}
 use Rattle.asmap_encode.specs.declared.Word.{Word}
 use Rattle.asmap_encode.specs.declared.Written.the-variants.{Bits, Refused}
 

@@ -1,4 +1,2 @@
-pub mod PartsLaws
 pub mod WordLaws
-pub mod EncodeLaws
 pub mod InstructionLaws

@@ -1,21 +1,22 @@
 -- Laws of bits in a word: a word above another, what a word holds when bits were put, and the word of a code by its parts.
 -- Assumes nothing.
-use mathlib.Core.Path.{_≡_, _∙_, refl, sym, ap, ap₂}
+use mathlib.Core.Path.{_≡_, _∙_, sym, ap, ap₂}
 use Prim.Native.Nat.{ℕ, zero, suc, _+_, _-_, _*_, _%_, _^_, _≤_, _<_}
 use mathlib.Core.List.{List, [], _∷_}
 use native.Mathlib.Nat.{pow-suc, pow-succ', mul-le-mul-right, suc-mul, mul-zero, mul-assoc, mul-comm, mul-add}
 use lib.ListN.{length}
 use Rattle.asmap_codes.specs.Bits.{high, word}
-use Rattle.asmap_codes.specs.Row.{Row, inRange}
+use Rattle.asmap_codes.specs.Row.{Row}
 use Rattle.asmap_codes.specs.Encode.{encodeOf}
 use Rattle.asmap_codes.proofs.RoundTrip.{length-high}
-use Rattle.asmap_codes.specs.Grown.{stops}
-use Rattle.asmap_codes.specs.Reverse.{rev}
-use Rattle.asmap_encode.specs.Parts.{onesThen, zerosThen, InRow, CodedAs, Shortened, numberOf, after, writtenAs}
+use Rattle.asmap_codes.specs.models.Grown.{stops}
+use Rattle.asmap_codes.specs.models.Reverse.{rev}
+use Rattle.asmap_code_parts.specs.models.Parts.{onesThen, zerosThen, InRow, CodedAs}
+use Rattle.asmap_encode.specs.models.Words.{Shortened, numberOf, after, writtenAs}
 use Rattle.asmap_encode.specs.Write.{put, puts, writeAfter}
-use Rattle.asmap_encode.specs.declared.Parts.{Parts}
-use Rattle.asmap_encode.specs.declared.Coded.{Coded}
-use Rattle.asmap_encode.specs.declared.Coded.the-variants.{In, Out}
+use Rattle.asmap_code_parts.specs.declared.Parts.{Parts}
+use Rattle.asmap_code_parts.specs.declared.Coded.{Coded}
+use Rattle.asmap_code_parts.specs.declared.Coded.the-variants.{In, Out}
 use Rattle.asmap_encode.specs.declared.Word.{Word}
 use Rattle.asmap_encode.specs.declared.Written.the-variants.{Bits}
 use native.Mathlib.Numerals.{add-one}

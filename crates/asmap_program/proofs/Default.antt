@@ -1,19 +1,19 @@
 -- What every walk's number is, of an accepted map or not: at a difference the default last read, wherever that DEFAULT stood, and 0
 -- where it aborts. By induction on the turns.
 -- Assumes nothing.
-use Prim.Native.Nat.{ℕ, zero, suc, _<_}
+use Prim.Native.Nat.{ℕ, zero, suc, _≤_, _<_}
 use mathlib.Core.Bool.{Bool, true, false, cond}
 use mathlib.Core.Path.{_≡_, refl, sym, ap, subst, _∙_}
 use mathlib.Core.List.{List, [], _∷_, List·Memᴰ, List·Memᴰ·head, List·Memᴰ·tail, List·Memᴰ·cases-cons, List·Memᴰ·not-nil}
 use mathlib.Core.Logic.{_⊎_, inl, inr, _≢_}
 use native.Mathlib.Omega.{arith}
 use lib.Dec.{eqb}
-use borrow.Author.Tests.{eqb-true, eqb-false, eq-eqb, ne-eqb}
+use borrow.Author.Tests.{eqb-false, eq-eqb, ne-eqb}
 use Rattle.asmap_program.specs.declared.Instruction.{Instruction}
 use Rattle.asmap_program.specs.declared.Kind.the-variants.{Differed, Aborted}
 use Rattle.asmap_program.specs.Map.{DEFAULT, Fetched, Whole, CutOpcode, CutOperand, Map, Laws, lengthOf}
 use Rattle.asmap_program.specs.Walk.{Walked, Walker, Turn, Goes, Stops, Compared, Equal, Different, compared, aborted, enough, meeting, turnWhole, turnOn, goOn, walkFrom, walk}
-use Rattle.asmap_program.specs.Demand.{defaultAfter, lastDefault, NoDefault, DefaultsFromOne}
+use Rattle.asmap_program.specs.Demand.{defaultAfter, lastDefault, NoDefault}
 
 -- what the number of a walk from default d is
 record Told (d : ℕ) (r : Walked) : Type 0 where
@@ -79,14 +79,71 @@ module _ (address : ℕ → ℕ) (m : Map) (law : Laws m) (w : ℕ) where
   unfolding walk
   aborted-gives-zero = told (m .bits) _ .aborted
 
--- ---- what a number 0 means at a difference, DEFAULTs having operands from 1 on
+-- ---- every operand that a walk reads is from 1 on
+
+abbrev pub FromOne : List Instruction → Type 0
+FromOne is = (i : Instruction) → List·Memᴰ i is → 1 ≤ i .operand
+
+from-none : FromOne []
+from-none j p = absurd (List·Memᴰ·not-nil p)
+
+from-cons : (i : Instruction) (is : List Instruction) → 1 ≤ i .operand → FromOne is → FromOne (i ∷ is)
+from-cons i is h k j p = pick (List·Memᴰ·cases-cons p)
+  where
+    pick : (j ≡ i) ⊎ List·Memᴰ j is → 1 ≤ j .operand
+    pick (inl e) = subst (λ (x : Instruction). 1 ≤ x .operand) (sym e) h
+    pick (inr q) = k j q
+
+from-last : (i : Instruction) → 1 ≤ i .operand → FromOne (i ∷ [])
+from-last i h = from-cons i [] h from-none
+
+-- what a turn reads
+abbrev TurnFromOne : Turn → Type 0
+TurnFromOne (Goes i s) = 1 ≤ i .operand
+TurnFromOne (Stops r) = FromOne (r .read)
+
+from-enough : (b : Bool) (s : Walker) (i : Instruction) (t : Turn) → 1 ≤ i .operand → TurnFromOne t → TurnFromOne (enough b s i t)
+unfolding enough
+from-enough true s i t h k = k
+from-enough false s i t h k = from-last i h
+
+from-meeting : (s : Walker) (i : Instruction) (c : Compared) → 1 ≤ i .operand → TurnFromOne (meeting s i c)
+from-meeting s i Equal h = h
+from-meeting s i (Different u) h = from-last i h
+
+from-on : (k : Walker → Walked) → ((s : Walker) → FromOne (k s .read)) → (t : Turn) → TurnFromOne t → FromOne (goOn k t .read)
+from-on k ih (Goes i s) h = from-cons i (k s .read) h (ih s)
+from-on k ih (Stops r) h = h
+
+module _ (address : ℕ → ℕ) (m : Map) (law : Laws m) (w : ℕ) where
+  from-whole : (s : Walker) (i : Instruction) → 1 ≤ i .operand → (k : ℕ) → TurnFromOne (turnWhole address m w s i k)
+  from-whole s i h zero = from-last i h
+  from-whole s i h (suc zero) = from-enough _ s i _ h h
+  from-whole s i h (suc (suc zero)) = from-enough _ s i _ h (from-meeting s i (compared address (lengthOf (i .operand)) (i .operand) (s .used)) h)
+  from-whole s i h (suc (suc (suc n))) = h
+
+  from-turn : (s : Walker) (r : Fetched) → m .fetch (s .at) ≡ r → TurnFromOne (turnOn address m w s r)
+  from-turn s (Whole i) f = from-whole s i (law .stands _ _ f .from-one) (i .opcode)
+  from-turn s CutOpcode f = from-none
+  from-turn s (CutOperand op) f = from-none
+
+  from-walk : (f : ℕ) (s : Walker) → FromOne (walkFrom address m w f s .read)
+  unfolding walkFrom
+  from-walk zero s = from-none
+  from-walk (suc f) s = from-on _ (λ s′. from-walk f s′) (turnOn address m w s (m .fetch (s .at))) (from-turn s (m .fetch (s .at)) refl)
+
+  pub reads-from-one : FromOne (walk address m w .read)
+  unfolding walk
+  reads-from-one = from-walk (m .bits) _
+
+-- ---- what a number 0 means at a difference: no DEFAULT can have set it
 
 none-kept : (d : ℕ) (is : List Instruction) → NoDefault is → defaultAfter d is ≡ d
 unfolding defaultAfter
 none-kept d [] h = refl
 none-kept d (i ∷ is) h = rw (ne-eqb (i .opcode) DEFAULT (h i (List·Memᴰ·head refl))) (none-kept d is λ j p. h j (List·Memᴰ·tail p))
 
-zero-none : (d : ℕ) (is : List Instruction) → DefaultsFromOne is → defaultAfter d is ≡ 0 → (d ≡ 0) × NoDefault is
+pub zero-none : (d : ℕ) (is : List Instruction) → FromOne is → defaultAfter d is ≡ 0 → (d ≡ 0) × NoDefault is
 unfolding defaultAfter
 zero-none d [] h e = (e, λ j p. absurd (List·Memᴰ·not-nil p))
 zero-none d (i ∷ is) h e =
@@ -95,7 +152,7 @@ zero-none d (i ∷ is) h e =
     go : (b : Bool) → eqb (i .opcode) DEFAULT ≡ b → (cond (eqb (i .opcode) DEFAULT) (i .operand) d ≡ 0) × NoDefault is → (d ≡ 0) × NoDefault (i ∷ is)
     go true q r =
         let z : i .operand ≡ 0 = rw q at (r .0) in
-        absurd (omega (arith, h i (List·Memᴰ·head refl) (eqb-true (i .opcode) DEFAULT q)))
+        absurd (omega (arith, h i (List·Memᴰ·head refl)))
     go false q r = (rw q at (r .0), λ j p. pick j (List·Memᴰ·cases-cons p))
       where
         pick : (j : Instruction) → (j ≡ i) ⊎ List·Memᴰ j is → j .opcode ≢ DEFAULT
@@ -104,8 +161,9 @@ zero-none d (i ∷ is) h e =
 
 module _ (address : ℕ → ℕ) (m : Map) (law : Laws m) (w : ℕ) where
   -- a difference has number 0 exactly where no DEFAULT was read
-  pub zero-when-no-default : walk address m w .kind ≡ Differed → DefaultsFromOne (walk address m w .read)
+  pub zero-when-no-default : walk address m w .kind ≡ Differed
       → (walk address m w .number ≡ 0 → NoDefault (walk address m w .read)) × (NoDefault (walk address m w .read) → walk address m w .number ≡ 0)
-  zero-when-no-default e h =
+  zero-when-no-default e =
       let d = default-holds-until-another address m law w e in
+      let h = reads-from-one address m law w in
       (λ z. zero-none 0 (walk address m w .read) h (sym d ∙ z) .1, λ n. d ∙ none-kept 0 (walk address m w .read) n)

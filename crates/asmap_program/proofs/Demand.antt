@@ -4,9 +4,9 @@
 -- Assumes nothing.
 use Prim.Native.Nat.{ℕ, zero, suc, _+_, _-_, _*_, _≤_, _<_}
 use mathlib.Core.Bool.{Bool, true, false, cond}
-use mathlib.Core.Path.{_≡_, refl, ap, _∙_}
+use mathlib.Core.Path.{_≡_, refl, sym, ap, subst, _∙_}
 use mathlib.Core.List.{List, [], _∷_, _++_, List·Memᴰ, List·Memᴰ·head, List·Memᴰ·tail, List·Memᴰ·cases-cons, List·Memᴰ·eq-of-singleton, Memᴰ·append-left, Memᴰ·cast, Memᴰ·append-right}
-use mathlib.Core.Logic.{_⊎_, inl, inr, _≢_}
+use mathlib.Core.Logic.{_⊎_, inl, inr}
 use native.Mathlib.Omega.{arith}
 use lib.Dec.{ltb, eqb}
 use lib.ListN.{length}
@@ -15,13 +15,13 @@ use Rattle.asmap_program.specs.declared.Instruction.{Instruction}
 use Rattle.asmap_program.specs.declared.Previous.{Previous}
 use Rattle.asmap_program.specs.declared.Previous.the-variants.{Other, Short, Default}
 use Rattle.asmap_program.specs.declared.Verdict.the-variants.{Accepted}
-use Rattle.asmap_program.specs.declared.Kind.the-variants.{Returned, Differed, Aborted}
+use Rattle.asmap_program.specs.declared.Kind.the-variants.{Returned, Differed}
 use Rattle.asmap_program.specs.Map.{RETURN, JUMP, MATCH, DEFAULT, endOf, targetOf, Fetched, Whole, Map, Laws, lengthOf, bitOf}
 use Rattle.asmap_program.specs.Check.{isDefault, check, unpacked, afterMatch}
 use Rattle.asmap_program.specs.Walk.{Walked, Walker, Compared, Equal, Different, compared, enough, meeting, turnWhole, turnOn, push, goOn, walkFrom, walk}
-use Rattle.asmap_program.specs.Demand.{lastDefault, EndsWith, Finishes, Walks}
+use Rattle.asmap_program.specs.Demand.{lastDefault, NoDefault, ZeroSays, Answers, EndsWith, Finishes, Walks}
 use Rattle.asmap_program.proofs.Length.{length-some}
-use Rattle.asmap_program.proofs.Default.{default-holds-until-another}
+use Rattle.asmap_program.proofs.Default.{default-holds-until-another, FromOne, reads-from-one, zero-none}
 use Rattle.asmap_program.specs.Tree.{Tree, return, jump, match, default}
 use Rattle.asmap_program.proofs.Tree.{program, forward}
 
@@ -183,6 +183,18 @@ numbered {r} e h = record { final = e .final; earlier = e .earlier; split = e .s
     go (inl x) = inl x
     go (inr x) = inr (x .0, x .1, h (x .0))
 
+-- a number 0 is no RETURN's, whose operand is 1 at least, and no DEFAULT's
+zero-says : {r : Walked} → Finishes r → FromOne (r .read) → ZeroSays r
+zero-says {r} e h z = go (e .how)
+  where
+    last : List·Memᴰ (e .final) (r .read)
+    last = subst (λ (l : List Instruction). List·Memᴰ (e .final) l) (sym (e .split)) (Memᴰ·append-right (e .earlier) (List·Memᴰ·head refl))
+
+    go : {A X : Type 0} → ((r .kind ≡ Returned) × A × (r .number ≡ e .final .operand)) ⊎ ((r .kind ≡ Differed) × X × (r .number ≡ lastDefault (r .read)))
+        → (r .kind ≡ Differed) × NoDefault (r .read)
+    go (inl x) = let k = x .2 in absurd (omega (arith, h (e .final) last, k, z))
+    go (inr x) = (x .0, zero-none 0 (r .read) h (sym (x .2) ∙ z) .1)
+
 -- Demand 3: each walk of a map that the check accepts over w address bits
 pub demand3 : (m : Map) → Laws m → (w c d : ℕ) → check m w ≡ Accepted c d
     → (address : ℕ → ℕ) → Walks (unpacked m w) w (walk address m w)
@@ -191,17 +203,18 @@ demand3 m law w c d h address =
     let p = program m law w h in
     let a = forward m law (p .tree) in
     let s = sound address m law w (p .tree) (m .bits) 0 0 (omega arith) (omega arith) in
-    record { ends = numbered (s .ends) (default-holds-until-another address m law w); bits = omega arith; count = omega arith; most = omega arith; inside = s .inside }
+    let e = numbered (s .ends) (default-holds-until-another address m law w) in
+    record { ends = e; zero = zero-says e (reads-from-one address m law w); bits = omega arith; count = omega arith; most = omega arith; inside = s .inside }
 
--- a walk that ends so did not abort
-pub ended-not-aborted : {d : ℕ} {r : Walked} → EndsWith d r → r .kind ≢ Aborted
-ended-not-aborted {r} e = go (e .how)
+-- a walk that ends so has an answer
+pub ended-answers : {d : ℕ} {r : Walked} → EndsWith d r → Answers (r .kind)
+ended-answers {r} e = go (e .how)
   where
-    go : {A B C D : Type 0} → ((r .kind ≡ Returned) × A × B) ⊎ ((r .kind ≡ Differed) × C × D) → r .kind ≢ Aborted
-    go (inl x) q = let k = x .0 in let z : _≡_ {A = ℕ} 0 1 = cc in omega arith
-    go (inr x) q = let k = x .0 in let z : _≡_ {A = ℕ} 0 1 = cc in omega arith
+    go : {A B C D : Type 0} → ((r .kind ≡ Returned) × A × B) ⊎ ((r .kind ≡ Differed) × C × D) → Answers (r .kind)
+    go (inl x) = inl (x .0)
+    go (inr x) = inr (x .0)
 
 -- no walk of an accepted map aborts: its number, 0 too, is an answer
 pub accepted-never-aborts : (m : Map) → Laws m → (w c d : ℕ) → check m w ≡ Accepted c d
-    → (address : ℕ → ℕ) → walk address m w .kind ≢ Aborted
-accepted-never-aborts m law w c d h address = ended-not-aborted (demand3 m law w c d h address .ends)
+    → (address : ℕ → ℕ) → Answers (walk address m w .kind)
+accepted-never-aborts m law w c d h address = ended-answers (demand3 m law w c d h address .ends)

@@ -12,7 +12,7 @@ use Rattle.asmap_program.specs.declared.Previous.{Previous}
 use Rattle.asmap_program.specs.declared.Previous.the-variants.{Other, Short, Default}
 use Rattle.asmap_program.specs.declared.Verdict.{Verdict}
 use Rattle.asmap_program.specs.declared.Verdict.the-variants.{Accepted, Refused}
-use Rattle.asmap_program.specs.Map.{RETURN, DEFAULT, endOf, targetOf, Fetched, Whole, CutOpcode, CutOperand, cutReason, Map, lengthOf}
+use Rattle.asmap_program.specs.Map.{RETURN, DEFAULT, endOf, targetOf, Fetched, Whole, CutOpcode, CutOperand, Opcode, Operand, cutReason, Map, lengthOf}
 
 -- Of the opcode before ("previous"), the check asks two things. Was it a DEFAULT?
 abbrev pub isDefault : Previous → Bool
@@ -118,8 +118,8 @@ stepWhole m s i (suc (suc (suc n))) = guard (isDefault (s .before)) 5 (defaultin
 -- stands after a DEFAULT, 5 comes first, since the opcode alone shows it.
 abbrev pub stepOn : Map → State → Fetched → Outcome
 stepOn m s (Whole i) = stepWhole m s i (i .opcode)
-stepOn m s CutOpcode = Refuse (cutReason CutOpcode)
-stepOn m s (CutOperand op) = guard (isDefault (s .before) && (eqb op RETURN || eqb op DEFAULT)) 5 (Refuse (cutReason (CutOperand op)))
+stepOn m s CutOpcode = Refuse (cutReason Opcode)
+stepOn m s (CutOperand op) = guard (isDefault (s .before) && (eqb op RETURN || eqb op DEFAULT)) 5 (Refuse (cutReason Operand))
 
 -- Check, one step: 2 at the map's end, 3 where the place is not before the innermost open target, else by what can be read here.
 unfoldable pub step : Map → State → Outcome

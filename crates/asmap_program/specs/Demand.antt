@@ -7,6 +7,7 @@ use mathlib.Core.List.{List, [], _∷_, _++_, List·Memᴰ}
 use mathlib.Core.Logic.{_⊎_, _≢_}
 use lib.Dec.{eqb}
 use Rattle.asmap_program.specs.declared.Instruction.{Instruction}
+use Rattle.asmap_program.specs.declared.Kind.{Kind}
 use Rattle.asmap_program.specs.declared.Kind.the-variants.{Returned, Differed}
 use Rattle.asmap_program.specs.Map.{RETURN, MATCH, DEFAULT}
 use Rattle.asmap_program.specs.Walk.{Walked, countOf}
@@ -25,9 +26,13 @@ lastDefault is = defaultAfter 0 is
 abbrev pub NoDefault : List Instruction → Type 0
 NoDefault is = (i : Instruction) → List·Memᴰ i is → i .opcode ≢ DEFAULT
 
--- Each DEFAULT among the instructions has an operand from 1 on, the least AS number (document 01, Codes).
-abbrev pub DefaultsFromOne : List Instruction → Type 0
-DefaultsFromOne is = (i : Instruction) → List·Memᴰ i is → i .opcode ≡ DEFAULT → 1 ≤ i .operand
+-- What the number 0 of a walk says where it is no abort: it ended at a MATCH that differs, before it read any DEFAULT.
+abbrev pub ZeroSays : Walked → Type 0
+ZeroSays r = r .number ≡ 0 → (r .kind ≡ Differed) × NoDefault (r .read)
+
+-- The two ends of a walk that have an answer: at a RETURN, or at a MATCH that differs. An abort, of whatever kind, is neither.
+abbrev pub Answers : Kind → Type 0
+Answers k = (k ≡ Returned) ⊎ (k ≡ Differed)
 
 -- The walk ends at the last instruction that it read: a RETURN, whose operand is the number, or a MATCH that differs, and then the number
 -- is d.
@@ -45,6 +50,7 @@ Finishes r = EndsWith (lastDefault (r .read)) r
 -- count of at most twice the bits read and one, which is 2 w + 1 at most, and each instruction that it reads is in the list.
 pub record Walks (is : List Instruction) (w : ℕ) (r : Walked) : Type 0 where
   pub ends : Finishes r
+  pub zero : ZeroSays r
   pub bits : r .bits ≤ w
   pub count : countOf r ≤ 2 * r .bits + 1
   pub most : countOf r ≤ 2 * w + 1

@@ -42,12 +42,15 @@ pub data Fetched : Type 0 where
   CutOpcode : Fetched
   CutOperand : ℕ → Fetched
 
--- Document 01, Codes and Check: the paper's number for a code that the map's end cuts. Both cuts have the same one; this is the only
--- place that says so. A whole instruction is no refusal, 0.
-abbrev pub cutReason : Fetched → ℕ
-cutReason (Whole i) = 0
-cutReason CutOpcode = 4
-cutReason (CutOperand op) = 4
+-- The two codes of an instruction.
+pub data Part : Type 0 where
+  Opcode Operand : Part
+
+-- Document 01, Codes and Check: the paper's number for a code that the map's end cuts, by the part of an instruction that it is. Both
+-- have the same one. This is the only place that says so: the check, an instruction read and a code read alone take it from here.
+abbrev pub cutReason : Part → ℕ
+cutReason Opcode = 4
+cutReason Operand = 4
 
 -- A map. fetch: what can be read at a place. bits: how many bits the map has. padded: whether the bits from a place to the end may
 -- follow the final RETURN, that is, whether they are at most 7 and all zeros (document 01, Check, RETURN).
@@ -57,12 +60,13 @@ pub record Map : Type 0 where
   pub padded : ℕ → Bool
 
 -- All that the laws ask of an instruction read whole at p (document 01, Walk: the bit where it is read is its place; Codes: its opcode is
--- one of four, and the least MATCH operand is 2): it has a bit at least and ends within the map.
+-- one of four, no row begins below 1, and the least MATCH operand is 2): it has a bit at least and ends within the map.
 pub record Stands (m : Map) (p : ℕ) (i : Instruction) : Type 0 where
   pub here : i .place ≡ p
   pub some : 1 ≤ i .size
   pub fits : p + i .size ≤ m .bits
   pub known : i .opcode < 4
+  pub from-one : 1 ≤ i .operand
   pub wide : i .opcode ≡ MATCH → 2 ≤ i .operand
 
 -- A map of which every whole instruction says so. The maps that bytes make have this law.

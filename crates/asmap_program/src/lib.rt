@@ -3,6 +3,7 @@
 ghost use mathlib.Core.Path.{_≡_};
 ghost use Prim.Native.Nat.{_<_};
 ghost use Rattle.asmap_program.specs.Map.{lengthOf, Width};
+ghost use Rattle.asmap_program.specs.Map as opcode;
 
 // A map has at most so many bytes (document 01, "What a call hands back", 1).
 pub const MAX_MAP_BYTES: usize = 16777216;
@@ -18,6 +19,26 @@ pub const JUMP: u32 = 1;
 pub const MATCH: u32 = 2;
 
 pub const DEFAULT: u32 = 3;
+
+// The four opcodes together.
+pub struct Opcodes {
+    pub returns: u32,
+    pub jumps: u32,
+    pub matches: u32,
+    pub defaults: u32,
+}
+
+// The opcodes, which are the defined ones: a wrong number is refused here, though no code below asks for it.
+pub fn opcode_numbers() -> Opcodes
+    ensures { λ r. ⌜ (r .returns ≡ opcode.RETURN) × (r .jumps ≡ opcode.JUMP) × (r .matches ≡ opcode.MATCH) × (r .defaults ≡ opcode.DEFAULT) ⌝ }
+{
+    Opcodes {
+        returns: RETURN,
+        jumps: JUMP,
+        matches: MATCH,
+        defaults: DEFAULT,
+    }
+}
 
 // An instruction that was read whole: opcode and operand, the place of its first bit, and its length in bits (`size`, opcode and
 // operand together).

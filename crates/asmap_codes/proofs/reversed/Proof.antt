@@ -1,9 +1,8 @@
 -- `reversed` meets its contract: the law of the six swaps (reverse-64).
 -- Assumes nothing.
 use borrow.Author.Needs.{needs}
-use mathlib.Core.Path.{_≡_, _∙_, ap}
-use Prim.Native.Nat.{ℕ}
-use Rattle.asmap_codes.specs.Reverse.{swap}
+use mathlib.Core.Path.{_∙_, ap}
+use Rattle.asmap_codes.specs.models.Reverse.{swap}
 use Rattle.asmap_codes.proofs.ReverseLaws.{reverse-64}
 use Rattle.asmap_codes.proofs.reversed.Statement.{statement}
 use Rattle.asmap_codes.proofs.reversed.Tie as tie

@@ -5,7 +5,7 @@ use mathlib.Core.Path.{_≡_, _∙_, ap}
 use Prim.Native.Nat.{ℕ, _-_, _*_, _/_, _%_, _^_}
 use native.Mathlib.Omega.{arith}
 use lib.Pow.{pow-mono}
-use Rattle.asmap_codes.specs.Reverse.{rev}
+use Rattle.asmap_codes.specs.models.Reverse.{rev}
 use Rattle.asmap_codes.proofs.ReverseLaws.{rev-from, rev-lt}
 use Rattle.asmap_codes.proofs.reversed_bits.Statement.{statement}
 use Rattle.asmap_codes.proofs.reversed_bits.Tie as tie

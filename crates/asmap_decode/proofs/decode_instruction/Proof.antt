@@ -8,7 +8,7 @@ use Rattle.asmap_codes.specs.Code.{codeAt}
 use Rattle.asmap_codes.specs.declared.Code.the-variants.{Value}
 use Rattle.asmap_codes.proofs.Inside.{value-at, past-end, long-operand}
 use Rattle.asmap_codes.proofs.MapLaws.{laws, fetch-cut, fetch-operand, instruction-long, instruction-at}
-use Rattle.asmap_decode.proofs.WindowLaws.{row-window, window-holds}
+use Rattle.asmap_row_decoder.proofs.WindowLaws.{row-window, window-holds}
 use borrow.Author.Needs.{needs}
 use Rattle.asmap_decode.proofs.decode_instruction.Statement.{statement}
 use Rattle.asmap_decode.proofs.decode_instruction.Tie as tie

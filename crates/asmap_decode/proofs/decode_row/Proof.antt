@@ -4,8 +4,8 @@ use mathlib.Core.Path.{_≡_, _∙_, sym}
 use native.Mathlib.Omega.{arith}
 use Rattle.asmap_codes.specs.Row.{Row}
 use Rattle.asmap_codes.specs.Code.{codeAt}
-use Rattle.asmap_codes.proofs.Inside.{past-end, read-long, read-at}
-use Rattle.asmap_decode.proofs.WindowLaws.{row-window, window-holds}
+use Rattle.asmap_codes.proofs.Inside.{past-end, read-long, read-at, read-cut}
+use Rattle.asmap_row_decoder.proofs.WindowLaws.{row-window, window-holds}
 use borrow.Author.Needs.{needs}
 use Rattle.asmap_decode.proofs.decode_row.Statement.{statement}
 use Rattle.asmap_decode.proofs.decode_row.Tie as tie
@@ -28,7 +28,7 @@ mul-if2 c = search needs
 returns-2 : tie.Need-returns-2
 returns-2 c =
     let a = c .before .before .before .before .args in
-    sym (read-at (a .map .now) (a .at) (record { least = a .least; sizes = a .sizes .now }) (omega arith) _ (past-end (a .map .now) (a .at) (record { least = a .least; sizes = a .sizes .now }) (c .before .before .before .before .pre .0 .many) (omega arith)))
+    sym (read-cut (a .map .now) (a .at) (record { least = a .least; sizes = a .sizes .now }) (omega arith) (past-end (a .map .now) (a .at) (record { least = a .least; sizes = a .sizes .now }) (c .before .before .before .before .pre .0 .many) (omega arith)))
 
 window-requires : tie.Need-window-requires
 window-requires c κs = search needs
@@ -48,12 +48,12 @@ enum-told c = search needs
 returns-3 : tie.Need-returns-3
 returns-3 c =
     let a = c .before .before .before .before .before .before .before .before .args in
-    sym (read-at (a .map .now) (a .at) (record { least = a .least; sizes = a .sizes .now }) (omega arith) _ (read (c .before .before) ∙ c .enum-told .given .1))
+    sym (read-cut (a .map .now) (a .at) (record { least = a .least; sizes = a .sizes .now }) (omega arith) (read (c .before .before) ∙ c .enum-told .given .1))
 
 returns-4 : tie.Need-returns-4
 returns-4 c =
     let a = c .before .before .before .before .before .before .before .before .before .args in
-    sym (read-at (a .map .now) (a .at) (record { least = a .least; sizes = a .sizes .now }) (omega arith) _ (read (c .before .before .before) ∙ c .before .got .given .1))
+    sym (read-at (a .map .now) (a .at) (record { least = a .least; sizes = a .sizes .now }) (omega arith) _ _ (read (c .before .before .before) ∙ c .before .got .given .1))
 
 pub decode-row-spec : {M : Type 1} → statement M
 decode-row-spec =

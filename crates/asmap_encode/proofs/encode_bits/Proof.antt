@@ -7,9 +7,9 @@ use native.Mathlib.Nat.{one-mul, div-one}
 use native.Mathlib.Omega.{arith}
 use lib.Dec.{lit<}
 use lib.Pow.{pow-pos, pow-mono, shl-exact}
-use Rattle.asmap_codes.specs.Reverse.{rev}
-use Rattle.asmap_encode.specs.Parts.{Short, numberOf}
-use Rattle.asmap_encode.specs.declared.Parts.{Parts}
+use Rattle.asmap_codes.specs.models.Reverse.{rev}
+use Rattle.asmap_encode.specs.models.Words.{Short, numberOf}
+use Rattle.asmap_code_parts.specs.declared.Parts.{Parts}
 use Rattle.asmap_codes.proofs.ReverseLaws.{rev-lt}
 use Rattle.asmap_encode.proofs.WordLaws.{shifted, window-fits, number-lt}
 use Rattle.asmap_encode.proofs.encode_bits.Statement.{statement}

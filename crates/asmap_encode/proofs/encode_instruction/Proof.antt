@@ -1,7 +1,7 @@
 -- `encode_instruction` meets its contract: the operand's code comes after the opcode's.
 -- Assumes nothing.
 use borrow.Author.Needs.{needs}
-use mathlib.Core.Path.{_≡_, _∙_, sym}
+use mathlib.Core.Path.{_∙_, sym}
 use Rattle.asmap_codes.specs.Row.{operandRow}
 use Rattle.asmap_encode.proofs.WordLaws.{coded-short, coded-written}
 use Rattle.asmap_encode.proofs.InstructionLaws.{opcode-fits, operand-after, opcode-refused}

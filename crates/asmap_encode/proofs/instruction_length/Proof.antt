@@ -1,14 +1,14 @@
 -- `instruction_length` meets its contract: the lengths of both codes (length-both), or 0 where either is out of range.
 -- Assumes nothing.
 use borrow.Author.Needs.{needs}
-use mathlib.Core.Path.{_≡_, _∙_, sym, subst}
-use Prim.Native.Nat.{_+_, _≤_}
+use mathlib.Core.Path.{subst}
 use native.Mathlib.Omega.{arith}
 use Rattle.asmap_codes.specs.Row.{typeRow, operandRow}
-use Rattle.asmap_encode.specs.Parts.{Short, InRow, CodedAs}
+use Rattle.asmap_code_parts.specs.models.Parts.{InRow, CodedAs}
+use Rattle.asmap_encode.specs.models.Words.{Short}
 use Rattle.asmap_encode.proofs.WordLaws.{coded-short}
 use Rattle.asmap_encode.proofs.InstructionLaws.{length-both, length-no-opcode, length-no-operand}
-use Rattle.asmap_encode.specs.declared.Coded.the-variants.{In}
+use Rattle.asmap_code_parts.specs.declared.Coded.the-variants.{In}
 use Rattle.asmap_encode.proofs.instruction_length.Statement.{statement}
 use Rattle.asmap_encode.proofs.instruction_length.Tie as tie
 

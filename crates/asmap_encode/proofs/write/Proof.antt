@@ -1,8 +1,8 @@
 -- `write` meets its contract, by what was found.
 -- Assumes nothing.
 use borrow.Author.Needs.{needs}
-use mathlib.Core.Path.{_≡_, _∙_, sym, ap, subst}
-use Rattle.asmap_encode.specs.Parts.{Shortened, writtenAs}
+use mathlib.Core.Path.{_∙_, sym, ap, subst}
+use Rattle.asmap_encode.specs.models.Words.{Shortened, writtenAs}
 use Rattle.asmap_encode.specs.declared.Written.the-variants.{Bits}
 use Rattle.asmap_encode.proofs.write.Statement.{statement}
 use Rattle.asmap_encode.proofs.write.Tie as tie

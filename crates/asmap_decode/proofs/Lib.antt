@@ -1,4 +1,0 @@
-pub mod WindowLaws
-pub mod ByteLaws
-pub mod OperandLaws
-pub mod GrownCode
