@@ -1,4 +1,3 @@
-pub mod PaddingLaws
 pub mod StateLaws
 pub mod ActLaws
 pub mod Standing

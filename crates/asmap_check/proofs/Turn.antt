@@ -12,10 +12,10 @@ use Rattle.asmap_program.specs.declared.Verdict.the-variants.{Accepted, Refused
 use Rattle.asmap_program.specs.Check.{Open, State, afterMatch, Next, step, check}
 use Rattle.asmap_codes.specs.Instruction.{mapOf}
 use Rattle.asmap_check.specs.declared.CheckState.{CheckState}
-use Rattle.asmap_check.specs.State.{opensOf, opens, top, stateOf}
-use Rattle.asmap_check.specs.Act.{acts}
-use Rattle.asmap_check.specs.declared.Act.{Act}
-use Rattle.asmap_check.specs.declared.Act.the-variants.{Opens, Closes, Uses, Keeps, Accepts, Refuses}
+use Rattle.asmap_check.specs.models.State.{opensOf, opens, top, stateOf}
+use Rattle.asmap_check_act.specs.models.Act.{acts}
+use Rattle.asmap_check_act.specs.declared.Act.{Act}
+use Rattle.asmap_check_act.specs.declared.Act.the-variants.{Opens, Closes, Uses, Keeps, Accepts, Refuses}
 use Rattle.asmap_check.proofs.StateLaws.{length-opens, opens-push, opens-pop}
 use Rattle.asmap_check.proofs.ActLaws.{here, closed, applied, act-is, end-is, Sure, sure}
 use Rattle.asmap_check.proofs.Standing.{Standing, standing-on, standing-done, standing-refused, onward, standing-room}

@@ -1,4 +1,3 @@
-pub mod State
-pub mod Act
 pub mod Check
 pub mod Examples
+pub mod models

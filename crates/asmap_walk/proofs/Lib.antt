@@ -1,3 +1,2 @@
-pub mod AddressLaws
 pub mod Walking
 pub mod Promised

@@ -1,17 +1,16 @@
 -- Demand 3 and Core's number for a map's bytes, over the width; and both for the definition that `interpret` equals. Rests on
 -- asmap_program's `demand3` and asmap_codes' `number-of-bytes`.
 -- Assumes nothing.
-use Prim.Native.Nat.{ℕ, _+_, _*_, _≤_, _<_}
+use Prim.Native.Nat.{ℕ, _≤_, _<_}
 use mathlib.Core.Path.{_≡_, refl, sym, ap, subst, _∙_}
 use mathlib.Core.Logic.{_≢_}
 use mathlib.Core.List.{List}
-use native.Mathlib.Omega.{arith}
 use borrow.Author.Tests.{eq-eqb, ne-eqb, lt-ltb, le-ltb}
 use lib.ListN.{length}
 use Rattle.asmap_program.specs.declared.Verdict.the-variants.{Accepted}
 use Rattle.asmap_program.specs.Map.{addressBit}
 use Rattle.asmap_program.specs.Core.{Number, coreInterpret}
-use Rattle.asmap_program.proofs.Demand.{demand3, ended-not-aborted}
+use Rattle.asmap_program.proofs.Demand.{demand3, ended-answers}
 use Rattle.asmap_codes.specs.Core.{fileOf}
 use Rattle.asmap_codes.specs.Instruction.{mapOf}
 use Rattle.asmap_codes.proofs.CoreLaws.{number-of-bytes}
@@ -32,7 +31,7 @@ module _ (m a : List ℕ) (w c d : ℕ) (accepted : checkOf m w ≡ Accepted c d
   unfolding walkOf
   kept =
       let k = demand3 (mapOf m) (laws m) w c d (accepted-within m w c d accepted .1) (addressBit a) in
-      record { exact = refl; ended = ended-not-aborted (k .ends); bounded = k .count; most = k .most; listed = k .inside; walks = k }
+      record { exact = refl; ended = ended-answers (k .ends); zero = k .zero; bounded = k .count; most = k .most; listed = k .inside; walks = k }
 
   pub core-number : coreInterpret (addressBit a) w (fileOf m) ≡ Number (walkOf m a w .number)
   unfolding walkOf

@@ -2,16 +2,15 @@
 -- Assumes nothing.
 use Prim.Native.Nat.{ℕ, _+_, _*_, _≤_}
 use mathlib.Core.Path.{_≡_}
-use mathlib.Core.Logic.{_≢_}
 use mathlib.Core.List.{List, List·Memᴰ}
 use lib.ListN.{length}
 use Rattle.asmap_program.specs.declared.Instruction.{Instruction}
-use Rattle.asmap_program.specs.declared.Kind.the-variants.{Aborted}
+use Rattle.asmap_program.specs.declared.Kind.the-variants.{Differed}
 use Rattle.asmap_program.specs.declared.Verdict.the-variants.{Accepted}
 use Rattle.asmap_program.specs.Map.{addressBit}
 use Rattle.asmap_program.specs.Check.{unpacked}
 use Rattle.asmap_program.specs.Core.{Number, coreInterpret}
-use Rattle.asmap_program.specs.Demand.{Walks}
+use Rattle.asmap_program.specs.Demand.{NoDefault, Answers, Walks}
 use Rattle.asmap_codes.specs.Core.{fileOf}
 use Rattle.asmap_codes.specs.Instruction.{mapOf}
 use Rattle.asmap_check.specs.Check.{checkOf}
@@ -25,11 +24,13 @@ abbrev pub Listed : List Instruction → ℕ → ℕ → ℕ → ℕ → Type 0
 Listed is opcode operand place size = List·Memᴰ (record { opcode = opcode; operand = operand; place = place; size = size }) is
 
 -- Demand 3 of an ending e, for the map m, the address a and w address bits. Kind, number, count and bits are those of the defined
--- walk, and no abort. The count is at most one more than twice the bits read, so at most 2 w + 1. Each instruction that the defined
--- walk reads is listed by unpack, the same in all four. The defined walk ends at a RETURN or at a MATCH that differs (`Walks`).
+-- walk, which ended at a RETURN or at a MATCH that differs. Its number is 0 only where it differed before any DEFAULT was read. The
+-- count is at most one more than twice the bits read, so at most 2 w + 1. Each instruction that the defined walk reads is listed by
+-- unpack, the same in all four. `walks` says how the list that was read ends.
 pub record Kept (m a : List ℕ) (w : ℕ) (e : Ending) : Type 0 where
   pub exact : e ≡ summary (walkOf m a w)
-  pub ended : e .kind ≢ Aborted
+  pub ended : Answers (e .kind)
+  pub zero : e .number ≡ 0 → (e .kind ≡ Differed) × NoDefault (walkOf m a w .read)
   pub bounded : e .count ≤ 2 * e .bits + 1
   pub most : e .count ≤ 2 * w + 1
   pub listed : (i : Instruction) → List·Memᴰ i (walkOf m a w .read) → Listed (unpacked (mapOf m) w) (i .opcode) (i .operand) (i .place) (i .size)

@@ -7,9 +7,9 @@ use Prim.Native.Nat.{ℕ, _+_, _-_, _*_, _<_, max}
 use lib.ListN.{length, set}
 use Rattle.asmap_program.specs.declared.Previous.the-variants.{Other}
 use Rattle.asmap_check.specs.declared.CheckState.{CheckState}
-use Rattle.asmap_check.specs.declared.Act.the-variants.{Opens, Closes, Uses}
-use Rattle.asmap_check.specs.State.{stateOf}
-use Rattle.asmap_check.specs.Act.{acts}
+use Rattle.asmap_check_act.specs.declared.Act.the-variants.{Opens, Closes, Uses}
+use Rattle.asmap_check.specs.models.State.{stateOf}
+use Rattle.asmap_check_act.specs.models.Act.{acts}
 use Rattle.asmap_check.proofs.Standing.{Standing, standing-start, count-few, standing-room, checked, checked-long}
 use Rattle.asmap_check.proofs.StateLaws.{length-opens}
 use Rattle.asmap_check.proofs.Turn.{Turn, Turned, turn-end, less, certain, room-opens, turn-opens, turn-closes, turn-uses, turn-keeps, turn-accepts, turn-refuses}

@@ -4,14 +4,13 @@ use borrow.Author.Needs.{needs}
 use native.Mathlib.Omega.{arith}
 use mathlib.Core.Bool.{true, false}
 use mathlib.Core.Path.{_≡_, _∙_, sym}
-use Prim.Native.Nat.{ℕ, _+_, _-_, _^_}
+use Prim.Native.Nat.{_+_, _-_, _^_}
 use lib.Dec.{lit<, lit≤}
-use Rattle.asmap_program.specs.Map.{bitOf, addressBit}
 use borrow.Author.Tests.{eq-eqb, ne-eqb}
 use Rattle.asmap_codes.specs.Row.{typeRow, operandRow}
 use Rattle.asmap_codes.specs.Code.{codeAt}
 use Rattle.asmap_codes.proofs.Inside.{long-operand}
-use Rattle.asmap_decode.proofs.WindowLaws.{row-window, window-holds}
+use Rattle.asmap_row_decoder.proofs.WindowLaws.{row-window, window-holds}
 use Rattle.asmap_walk.proofs.Walking.{Walking, Taken, Comparing, walking-start, opcode-read, cut-opcode, cut-operand, read, returns-ends, jump-ends, jump-onward, jump-goes, jump-past, match-some, match-most, match-ends, match-differs, match-goes, default-goes, comparing-start, bit-left, equal-goes, different-ends, all-equal, comparing-from, front-goes}
 use Rattle.asmap_walk.proofs.walk_bits.Statement.{statement}
 use Rattle.asmap_walk.proofs.walk_bits.Tie as tie

@@ -1,0 +1,29 @@
+-- The check's state as code holds it, two arrays and a depth, and the definition's state that it stands for.
+-- Assumes nothing.
+use Prim.Native.Nat.{ℕ, zero, suc, _-_}
+use mathlib.Core.Path.{_≡_}
+use mathlib.Core.List.{List, [], _∷_}
+use lib.ListN.{length, getD}
+use Rattle.asmap_program.specs.declared.Previous.{Previous}
+use Rattle.asmap_program.specs.Check.{Open, State}
+use Rattle.asmap_check.specs.declared.CheckState.{CheckState}
+
+-- both arrays have 128 places, as their types say
+abbrev pub Arrays : CheckState → Type 0
+Arrays s = (length (s .targets) ≡ 128) × (length (s .saved) ≡ 128)
+
+-- the open jumps, innermost first: both arrays below the depth
+abbrev pub opensOf : List ℕ → List ℕ → ℕ → List Open
+opensOf ts ss zero = []
+opensOf ts ss (suc d) = record { target = getD ts d 0; saved = getD ss d 0 } ∷ opensOf ts ss d
+
+abbrev pub opens : CheckState → List Open
+opens s = opensOf (s .targets) (s .saved) (s .depth)
+
+-- the innermost target, where a jump is open
+abbrev pub top : List ℕ → ℕ → ℕ
+top ts d = getD ts (d - 1) 0
+
+-- the definition's state that the loop's locals stand for
+abbrev pub stateOf : CheckState → ℕ → Previous → ℕ → ℕ → State
+stateOf s at before count deepest = record { at = at; left = s .bits; before = before; opens = opens s; count = count; deepest = deepest }
