@@ -1,4 +1,2 @@
-pub mod WindowLaws
-pub mod WrittenLaws
 pub mod SizeLaws
 pub mod WriteLaws

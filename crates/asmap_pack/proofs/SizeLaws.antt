@@ -9,14 +9,16 @@ use lib.ListN.{length, getD, drop, length-append}
 use lib.Seq.{drop-drop, getD-drop}
 use Rattle.asmap_codes.specs.Row.{typeRow, operandRow, inRange}
 use Rattle.asmap_codes.specs.Encode.{instructionBits}
-use Rattle.asmap_records.specs.Record.{number4, zeros3}
+use Rattle.byte_numbers.specs.Numbers.{number4}
+use Rattle.asmap_records.specs.Record.{zeros3}
 use Rattle.asmap_records.specs.Output.{Result, Made, No, on}
 use Rattle.asmap_records.specs.Pack.{fieldBits, recordBits, recordsBits}
-use Rattle.asmap_records.proofs.RecordLaws.{number4-drop, first-zeros, first-wrong}
+use Rattle.byte_numbers.proofs.NumberLaws.{number4-drop}
+use Rattle.asmap_records.proofs.RecordLaws.{first-zeros, first-wrong}
 use Rattle.asmap_records.proofs.PackLaws.{field-range, field-wrong, field-long, field-made, wrong-zeros, wrong-place, wrong-size, all-right, record-at, record-right}
-use Rattle.asmap_pack.specs.Stream.{sizeFrom}
+use Rattle.asmap_pack.specs.models.Size.{sizeFrom}
 use Rattle.asmap_pack.specs.declared.Size.the-variants.{Ends, Wrong}
-use Rattle.asmap_pack.proofs.WrittenLaws.{Measured}
+use Rattle.asmap_bit_writer.proofs.WrittenLaws.{Measured}
 
 -- what was made where an end came out
 pub ends-made : (at e : ℕ) (r : Result) → sizeFrom at r ≡ Ends e → (bs : List ℕ) × (r ≡ Made bs) × (e ≡ at + length bs)

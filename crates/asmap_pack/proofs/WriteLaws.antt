@@ -1,37 +1,36 @@
 -- Laws of pack's second loop: what the output will hold in the end stays the same, record by record. Assumes nothing.
 use mathlib.Core.Path.{_≡_, _∙_, refl, sym, ap, subst}
-use mathlib.Core.Bool.{true, false, _&&_}
+use mathlib.Core.Bool.{true, _&&_}
 use mathlib.Core.List.{List, [], _++_}
-use Prim.Native.Nat.{ℕ, suc, _+_, _-_, _*_, _/_, _%_, _^_, _≤_, _<_}
+use Prim.Native.Nat.{ℕ, suc, _+_, _-_, _*_, _/_, _%_, _≤_, _<_}
 use native.Mathlib.Omega.{arith}
 use lib.Dec.{lit<}
 use lib.ListN.{length, getD, drop, length-append}
 use lib.Seq.{drop-drop, sets}
 use Rattle.asmap_codes.specs.Row.{typeRow, operandRow, inRange}
 use Rattle.asmap_codes.specs.Encode.{instructionBits}
-use Rattle.asmap_encode.specs.declared.Word.{Word}
-use Rattle.asmap_records.specs.Record.{number4, zeros3}
-use Rattle.asmap_records.specs.Bytes.{bytesOf}
+use Rattle.byte_numbers.specs.Numbers.{number4}
+use Rattle.asmap_records.specs.Record.{zeros3}
+use Rattle.asmap_bit_writer.specs.Bytes.{bytesOf}
 use Rattle.asmap_records.specs.Output.{Result, Made}
 use Rattle.asmap_records.specs.Pack.{recordsBits}
 use Rattle.asmap_records.proofs.OutputLaws.{made-same}
 use Rattle.asmap_records.proofs.PackLaws.{field-right, record-at, records-split}
-use Rattle.asmap_pack.specs.Stream.{bitsIn, stream, Moved}
-use Rattle.asmap_pack.specs.declared.Window.{Window}
+use Rattle.asmap_pack.specs.models.Size.{bitsIn}
+use Rattle.asmap_bit_writer.specs.models.Stream.{Ready, stream, Moved}
+use Rattle.asmap_bit_writer.specs.declared.BitWriter.{BitWriter}
 use Rattle.asmap_pack.proofs.SizeLaws.{rest-suc}
-use Rattle.asmap_pack.proofs.WrittenLaws.{Holding}
 
 -- where the loop stands: the bits still to come, which fit, and what the output will hold
-pub record Writing (rs out₀ out : List ℕ) (from : ℕ) (w : Window) : Type 0 where
+pub record Writing (rs out₀ out : List ℕ) (from : ℕ) (w : BitWriter) : Type 0 where
   pub rest : List ℕ
   pub made : recordsBits ((length rs - from) / 16) (drop from rs) (8 * w .place + w .held) ≡ Made rest
   pub fits : 8 * w .place + w .held + length rest ≤ 8 * length out
-  pub small : w .bits < 2 ^ w .held
-  pub short : w .held < 64
+  pub ready : Ready w
   pub kept : length out ≡ length out₀
   pub onward : sets out₀ 0 (bytesOf (bitsIn (recordsBits (length rs / 16) rs 0))) ≡ stream out w rest
 
-pub writing-start : (rs out bs : List ℕ) (w : Window) → w ≡ record { bits = 0; held = 0; place = 0 }
+pub writing-start : (rs out bs : List ℕ) (w : BitWriter) → w ≡ record { bits = 0; held = 0; place = 0 }
     → recordsBits (length rs / 16) rs 0 ≡ Made bs → length bs ≤ 8 * length out → Writing rs out out 0 w
 unfolding stream
 writing-start rs out bs w z e h =
@@ -40,21 +39,20 @@ writing-start rs out bs w z e h =
       rest = bs;
       made = rw k e;
       fits = omega arith;
-      small = lit< tt;
-      short = lit< tt;
+      ready = record { small = lit< tt; short = lit< tt };
       kept = refl;
       onward = ap (λ (r : Result). sets out 0 (bytesOf (bitsIn r))) e;
     }
 
 -- the record at `from`, in a turn
-pub record Turn (rs out₀ out : List ℕ) (from : ℕ) (w : Window) (op v : ℕ) : Type 0 where
+pub record Turn (rs out₀ out : List ℕ) (from : ℕ) (w : BitWriter) (op v : ℕ) : Type 0 where
   pub more : List ℕ
   pub ranged : (inRange typeRow op && inRange (operandRow op) v) ≡ true
   pub after : recordsBits ((length rs - (from + 16)) / 16) (drop (from + 16) rs) (8 * w .place + w .held + length (instructionBits op v)) ≡ Made more
   pub fits : 8 * w .place + w .held + length (instructionBits op v) + length more ≤ 8 * length out
   pub onward : sets out₀ 0 (bytesOf (bitsIn (recordsBits (length rs / 16) rs 0))) ≡ stream out w (instructionBits op v ++ more)
 
-pub writing-turn : (rs out₀ out : List ℕ) (from : ℕ) (w : Window) → length rs % 16 ≡ 0 → from % 16 ≡ 0 → from < length rs
+pub writing-turn : (rs out₀ out : List ℕ) (from : ℕ) (w : BitWriter) → length rs % 16 ≡ 0 → from % 16 ≡ 0 → from < length rs
     → Writing rs out₀ out from w → Turn rs out₀ out from w (getD rs from 0) (number4 rs (from + 4))
 writing-turn rs out₀ out from w h g l t =
     let at = 8 * w .place + w .held in
@@ -75,40 +73,22 @@ writing-turn rs out₀ out from w h g l t =
       onward = t .onward ∙ ap (stream out w) b;
     }
 
-module _ (rs out₀ out : List ℕ) (from : ℕ) (w : Window) (op v : ℕ) (t : Turn rs out₀ out from w op v) where
-  -- the record's word has room
-  pub writing-room : (u : Word) → Holding op v u → 8 * w .place + w .held + u .len ≤ 8 * length out
-  writing-room u h = omega (arith, h .len, t .fits)
-
-  -- and when it was pushed, the rest is still to come
-  pub writing-on : (u : Word) → Holding op v u → (out′ : List ℕ) (w′ : Window) → Moved out w u out′ w′ → length out ≡ length out₀ → Writing rs out₀ out′ (from + 16) w′
-  writing-on u h out′ w′ x k =
-      let p : 8 * w′ .place + w′ .held ≡ 8 * w .place + w .held + length (instructionBits op v) = x .placed ∙ ap (λ (y : ℕ). 8 * w .place + w .held + y) (h .len) in
-      record {
-        rest = t .more;
-        made = rw p (t .after);
-        fits = rw (p, x .kept) (t .fits);
-        small = x .small;
-        short = x .short;
-        kept = x .kept ∙ k;
-        onward = t .onward ∙ ap (λ (l : List ℕ). stream out w (l ++ t .more)) (sym (h .bits)) ∙ x .streams (t .more);
-      }
-
-  -- it is in range
-  pub writing-never : (inRange typeRow op && inRange (operandRow op) v) ≡ false → ⊥
-  writing-never e = differ (sym (t .ranged) ∙ e)
-    where
-      differ : true ≡ false → ⊥
-      differ z = let y : _≡_ {A = ℕ} 0 1 = cc in omega arith
+-- when the record's instruction was pushed, the rest is still to come
+pub writing-on : (rs out₀ out : List ℕ) (from : ℕ) (w : BitWriter) (op v : ℕ) → Turn rs out₀ out from w op v
+    → (out′ : List ℕ) (w′ : BitWriter) → Moved out w (instructionBits op v) out′ w′ → length out ≡ length out₀ → Writing rs out₀ out′ (from + 16) w′
+writing-on rs out₀ out from w op v t out′ w′ x k = record {
+  rest = t .more;
+  made = rw (x .placed) (t .after);
+  fits = rw (x .placed, x .kept) (t .fits);
+  ready = x .ready;
+  kept = x .kept ∙ k;
+  onward = t .onward ∙ x .streams (t .more);
+}
 
 -- all records are read
-module _ (rs out₀ out : List ℕ) (from : ℕ) (w : Window) (t : Writing rs out₀ out from w) (h : length rs ≤ from) where
+module _ (rs out₀ out : List ℕ) (from : ℕ) (w : BitWriter) (t : Writing rs out₀ out from w) (h : length rs ≤ from) where
   nothing-left : t .rest ≡ []
   nothing-left = let z : (length rs - from) / 16 ≡ 0 = omega arith in made-same (rw z at (t .made))
 
   pub stream-over : sets out₀ 0 (bytesOf (bitsIn (recordsBits (length rs / 16) rs 0))) ≡ stream out w []
   stream-over = t .onward ∙ ap (stream out w) nothing-left
-
-  -- what is left fits
-  pub room-over : 8 * w .place + w .held ≤ 8 * length out
-  room-over = omega (arith, t .fits)

@@ -1,16 +1,14 @@
 // Pack (document 01, Unpack and pack): the bits of records as a map's bytes in a lent output. It runs no check.
 ghost use mathlib.Core.Path.{_≡_};
 ghost use mathlib.Core.List.{List};
-ghost use Prim.Native.Nat.{ℕ, _+_, _*_, _/_, _%_, _^_, _≤_, _<_};
+ghost use Prim.Native.Nat.{ℕ, _+_, _*_, _/_, _%_, _≤_};
 ghost use lib.ListN.{length, drop};
 ghost use lib.Seq.{sets};
-ghost use Rattle.asmap_records.specs.Bytes.{bytesOf};
-ghost use Rattle.asmap_records.specs.Record.{number4};
+ghost use Rattle.asmap_bit_writer.specs.Bytes.{bytesOf};
 ghost use Rattle.asmap_records.specs.Output.{Made, Hands};
 ghost use Rattle.asmap_records.specs.Pack.{recordBits, recordsBits, packOf};
-ghost use Rattle.asmap_pack.specs.Stream.{sizeFrom, bitsIn, putBytes, Moved};
-use asmap_encode::Word;
-use asmap_encode::Written;
+ghost use Rattle.asmap_pack.specs.models.Size.{sizeFrom, bitsIn};
+use asmap_bit_writer::BitWriter;
 use asmap_program::MAX_MAP_BYTES;
 use asmap_records::Answer;
 
@@ -20,28 +18,6 @@ pub enum Size {
     Wrong(u8),
 }
 
-// The bits that are not yet written, fewer than 64, the first lowest, and the place of their first byte.
-pub struct Window {
-    pub bits: u64,
-    pub held: usize,
-    pub place: usize,
-}
-
-// The number that four bytes are, little-endian.
-fn number_of(a: u8, b: u8, c: u8, d: u8) -> u32
-    ensures { λ r. ⌜ r ≡ a + 256 * b + 65536 * c + 16777216 * d ⌝ }
-{
-    a as u32 + 256 * b as u32 + 65536 * c as u32 + 16777216 * d as u32
-}
-
-// The number in the four bytes from a place on.
-fn number(bytes: &[u8], at: usize) -> u32
-    requires { ⌜ at + 4 ≤ length (now bytes) ⌝ }
-    ensures { λ r. ⌜ r ≡ number4 (now (bytes .entry)) at ⌝ }
-{
-    number_of(bytes[at], bytes[at + 1], bytes[at + 2], bytes[at + 3])
-}
-
 // The record at byte `from`, whose instruction is to start at bit `at`: where it ends, or 15, 16, 1, in this order. The three
 // zeros are there where the record's first four bytes are the opcode's number.
 fn record_end(records: &[u8], from: usize, at: usize) -> Size
@@ -49,19 +25,19 @@ fn record_end(records: &[u8], from: usize, at: usize) -> Size
     ensures { λ r. ⌜ r ≡ sizeFrom at (recordBits (drop from (now (records .entry))) at) ⌝ }
 {
     let opcode = records[from] as u32;
-    let operand = number(records, from + 4);
+    let operand = byte_numbers::number_at(records, from + 4);
     let len = asmap_encode::instruction_length(opcode, operand);
     if len == 0 {
         return Size::Wrong(15);
     }
     let end = at + len;
-    if number(records, from) != opcode {
+    if byte_numbers::number_at(records, from) != opcode {
         return Size::Wrong(16);
     }
-    if number(records, from + 8) as usize != at {
+    if byte_numbers::number_at(records, from + 8) as usize != at {
         return Size::Wrong(16);
     }
-    if number(records, from + 12) as usize != len {
+    if byte_numbers::number_at(records, from + 12) as usize != len {
         return Size::Wrong(16);
     }
     if 8 * MAX_MAP_BYTES < end {
@@ -91,52 +67,13 @@ fn records_end(records: &[u8]) -> Size
     Size::Ends(at)
 }
 
-// So many bytes of a number go out from a place on, the lowest first.
-fn put_bytes(out: &mut [u8], from: usize, number: u64, count: usize)
-    requires { ⌜ from + count ≤ length (now out) ⌝ }
-    ensures { λ r. ⌜ now (out .exit) ≡ putBytes count (now (out .entry)) from number ⌝ }
-{
-    let mut place = from;
-    let mut bits = number;
-    let mut left = count;
-    while 0 < left {
-        out[place] = (bits % 256) as u8;
-        bits /= 256;
-        place += 1;
-        left -= 1;
-    }
-}
-
-// A word's bits put above the window's. Where they fill the window, its eight bytes go out, and the bits that it had no room
-// for are the next window's.
-fn push_word(out: &mut [u8], window: Window, word: Word) -> Window
-    requires { ⌜ (window .bits < 2 ^ window .held) × (window .held < 64) × (word .bits < 2 ^ word .len) × (word .len ≤ 57)
-        × (8 * window .place + window .held + word .len ≤ 8 * length (now out)) ⌝ }
-    ensures { λ r. ⌜ Moved (now (out .entry)) window word (now (out .exit)) r ⌝ }
-{
-    let start = window.held;
-    let place = window.place;
-    let bits = window.bits + (word.bits << start);
-    let held = start + word.len;
-    if held < 64 {
-        return Window { bits, held, place };
-    }
-    put_bytes(out, place, bits, 8);
-    let above = word.bits >> (64 - start);
-    Window {
-        bits: above,
-        held: held - 64,
-        place: place + 8,
-    }
-}
-
 // The records' bits as bytes, the last padded with zeros. The records were found right and the output long enough.
 fn write_records(records: &[u8], out: &mut [u8])
     requires { ⌜ (length (now records) % 16 ≡ 0)
         × ((bs : List ℕ) × (recordsBits (length (now records) / 16) (now records) 0 ≡ Made bs) × (length bs ≤ 8 * length (now out))) ⌝ }
     ensures { λ r. ⌜ now (out .exit) ≡ sets (now (out .entry)) 0 (bytesOf (bitsIn (recordsBits (length (now (records .entry)) / 16) (now (records .entry)) 0))) ⌝ }
 {
-    let mut window = Window {
+    let mut writer = BitWriter {
         bits: 0,
         held: 0,
         place: 0,
@@ -144,24 +81,11 @@ fn write_records(records: &[u8], out: &mut [u8])
     let mut from: usize = 0;
     while from < records.len() {
         let opcode = records[from] as u32;
-        let operand = number(records, from + 4);
-        let written = asmap_encode::encode_instruction(opcode, operand);
-        let Written::Bits(word) = written else {
-            return;
-        };
-        window = push_word(out, window, word);
+        let operand = byte_numbers::number_at(records, from + 4);
+        writer = asmap_bit_writer::push_instruction(out, writer, opcode, operand);
         from += 16;
     }
-    let held = window.held;
-    let free = 8 - held % 8;
-    let zeros: u64 = 0;
-    let padding = Word {
-        bits: zeros,
-        len: free % 8,
-    };
-    let padded = push_word(out, window, padding);
-    let whole = padded.held / 8;
-    put_bytes(out, padded.place, padded.bits, whole);
+    asmap_bit_writer::finish(out, writer);
 }
 
 // Packs records. Refusals 16, 15, 1 and 14; a refused call writes nothing: all records are read before the first byte goes out.

@@ -7,6 +7,7 @@ use lib.Dec.{ltb}
 use lib.ListN.{length, getD}
 use denote.Ref.{now}
 use Rattle.asmap_program.specs.Map.{limit}
+use Rattle.asmap_program.specs.Map as part
 use Rattle.asmap_codes.specs.Bits.{mapBits}
 use Rattle.asmap_codes.specs.Row.{typeRow, asnRow, matchRow, jumpRow}
 use Rattle.asmap_codes.specs.Code.{pick, answered, readCode}
@@ -24,9 +25,9 @@ use Rattle.asmap_reader.specs.declared.Step.{Step}
 abbrev pub bitAt : List ℕ → ℕ → Code
 bitAt m at = pick (ltb at (8 * length m)) (Value (getD (mapBits m) at 0) (at + 1)) Cut
 
--- Reading one bit, with the refusals of reading a code: 1 for a map over the limit, then 4.
+-- Reading one bit, with the refusals of reading an opcode: 1 for a map over the limit, then 4.
 abbrev pub readBit : List ℕ → ℕ → Decoded
-readBit m at = answered (ltb limit (length m)) (bitAt m at)
+readBit m at = answered part.Opcode (ltb limit (length m)) (bitAt m at)
 
 -- Reading what a reader is asked for: a bit, or a code of the row.
 abbrev pub readItem : List ℕ → ℕ → Item → Decoded

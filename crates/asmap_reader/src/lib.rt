@@ -47,7 +47,7 @@ pub fn decode_bit(map: &[u8], at: usize) -> Decoded
     if 8 * bytes <= at {
         return Decoded::Refused(4);
     }
-    let bit = asmap_decode::bit_at(map, at);
+    let bit = asmap_window::bit_at(map, at);
     let next = at + 1;
     Decoded::Found(bit, next)
 }

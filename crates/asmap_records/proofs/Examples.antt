@@ -7,7 +7,7 @@ use Rattle.asmap_program.specs.Map.{lengthIn, lengthOf}
 use Rattle.asmap_codes.specs.Encode.{instructionBits}
 use Rattle.asmap_codes.specs.Instruction.{fetchAt, paddedFrom, mapOf}
 use Rattle.asmap_records.specs.Record.{recordOf}
-use Rattle.asmap_records.specs.Bytes.{bytesOf}
+use Rattle.asmap_bit_writer.specs.Bytes.{bytesOf}
 use Rattle.asmap_records.specs.Output.{Result, Made, No, refuse}
 use Rattle.asmap_records.specs.Pack.{fieldBits, recordBits, packBits, packOf}
 use Rattle.asmap_records.specs.Unpack.{unpackOf}

@@ -1,8 +1,6 @@
-pub mod ByteLaws
 pub mod RecordLaws
 pub mod OutputLaws
 pub mod PackLaws
-pub mod InstructionBits
 pub mod Listing
 pub mod UnpackLaws
 pub mod Reading

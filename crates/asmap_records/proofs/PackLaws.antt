@@ -11,11 +11,13 @@ use lib.ListN.{length, getD, drop, length-append}
 use lib.Seq.{getD-drop}
 use Rattle.asmap_codes.specs.Row.{typeRow, operandRow, inRange}
 use Rattle.asmap_codes.specs.Encode.{instructionBits}
-use Rattle.asmap_records.specs.Bytes.{bytesOf}
-use Rattle.asmap_records.specs.Record.{number4, zeros3}
+use Rattle.asmap_bit_writer.specs.Bytes.{bytesOf}
+use Rattle.byte_numbers.specs.Numbers.{number4}
+use Rattle.byte_numbers.proofs.NumberLaws.{number4-drop}
+use Rattle.asmap_records.specs.Record.{zeros3}
 use Rattle.asmap_records.specs.Output.{Result, Made, No, refuse, on}
 use Rattle.asmap_records.specs.Pack.{fieldBits, recordBits, recordsBits, packBits, packOf}
-use Rattle.asmap_records.proofs.RecordLaws.{and-both, number4-drop}
+use Rattle.asmap_records.proofs.RecordLaws.{and-both}
 use Rattle.asmap_records.proofs.OutputLaws.{passed, made-same}
 
 -- ---- one record, over its fields

@@ -9,6 +9,8 @@ use borrow.Author.Tests.{leb-true, eqb-true, not-false}
 use lib.Dec.{leb}
 use lib.ListN.{length, getD, take, drop, replicate, length-append, length-drop, length-replicate, take-append-drop}
 use lib.Seq.{drop-at, drop-drop, take-add, length-take-le}
+use Rattle.byte_numbers.specs.Numbers.{bytes4, number4}
+use Rattle.byte_numbers.proofs.NumberLaws.{AllBytes, bytes-drop, small-bytes, number-of-bytes, four}
 use Rattle.asmap_program.specs.declared.Instruction.{Instruction}
 use Rattle.asmap_program.specs.declared.Verdict.the-variants.{Accepted}
 use Rattle.asmap_program.specs.Map.{endOf}
@@ -19,16 +21,16 @@ use Rattle.asmap_codes.specs.Encode.{instructionBits}
 use Rattle.asmap_codes.specs.Instruction.{paddedFrom, mapOf}
 use Rattle.asmap_codes.proofs.BitLaws.{AllBits, bits-map, bits-take, bits-drop, length-mapBits, length-left}
 use Rattle.asmap_check.specs.Check.{checkOf}
-use Rattle.asmap_records.specs.Record.{bytes4, number4, recordOf, recordsOf}
-use Rattle.asmap_records.specs.Bytes.{toBytes, bytesOf}
+use Rattle.asmap_records.specs.Record.{recordOf, recordsOf}
+use Rattle.asmap_bit_writer.specs.Bytes.{toBytes, bytesOf}
 use Rattle.asmap_records.specs.Output.{Result, Made, No, on}
 use Rattle.asmap_records.specs.Pack.{fieldBits, recordBits, recordsBits, packBits, packOf}
 use Rattle.asmap_records.specs.Unpack.{unpackOf}
-use Rattle.asmap_records.proofs.ByteLaws.{word-lt, word-low, map-toBytes, length-toBytes}
-use Rattle.asmap_records.proofs.RecordLaws.{AllBytes, bytes-drop, and-both, length-records, small-bytes, number-of-bytes, four, zeros-first}
+use Rattle.asmap_bit_writer.proofs.ByteLaws.{word-lt, word-low, map-toBytes, length-toBytes}
+use Rattle.asmap_records.proofs.RecordLaws.{and-both, length-records, zeros-first}
 use Rattle.asmap_records.proofs.OutputLaws.{passed, made-same}
 use Rattle.asmap_records.proofs.PackLaws.{all-right, field-made, record-right, Split, records-split, pack-whole}
-use Rattle.asmap_records.proofs.InstructionBits.{bits-append, bits-instruction}
+use Rattle.asmap_bit_writer.proofs.InstructionBits.{bits-append, bits-instruction}
 use Rattle.asmap_records.proofs.Listing.{Listing, none, then, Stop, one-listing, accepted-lists}
 use Rattle.asmap_check.proofs.Standing.{accepted-within}
 use Rattle.asmap_records.proofs.UnpackLaws.{unpack-as}

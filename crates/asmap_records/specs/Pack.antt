@@ -7,8 +7,9 @@ use lib.ListN.{length, getD, drop}
 use Rattle.asmap_program.specs.Map.{limit}
 use Rattle.asmap_codes.specs.Row.{typeRow, operandRow, inRange}
 use Rattle.asmap_codes.specs.Encode.{instructionBits}
-use Rattle.asmap_records.specs.Bytes.{bytesOf}
-use Rattle.asmap_records.specs.Record.{number4, zeros3}
+use Rattle.asmap_bit_writer.specs.Bytes.{bytesOf}
+use Rattle.byte_numbers.specs.Numbers.{number4}
+use Rattle.asmap_records.specs.Record.{zeros3}
 use Rattle.asmap_records.specs.Output.{Result, Made, refuse, on}
 
 -- The bits of an instruction whose record has these fields, where its first bit is to stand at `at`. Refused 15 for an opcode or

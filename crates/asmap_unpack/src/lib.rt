@@ -7,7 +7,7 @@ ghost use Rattle.asmap_program.specs.Map.{limit};
 ghost use Rattle.asmap_program.specs.Check.{check, unpacked};
 ghost use Rattle.asmap_program.specs.declared.Verdict.the-variants.{Accepted};
 ghost use Rattle.asmap_codes.specs.Instruction.{mapOf};
-ghost use Rattle.asmap_records.specs.Record.{bytes4, recordOf, recordsOf};
+ghost use Rattle.asmap_records.specs.Record.{recordOf, recordsOf};
 ghost use Rattle.asmap_records.specs.Output.{Hands};
 ghost use Rattle.asmap_records.specs.Unpack.{unpackOf};
 use asmap_codes::DecodedInstruction;
@@ -15,26 +15,15 @@ use asmap_program::Instruction;
 use asmap_program::Verdict;
 use asmap_records::Answer;
 
-// A number as four bytes, little-endian.
-fn put_number(out: &mut [u8], at: usize, x: u32)
-    requires { ⌜ at + 4 ≤ length (now out) ⌝ }
-    ensures { λ r. ⌜ now (out .exit) ≡ sets (now (out .entry)) at (bytes4 x) ⌝ }
-{
-    out[at] = (x % 256) as u8;
-    out[at + 1] = (x / 256 % 256) as u8;
-    out[at + 2] = (x / 65536 % 256) as u8;
-    out[at + 3] = (x / 16777216 % 256) as u8;
-}
-
 // An instruction's record. The opcode goes out as a number of four bytes: the upper three are the record's zeros.
 fn put_record(out: &mut [u8], at: usize, instruction: Instruction)
     requires { ⌜ (at + 16 ≤ length (now out)) × (instruction .opcode < 256) × (instruction .place < 4294967296) × (instruction .size < 4294967296) ⌝ }
     ensures { λ r. ⌜ now (out .exit) ≡ sets (now (out .entry)) at (recordOf instruction) ⌝ }
 {
-    put_number(out, at, instruction.opcode);
-    put_number(out, at + 4, instruction.operand);
-    put_number(out, at + 8, instruction.place as u32);
-    put_number(out, at + 12, instruction.size as u32);
+    byte_numbers::put_number(out, at, instruction.opcode);
+    byte_numbers::put_number(out, at + 4, instruction.operand);
+    byte_numbers::put_number(out, at + 8, instruction.place as u32);
+    byte_numbers::put_number(out, at + 12, instruction.size as u32);
 }
 
 // The first `count` instructions of a map as records. At whatever width the check accepts the map with that count, they are all of

@@ -7,11 +7,11 @@ use Prim.Native.Nat.{ℕ, _+_, _/_}
 use native.Mathlib.Omega.{arith}
 use lib.ListN.{length}
 use lib.Seq.{sets}
-use Rattle.asmap_records.specs.Bytes.{bytesOf}
+use Rattle.asmap_bit_writer.specs.Bytes.{bytesOf}
 use Rattle.asmap_records.specs.Pack.{recordsBits, packOf}
 use Rattle.asmap_records.specs.Output.{Result, Made, No}
-use Rattle.asmap_pack.specs.Stream.{bitsIn}
-use Rattle.asmap_records.proofs.ByteLaws.{length-bytesOf}
+use Rattle.asmap_pack.specs.models.Size.{bitsIn}
+use Rattle.asmap_bit_writer.proofs.ByteLaws.{length-bytesOf}
 use Rattle.asmap_records.proofs.OutputLaws.{hands-no, hands-short, hands-made}
 use Rattle.asmap_records.proofs.PackLaws.{records-bound, pack-ragged, pack-whole}
 use Rattle.asmap_pack.proofs.SizeLaws.{ends-made, wrong-no}
@@ -63,7 +63,7 @@ returns-3 c =
     (pack-whole (a .records .now) (No (w .0 .0)) (c .before .before .before .before .if1 .left) (wrong-no 0 (w .0 .0) _ (sym (c .before .before .before .records-end .ensures) ∙ w .1)))
 
 same-length : tie.Need-same-length
-same-length c = search needs
+same-length c = c .before .out .given
 
 returns-4 : tie.Need-returns-4
 returns-4 c =

@@ -6,7 +6,7 @@ use Prim.Native.Nat.{_-_, _/_, _%_, _≤_}
 use native.Mathlib.Omega.{arith}
 use lib.ListN.{length, drop}
 use Rattle.asmap_records.specs.Pack.{recordBits, recordsBits}
-use Rattle.asmap_pack.specs.Stream.{sizeFrom}
+use Rattle.asmap_pack.specs.models.Size.{sizeFrom}
 use Rattle.asmap_pack.specs.declared.Size.the-variants.{Ends, Wrong}
 use Rattle.asmap_pack.proofs.SizeLaws.{records-wrong, records-ends, records-over, end-bound}
 use Rattle.asmap_pack.proofs.records_end.Statement.{statement}

@@ -44,22 +44,22 @@ returns c =
 returns-2 : tie.Need-returns-2
 returns-2 c =
     let a = c .before .before .before .before .args in
-    c .decode-type .ensures ∙ ap (readItem (a .map .now) (a .at)) (sym (c .before .enum-told2 .given .1))
+    c .decode-type .ensures .0 ∙ ap (readItem (a .map .now) (a .at)) (sym (c .before .enum-told2 .given .1))
 
 returns-3 : tie.Need-returns-3
 returns-3 c =
     let a = c .before .before .before .before .args in
-    c .decode-asn .ensures ∙ ap (readItem (a .map .now) (a .at)) (sym (c .before .enum-told3 .given .1))
+    c .decode-asn .ensures .0 ∙ ap (readItem (a .map .now) (a .at)) (sym (c .before .enum-told3 .given .1))
 
 returns-4 : tie.Need-returns-4
 returns-4 c =
     let a = c .before .before .before .before .args in
-    c .decode-match .ensures ∙ ap (readItem (a .map .now) (a .at)) (sym (c .before .enum-told4 .given .1))
+    c .decode-match .ensures .0 ∙ ap (readItem (a .map .now) (a .at)) (sym (c .before .enum-told4 .given .1))
 
 returns-5 : tie.Need-returns-5
 returns-5 c =
     let a = c .before .before .before .before .args in
-    c .decode-jump .ensures ∙ ap (readItem (a .map .now) (a .at)) (sym (c .before .enum-told5 .given .1))
+    c .decode-jump .ensures .0 ∙ ap (readItem (a .map .now) (a .at)) (sym (c .before .enum-told5 .given .1))
 
 pub decode-item-spec : {M : Type 1} → statement M
 decode-item-spec =

@@ -5,7 +5,7 @@ use mathlib.Core.Path.{_∙_, ap}
 use mathlib.Core.List.{List}
 use Prim.Native.Nat.{ℕ, _+_}
 use lib.Seq.{sets}
-use Rattle.asmap_records.specs.Record.{bytes4}
+use Rattle.byte_numbers.specs.Numbers.{bytes4}
 use Rattle.asmap_records.proofs.RecordLaws.{record-sets}
 use Rattle.asmap_unpack.proofs.put_record.Statement.{statement}
 use Rattle.asmap_unpack.proofs.put_record.Tie as tie

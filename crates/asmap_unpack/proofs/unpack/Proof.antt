@@ -25,7 +25,7 @@ enum-known-verdict-2 : tie.Need-enum-known-verdict-2
 enum-known-verdict-2 c = search needs
 
 cast-records : tie.Need-cast-records
-cast-records c = search needs
+cast-records c = omega arith
 
 -- the map was accepted: with how many instructions, and what the check's own crate says of it
 told : (c : tie.After-known-told2) → checkOf (c .before .before .before .before .before .before .args .map .now) 128 ≡ Accepted (c .before .verdict2 .given .0 .0) (c .before .verdict2 .given .0 .1 .0)
@@ -45,7 +45,7 @@ put-list-requires c κs =
     (accepted-within m 128 _ _ (told (c .before .before)) .0, omega (arith, c .before .if1 .left))
 
 mul-bytes : tie.Need-mul-bytes
-mul-bytes c = search needs
+mul-bytes c = omega arith
 
 returns-2 : tie.Need-returns-2
 returns-2 c =
@@ -55,7 +55,7 @@ returns-2 c =
     hands-no (unpackOf m 128) (a .out .now) (g .0 .0) (unpack-as m 128 (Refused (g .0 .0)) (sym (g .1) ∙ c .before .before .before .sanity-check .ensures .0))
 
 same-length : tie.Need-same-length
-same-length c = search needs
+same-length c = c .before .out .given
 
 returns-3 : tie.Need-returns-3
 returns-3 c =

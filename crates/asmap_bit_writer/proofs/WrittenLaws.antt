@@ -1,6 +1,6 @@
 -- What the writer's answer says of an opcode and an operand: they are out of range, or its word holds the instruction's bits.
 -- Assumes nothing.
-use mathlib.Core.Path.{_≡_, _∙_, refl}
+use mathlib.Core.Path.{_≡_, _∙_, refl, sym}
 use mathlib.Core.Logic.{_≢_}
 use mathlib.Core.Bool.{Bool, true, false, _&&_}
 use Prim.Native.Nat.{ℕ, _^_, _≤_, _<_}
@@ -12,14 +12,14 @@ use Rattle.asmap_codes.specs.Encode.{instructionBits}
 use Rattle.asmap_codes.proofs.RowLaws.{in-range}
 use Rattle.asmap_encode.specs.Write.{puts, none, pickWritten, writeInstruction}
 use Rattle.asmap_encode.specs.declared.Word.{Word}
-use Rattle.asmap_encode.specs.Parts.{lengthWritten}
+use Rattle.asmap_encode.specs.models.Words.{lengthWritten}
 use Rattle.asmap_encode.specs.declared.Written.{Written}
 use Rattle.asmap_encode.specs.declared.Written.the-variants.{Bits, Refused}
 use Rattle.asmap_encode.proofs.InstructionLaws.{instruction-word}
-use Rattle.asmap_records.proofs.ByteLaws.{word-lt, low-word-all}
-use Rattle.asmap_records.proofs.InstructionBits.{bits-instruction}
+use Rattle.asmap_bit_writer.proofs.ByteLaws.{word-lt, low-word-all}
+use Rattle.asmap_bit_writer.proofs.InstructionBits.{bits-instruction}
 
--- the word of an instruction in range, as pack's loops use it
+-- the word of an instruction in range
 pub record Holding (op v : ℕ) (u : Word) : Type 0 where
   pub ranged : (inRange typeRow op && inRange (operandRow op) v) ≡ true
   pub len : u .len ≡ length (instructionBits op v)
@@ -46,7 +46,7 @@ module _ (op v : ℕ) where
         bits = rw (h .bits, h .len) (low-word-all l (bits-instruction op v));
       }
 
-  pub written-none : (n : ℕ) → writeInstruction op v ≡ Refused n → (inRange typeRow op && inRange (operandRow op) v) ≡ false
+  written-none : (n : ℕ) → writeInstruction op v ≡ Refused n → (inRange typeRow op && inRange (operandRow op) v) ≡ false
   unfolding writeInstruction
   written-none n e = go (inRange typeRow op && inRange (operandRow op) v) e
     where
@@ -54,7 +54,14 @@ module _ (op v : ℕ) where
       go true q = let z : _≡_ {A = ℕ} 0 1 = cc in absurd (omega arith)
       go false q = refl
 
-  -- ---- its length alone, as pack's first loop uses it
+  -- an instruction in range is not refused
+  pub written-never : (n : ℕ) → (inRange typeRow op && inRange (operandRow op) v) ≡ true → writeInstruction op v ≡ Refused n → ⊥
+  written-never n h e = differ (sym h ∙ written-none n e)
+    where
+      differ : true ≡ false → ⊥
+      differ z = let y : _≡_ {A = ℕ} 0 1 = cc in omega arith
+
+  -- ---- its length alone
 
   pub measured-some : (n : ℕ) → n ≡ lengthWritten (writeInstruction op v) → n ≢ 0 → Measured op v n
   measured-some n e z = go (writeInstruction op v) refl e

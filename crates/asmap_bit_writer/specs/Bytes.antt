@@ -9,6 +9,10 @@ abbrev pub toBytes : ℕ → List ℕ → List ℕ
 toBytes zero bs = []
 toBytes (suc n) bs = word (take 8 bs) ∷ toBytes n (drop 8 bs)
 
+-- How many bytes hold n bits: as few as can.
+abbrev pub bytesFor : ℕ → ℕ
+bytesFor n = (n + 7) / 8
+
 -- The bytes of bits (document 01, Unpack and pack): as few as hold them, the last padded with zeros; none for no bits.
 unfoldable pub bytesOf : List ℕ → List ℕ
-bytesOf bs = toBytes ((length bs + 7) / 8) bs
+bytesOf bs = toBytes (bytesFor (length bs)) bs

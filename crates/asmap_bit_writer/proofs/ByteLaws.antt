@@ -11,7 +11,7 @@ use lib.ListN.{length, take, drop, replicate, length-append, length-drop, length
 use lib.Seq.{take-at, drop-at, take-all, length-take-le}
 use Rattle.asmap_codes.specs.Bits.{low, mapBits, word}
 use Rattle.asmap_codes.proofs.BitLaws.{AllBits, bits-take, bits-drop}
-use Rattle.asmap_records.specs.Bytes.{toBytes, bytesOf}
+use Rattle.asmap_bit_writer.specs.Bytes.{toBytes, bytesFor, bytesOf}
 
 pub word-lt : (l : List ℕ) → AllBits l → word l < 2 ^ length l
 word-lt [] h = lit< tt
@@ -62,14 +62,14 @@ low-append (suc n) k a w h =
 pub bytes-eight : (a rest : List ℕ) → length a ≡ 8 → bytesOf (a ++ rest) ≡ word a ∷ bytesOf rest
 unfolding bytesOf
 bytes-eight a rest h =
-    let e : (length (a ++ rest) + 7) / 8 ≡ suc ((length rest + 7) / 8) = omega (arith, length-append a rest) in
+    let e : bytesFor (length (a ++ rest)) ≡ suc (bytesFor (length rest)) = omega (arith, length-append a rest) in
     rw (e, take-at a rest 8 h, drop-at a rest 8 h)
 
 -- the last byte: one to eight bits, and zeros
 pub bytes-last : (a : List ℕ) → 0 < length a → length a ≤ 8 → bytesOf a ≡ word a ∷ []
 unfolding bytesOf
 bytes-last a h k =
-    let e : (length a + 7) / 8 ≡ 1 = omega arith in
+    let e : bytesFor (length a) ≡ 1 = omega arith in
     rw (e, take-all 8 a k)
 
 -- a whole byte of a window: eight low bits go out, the rest moves down
@@ -84,9 +84,9 @@ pub length-toBytes : (n : ℕ) (bs : List ℕ) → length (toBytes n bs) ≡ n
 length-toBytes zero bs = refl
 length-toBytes (suc n) bs = ap suc (length-toBytes n (drop 8 bs))
 
-pub length-bytesOf : (bs : List ℕ) → length (bytesOf bs) ≡ (length bs + 7) / 8
+pub length-bytesOf : (bs : List ℕ) → length (bytesOf bs) ≡ bytesFor (length bs)
 unfolding bytesOf
-length-bytesOf bs = length-toBytes ((length bs + 7) / 8) bs
+length-bytesOf bs = length-toBytes (bytesFor (length bs)) bs
 
 -- what bytes made of bits read as: the bits, then zeros
 pub map-toBytes : (n : ℕ) (bs : List ℕ) → AllBits bs → length bs ≤ 8 * n → mapBits (toBytes n bs) ≡ bs ++ replicate (8 * n - length bs) 0

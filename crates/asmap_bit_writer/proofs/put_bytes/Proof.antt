@@ -1,12 +1,12 @@
--- `asmap_pack::put_bytes` meets its contract: the bytes that are left go where they would have gone.
+-- `asmap_bit_writer::put_bytes` meets its contract: the bytes that are left go where they would have gone.
 -- Assumes nothing.
 use mathlib.Core.Path.{_≡_, _∙_, refl, sym, ap}
 use Prim.Native.Nat.{ℕ, suc, _+_, _-_, _%_, _≤_}
 use native.Mathlib.Omega.{arith}
 use lib.ListN.{length, length-set}
-use Rattle.asmap_pack.specs.Stream.{putBytes}
-use Rattle.asmap_pack.proofs.put_bytes.Statement.{statement}
-use Rattle.asmap_pack.proofs.put_bytes.Tie as tie
+use Rattle.asmap_bit_writer.specs.models.Stream.{putBytes}
+use Rattle.asmap_bit_writer.proofs.put_bytes.Statement.{statement}
+use Rattle.asmap_bit_writer.proofs.put_bytes.Tie as tie
 
 abbrev Inv-loop : tie.InvT-loop
 Inv-loop out₀ from number count place₀ bits₀ left₀ out place bits left =

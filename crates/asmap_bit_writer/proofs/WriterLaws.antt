@@ -1,28 +1,35 @@
--- Laws of the window: a word shifted past the bits held, a byte that goes out, the padding. Assumes nothing.
-use mathlib.Core.Path.{_≡_, _∙_, refl, sym, ap, ap₂}
+-- Laws of the writer: a word shifted past the bits held, bytes that go out, the last ones. Assumes nothing.
+use mathlib.Core.Path.{_≡_, _∙_, refl, sym, ap, ap₂, subst}
 use mathlib.Core.List.{List, [], _∷_, _++_, append-assoc, append-nil}
 use Prim.Native.Nat.{ℕ, zero, suc, _+_, _-_, _*_, _/_, _%_, _^_, _≤_, _<_}
 use native.Mathlib.Nat.{add-zero, mul-mod-left, mod-lt}
-use native.Mathlib.Decide.{decLt}
 use native.Mathlib.Omega.{arith}
 use lib.Pow as pow
 use lib.Pow.{pow-mono}
 use lib.ListN.{length, set, length-set}
-use lib.Seq.{sets}
+use lib.Seq.{sets, length-sets}
 use Rattle.asmap_codes.specs.Bits.{low}
 use Rattle.asmap_codes.proofs.BitLaws.{length-low}
-use Rattle.asmap_encode.specs.declared.Word.{Word}
 use Rattle.asmap_encode.proofs.WordLaws.{window-lt}
-use Rattle.asmap_records.specs.Bytes.{bytesOf}
-use Rattle.asmap_pack.specs.Stream.{stream, putBytes, Moved}
-use Rattle.asmap_pack.specs.declared.Window.{Window}
-use Rattle.asmap_records.proofs.ByteLaws.{low-append, bytes-low, bytes-last, word-low}
+use Rattle.asmap_bit_writer.specs.Bytes.{bytesOf}
+use Rattle.asmap_bit_writer.specs.models.Stream.{stream, putBytes, Moved}
+use Rattle.asmap_bit_writer.specs.declared.BitWriter.{BitWriter}
+use Rattle.asmap_bit_writer.proofs.ByteLaws.{low-append, bytes-low, bytes-last, word-low}
 
--- what is written from place p on when a word was put above the window
+-- what is written from place p on when a word was put above the bits held
 pub stream-push : (o : List ℕ) (p n k a w : ℕ) (rest : List ℕ) → a < 2 ^ n
     → sets o p (bytesOf (low n a ++ (low k w ++ rest))) ≡ sets o p (bytesOf (low (n + k) (a + w * 2 ^ n) ++ rest))
 stream-push o p n k a w rest h =
     ap (λ (l : List ℕ). sets o p (bytesOf l)) (sym (append-assoc (low n a) (low k w) rest) ∙ ap (λ (l : List ℕ). l ++ rest) (sym (low-append n k a w h)))
+
+-- the output stays as long as it was
+pub length-stream : (o : List ℕ) (w : BitWriter) (rest : List ℕ) → length (stream o w rest) ≡ length o
+unfolding stream
+length-stream o w rest = length-sets o (w .place) (bytesOf (low (w .held) (w .bits) ++ rest))
+
+-- the bits pushed, as other bits that they are
+pub moved-as : {o o′ bs cs : List ℕ} {w w′ : BitWriter} → Moved o w bs o′ w′ → bs ≡ cs → Moved o w cs o′ w′
+moved-as {o} {o′} {w} {w′} m e = subst (λ (l : List ℕ). Moved o w l o′ w′) e m
 
 -- bytes go out
 pub length-put : (n : ℕ) (o : List ℕ) (p a : ℕ) → length (putBytes n o p a) ≡ length o
@@ -42,7 +49,7 @@ stream-bytes (suc n) o p a rest =
     ∙ stream-bytes n (set o p (a % 256)) (p + 1) (a / 256) rest
     ∙ ap (λ (k : ℕ). sets (putBytes n (set o p (a % 256)) (p + 1) (a / 256)) k (bytesOf rest)) s
 
--- a word shifted past n bits of a window of 64, with what it has no room for left out
+-- a word shifted past n bits of 64, with what they have no room for left out
 module _ (w n : ℕ) (f : n ≤ 64) where
   all : 64 - n + n ≡ 64
   all = omega arith
@@ -59,7 +66,7 @@ module _ (w n : ℕ) (f : n ≤ 64) where
       let e : n + (64 - n) ≡ 64 = omega arith in
       rw shifted-low (rw e at (window-lt a n (w % 2 ^ (64 - n)) (64 - n) h (mod-lt w (pow.pow-pos (64 - n)))))
 
-  -- the window is full: its eight bytes go out, and the rest of the word is the next window
+  -- 64 bits are held: their eight bytes go out, and the rest of the word is held
   pub stream-full : (o : List ℕ) (p k a : ℕ) (rest : List ℕ) → a < 2 ^ n → 64 ≤ n + k
       → sets o p (bytesOf (low n a ++ (low k w ++ rest)))
       ≡ sets (putBytes 8 o p (a + w * 2 ^ n % 2 ^ 64)) (p + 8) (bytesOf (low (n + k - 64) (w / 2 ^ (64 - n)) ++ rest))
@@ -87,58 +94,25 @@ module _ (w n : ℕ) (f : n ≤ 64) where
       let l : w < 2 ^ (n + k - 64 + (64 - n)) = rw e at h in
       pow.shr-lt (n + k - 64) (64 - n) l
 
--- one to seven bits, and zeros up to eight: the same byte
-padded-byte : (n a k : ℕ) → 0 < n → n + k ≡ 8 → a < 2 ^ n → bytesOf (low n a ++ []) ≡ bytesOf (low n a ++ (low k 0 ++ []))
-padded-byte n a k h e l =
-    let z : a + 0 * 2 ^ n ≡ a = omega arith in
-    let f : low n a ++ low k 0 ≡ low 8 a = sym (low-append n k a 0 l) ∙ ap₂ low e z in
-    rw (
-      append-nil,
-      append-nil,
-      f,
-      bytes-last (low n a) (omega (arith, length-low n a)) (omega (arith, length-low n a)),
-      bytes-last (low 8 a) (omega (arith, length-low 8 a)) (omega (arith, length-low 8 a)),
-      word-low n a l,
-      word-low 8 a (omega (arith, pow-mono {i = n} {j = 8} (omega arith))),
-    )
+-- the bits held go out as the bytes of their number, zeros above them
+held-out : (n : ℕ) (o : List ℕ) (p h a : ℕ) → h ≤ 8 * n → 8 * n < h + 8 → a < 2 ^ h → sets o p (bytesOf (low h a ++ [])) ≡ putBytes n o p a
+unfolding bytesOf
+held-out zero o p h a i j l = let z : h ≡ 0 = omega arith in ap (λ (k : ℕ). sets o p (bytesOf (low k a ++ []))) z
+held-out (suc zero) o p h a i j l =
+    let e : a ≡ a % 256 = omega (arith, pow-mono {i = h} {j = 8} i) in
+    let k = length-low h a in
+    ap (sets o p) (ap bytesOf (append-nil (low h a)) ∙ bytes-last (low h a) (omega arith) (omega arith) ∙ ap (λ (x : ℕ). x ∷ []) (word-low h a l ∙ e))
+held-out (suc (suc n)) o p h a i j l =
+    let q : h ≡ 8 + (h - 8) = omega arith in
+    let c : h ≡ h - 8 + 8 = omega arith in
+    let m : a < 2 ^ (h - 8 + 8) = rw c at l in
+    let s : suc p ≡ p + 1 = omega arith in
+    let o′ = set o p (a % 256) in
+    ap (λ (k : ℕ). sets o p (bytesOf (low k a ++ []))) q
+    ∙ ap (sets o p) (bytes-low (h - 8) a [])
+    ∙ ap (λ (k : ℕ). sets o′ k (bytesOf (low (h - 8) (a / 256) ++ []))) s
+    ∙ held-out (suc n) o′ (p + 1) (h - 8) (a / 256) (omega arith) (omega arith) (pow.shr-lt (h - 8) 8 m)
 
--- bits, and zeros up to a whole byte: the same bytes
-padded-bytes : (f n a k : ℕ) → n < 8 * f → (n + k) % 8 ≡ 0 → k < 8 → a < 2 ^ n → bytesOf (low n a ++ []) ≡ bytesOf (low n a ++ (low k 0 ++ []))
-padded-bytes zero n a k g e h l = absurd (omega arith)
-padded-bytes (suc f) n a k g e h l = go (decLt n 8) (decLt 0 n) (λ m. padded-bytes f (n - 8) (a / 256) k m)
-  where
-    go : Dec (n < 8) → Dec (0 < n)
-        → (n - 8 < 8 * f → (n - 8 + k) % 8 ≡ 0 → k < 8 → a / 256 < 2 ^ (n - 8) → bytesOf (low (n - 8) (a / 256) ++ []) ≡ bytesOf (low (n - 8) (a / 256) ++ (low k 0 ++ [])))
-        → bytesOf (low n a ++ []) ≡ bytesOf (low n a ++ (low k 0 ++ []))
-    go (yes s) (yes p) ih = padded-byte n a k p (omega arith) l
-    go (yes s) (no p) ih =
-        let z : k ≡ 0 = omega arith in
-        ap (λ (i : ℕ). bytesOf (low n a ++ (low i 0 ++ []))) (sym z)
-    go (no s) p ih =
-        let q : n ≡ 8 + (n - 8) = omega arith in
-        let c : n ≡ n - 8 + 8 = omega arith in
-        let m : a < 2 ^ (n - 8 + 8) = rw c at l in
-        ap (λ (i : ℕ). bytesOf (low i a ++ [])) q
-        ∙ bytes-low (n - 8) a []
-        ∙ ap (_∷_ (a % 256)) (ih (omega arith) (omega arith) h (pow.shr-lt (n - 8) 8 m))
-        ∙ sym (bytes-low (n - 8) a (low k 0 ++ []))
-        ∙ ap (λ (i : ℕ). bytesOf (low i a ++ (low k 0 ++ []))) (sym q)
-
--- when the padding was pushed, the window has whole bytes, and when these went out, all is written
-pub stream-padded : (o : List ℕ) (w : Window) (u : Word) (o′ : List ℕ) (w′ : Window) → u ≡ record { bits = 0; len = (8 - w .held % 8) % 8 } → w .held < 64 → w .bits < 2 ^ w .held
-    → Moved o w u o′ w′ → stream o w [] ≡ putBytes (w′ .held / 8) o′ (w′ .place) (w′ .bits)
-unfolding stream bytesOf
-stream-padded o w u o′ w′ e h l m =
-    let k : u .len ≡ (8 - w .held % 8) % 8 = ap (λ (x : Word). x .len) e in
-    let z : u .bits ≡ 0 = ap (λ (x : Word). x .bits) e in
-    let n = w′ .held / 8 in
-    let q : w′ .held ≡ 8 * n = omega (arith, m .placed) in
-    ap (sets o (w .place)) (padded-bytes 8 (w .held) (w .bits) (u .len) h (omega arith) (omega arith) l)
-    ∙ ap (λ (i : ℕ). sets o (w .place) (bytesOf (low (w .held) (w .bits) ++ (low (u .len) i ++ [])))) (sym z)
-    ∙ m .streams []
-    ∙ ap (λ (i : ℕ). sets o′ (w′ .place) (bytesOf (low i (w′ .bits) ++ []))) q
-    ∙ stream-bytes n o′ (w′ .place) (w′ .bits) []
-
--- what is padded has room
-pub padded-room : (w u : ℕ) (n : ℕ) → u ≡ (8 - w % 8) % 8 → w ≤ 8 * n → w + u ≤ 8 * n
-padded-room w u n e h = omega arith
+pub stream-finished : (o : List ℕ) (w : BitWriter) → w .bits < 2 ^ w .held → stream o w [] ≡ putBytes ((w .held + 7) / 8) o (w .place) (w .bits)
+unfolding stream
+stream-finished o w l = held-out ((w .held + 7) / 8) o (w .place) (w .held) (w .bits) (omega arith) (omega arith) l

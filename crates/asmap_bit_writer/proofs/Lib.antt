@@ -1,0 +1,4 @@
+pub mod ByteLaws
+pub mod InstructionBits
+pub mod WrittenLaws
+pub mod WriterLaws
