@@ -5,12 +5,12 @@ use mathlib.Core.Bool.{cond}
 use mathlib.Core.List.{List}
 use lib.Dec.{eqb}
 use lib.ListN.{length, getD}
+use Rattle.peer_lists.specs.Candidate.{family, address}
 use Rattle.asmap_program.specs.Walk.{Walked}
 use Rattle.asmap_walk.specs.Interpret.{walkOf}
 use Rattle.netgroup.specs.declared.Grouping.{Grouping}
 use Rattle.netgroup.specs.declared.Grouping.the-variants.{Prefixes, Map}
 use Rattle.netgroup.specs.declared.Grouped.{Grouped}
-use Rattle.netgroup.specs.Candidate.{family, address}
 
 -- what numbers the groups of a call: its map, or none and then the prefixes
 pub data Numbering : Type 0 where

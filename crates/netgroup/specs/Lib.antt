@@ -1,5 +1,3 @@
-pub mod Candidate
-pub mod Word
 pub mod Group
 pub mod Refusal
 pub mod Ended

@@ -3,12 +3,13 @@
 -- Assumes nothing.
 use Prim.Native.Nat.{ℕ}
 use mathlib.Core.List.{List}
+use Rattle.peer_lists.specs.declared.Refusal.{Refusal}
+use Rattle.peer_lists.specs.declared.Refusal.the-variants.{None, Number}
+use Rattle.peer_lists.specs.Refusal.{orElse, candidateRefusal}
 use Rattle.netgroup.specs.declared.GroupAnswer.{GroupAnswer}
 use Rattle.netgroup.specs.declared.GroupAnswer.the-variants.{Group, Refused}
-use Rattle.netgroup.specs.declared.Refusal.{Refusal}
-use Rattle.netgroup.specs.declared.Refusal.the-variants.{None, Number}
 use Rattle.netgroup.specs.Group.{Numbering, byPrefixes, groupOf}
-use Rattle.netgroup.specs.Refusal.{orElse, candidateRefusal, limitRefusal, checkRefusal}
+use Rattle.netgroup.specs.Refusal.{limitRefusal, checkRefusal}
 use Rattle.netgroup.specs.Ended.{Ended}
 
 abbrev pub groupUnless : Refusal → Numbering → List ℕ → GroupAnswer
@@ -28,7 +29,7 @@ netgroupUnchecked n c = groupCall (limitRefusal n) n c
 abbrev pub prefixGroupCall : List ℕ → GroupAnswer
 prefixGroupCall c = groupCall None byPrefixes c
 
--- a group that was handed back comes from a walk that did not abort
+-- a group that was handed back comes from a walk that ended at a RETURN or at a difference
 abbrev pub Whole : Numbering → List ℕ → GroupAnswer → Type 0
 Whole n c (Group g) = Ended n c
 Whole n c (Refused k) = Unit {0}

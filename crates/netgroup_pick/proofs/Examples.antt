@@ -3,10 +3,10 @@
 use Prim.Native.Nat.{ℕ}
 use mathlib.Core.Path.{_≡_, refl}
 use mathlib.Core.List.{List, [], _∷_, _++_}
-use Rattle.netgroup.specs.Candidate.{mappedFront, mapped, valid}
+use Rattle.peer_lists.specs.Candidate.{mappedFront, mapped, valid}
 use Rattle.netgroup.specs.Group.{byPrefixes, prefixGroup}
 use Rattle.netgroup_pick.specs.declared.PickAnswer.the-variants.{Picked, Refused}
-use Rattle.netgroup_pick.specs.First.{firstPass}
+use Rattle.pick_passes.specs.First.{firstPass}
 use Rattle.netgroup_pick.specs.Pick.{handed, selectDiverse}
 
 -- group 7 is occupied and group 3 comes twice; max 2 is reached at the fourth candidate

@@ -1,12 +1,3 @@
-pub mod Lists
-pub mod Scans
-pub mod Marking
-pub mod Placing
-pub mod Outputs
-pub mod Passes
-pub mod Examined
-pub mod Beginnings
-pub mod Fills
 pub mod PickRefusals
 pub mod Picks
 pub mod Examples

@@ -2,16 +2,17 @@
 -- Assumes nothing.
 use mathlib.Core.Path.{_≡_}
 use mathlib.Core.List.{List}
-use mathlib.Core.Bool.{not}
-use Prim.Native.Nat.{ℕ, _/_, _%_, _≤_, min}
-use lib.Dec.{eqb, ltb}
+use Prim.Native.Nat.{ℕ, _/_, min}
+use lib.Dec.{ltb}
 use lib.ListN.{length}
-use Rattle.netgroup.specs.declared.Refusal.{Refusal}
-use Rattle.netgroup.specs.declared.Refusal.the-variants.{None, Number}
+use Rattle.peer_lists.specs.declared.Refusal.{Refusal}
+use Rattle.peer_lists.specs.declared.Refusal.the-variants.{None, Number}
+use Rattle.peer_lists.specs.Refusal.{refuseIf, listRefusal}
+use Rattle.peer_lists.proofs.Refusals.{none-first, none-later, none-more, none-listed}
 use Rattle.netgroup.specs.Group.{Numbering}
-use Rattle.netgroup.specs.Refusal.{refuseIf, limitRefusal}
-use Rattle.netgroup.proofs.Refusals.{none-first, none-later, none-more}
-use Rattle.netgroup_pick.specs.PickRefusal.{listRefusal, roomRefusal, pickRefusal, Ready}
+use Rattle.netgroup.specs.Refusal.{limitRefusal}
+use Rattle.netgroup_pick.specs.PickRefusal.{roomRefusal, pickRefusal}
+use Rattle.pick_passes.specs.models.Ready.{Ready}
 
 -- the first refusal that there is
 module _ (ofMap : Refusal) (bytes occupied : List ℕ) (max : ℕ) (picks groups : List ℕ) where
@@ -24,10 +25,6 @@ module _ (ofMap : Refusal) (bytes occupied : List ℕ) (max : ℕ) (picks groups
   pub then-room : listRefusal bytes occupied ≡ None → ofMap ≡ None
       → pickRefusal ofMap bytes occupied max picks groups ≡ roomRefusal (length bytes / 20) max picks groups
   then-room e h = rw (e, h)
-
-none-listed : (bytes occupied : List ℕ) → listRefusal bytes occupied ≡ None → length bytes / 20 ≤ 4096
-none-listed bytes occupied h =
-    none-more 4096 (length bytes / 20) 12 (none-first _ _ (none-later (refuseIf (not (eqb (length bytes % 20) 0)) 13) _ h))
 
 pub none-ready : (n : Numbering) (bytes occupied : List ℕ) (max : ℕ) (picks groups : List ℕ)
     → pickRefusal (limitRefusal n) bytes occupied max picks groups ≡ None → Ready n bytes max picks groups

@@ -6,26 +6,30 @@ use Prim.Native.Nat.{ℕ, zero, suc, _/_, _≤_}
 use native.Mathlib.Omega.{arith}
 use lib.ListN.{length, take, drop, length-append}
 use lib.Seq.{take-append-le}
-use Rattle.netgroup.specs.declared.Refusal.{Refusal}
-use Rattle.netgroup.specs.declared.Refusal.the-variants.{None, Number}
+use Rattle.peer_lists.specs.declared.Refusal.{Refusal}
+use Rattle.peer_lists.specs.declared.Refusal.the-variants.{None, Number}
 use Rattle.netgroup.specs.Group.{Numbering, byMap, byPrefixes}
 use Rattle.netgroup.specs.Refusal.{limitRefusal, checkRefusal}
 use Rattle.netgroup.proofs.Refusals.{check-limit}
 use Rattle.netgroup_pick.specs.declared.PickAnswer.the-variants.{Picked, Refused}
-use Rattle.netgroup_pick.specs.declared.First.{First}
+use Rattle.pick_passes.specs.declared.First.{First}
 use Rattle.netgroup_pick.specs.declared.Totals.{Totals}
-use Rattle.netgroup_pick.specs.Candidates.{candidatesOf}
-use Rattle.netgroup_pick.specs.Fill.{fill}
-use Rattle.netgroup_pick.specs.Places.{Places}
-use Rattle.netgroup_pick.specs.PickRefusal.{listRefusal, pickRefusal}
-use Rattle.netgroup_pick.specs.Pick.{groupsOf, countsOf, sum, first, places, instructions, written, handed, pickUnless, pickCall, selectDiverse, selectUnchecked}
-use Rattle.netgroup_pick.specs.Passed.{PassedFirst, Filled}
+use Rattle.peer_lists.specs.Candidates.{candidatesOf}
+use Rattle.pick_passes.specs.Fill.{fill}
+use Rattle.pick_passes.specs.models.Places.{Places}
+use Rattle.peer_lists.specs.Refusal.{listRefusal}
+use Rattle.netgroup_pick.specs.PickRefusal.{pickRefusal}
+use Rattle.pick_passes.specs.Ranked.{groupsOf, countsOf, sum, first, instructions}
+use Rattle.pick_passes.specs.Output.{written}
+use Rattle.netgroup_pick.specs.Pick.{places, handed, pickUnless, pickCall, selectDiverse, selectUnchecked}
+use Rattle.pick_passes.specs.models.Passed.{PassedFirst, Filled}
 use Rattle.netgroup_pick.specs.Demand.{walkCounts, FirstPassed}
-use Rattle.netgroup_pick.proofs.Lists.{length-candidates, length-groups}
-use Rattle.netgroup_pick.proofs.Outputs.{take-written, written-over}
-use Rattle.netgroup_pick.proofs.Passes.{first-places, first-even}
-use Rattle.netgroup_pick.proofs.Fills.{fill-begins}
-use Rattle.netgroup_pick.proofs.Beginnings.{Begins, begins-length, begins-take}
+use Rattle.peer_lists.proofs.Lists.{length-candidates}
+use Rattle.pick_passes.proofs.Lists.{length-groups}
+use Rattle.pick_passes.proofs.Outputs.{take-written, written-over}
+use Rattle.pick_passes.proofs.Passes.{first-places, first-even}
+use Rattle.pick_passes.proofs.Fills.{fill-begins}
+use Rattle.pick_passes.proofs.Beginnings.{Begins, begins-length, begins-take}
 use Rattle.netgroup_pick.proofs.PickRefusals.{then-room}
 
 -- a refusal: its number, and both outputs as they were

@@ -6,10 +6,10 @@ use mathlib.Core.List.{List, [], map}
 use lib.ListN.{length, take, getD}
 use Rattle.netgroup.specs.Group.{Numbering, byMap, byPrefixes, walkFor}
 use Rattle.netgroup.specs.Ended.{Ended}
+use Rattle.pick_passes.specs.Ranked.{sum, first}
 use Rattle.netgroup_pick.specs.declared.PickAnswer.{PickAnswer}
 use Rattle.netgroup_pick.specs.declared.PickAnswer.the-variants.{Picked, Refused}
 use Rattle.netgroup_pick.specs.declared.Totals.{Totals}
-use Rattle.netgroup_pick.specs.Pick.{first, sum}
 
 -- the counts of the defined walks of the candidates, place by place, so equal candidates count each; without a map there are none
 abbrev pub walkCounts : Numbering → List (List ℕ) → List ℕ
@@ -29,7 +29,7 @@ module _ (n : Numbering) (all : List (List ℕ)) (occupied : List ℕ) (max : �
   Demand3 (Picked t) ps gs = FirstPassed t ps gs
   Demand3 (Refused k) ps gs = Unit {0}
 
--- no walk of a candidate examined aborts, and a group 0 is a difference with default 0
+-- each walk of a candidate examined ends at a RETURN or at a difference, and a group 0 is a difference with no DEFAULT read
 abbrev pub Unaborted : Numbering → List (List ℕ) → PickAnswer → Type 0
 Unaborted n all (Picked t) = (i : ℕ) → i < t .examined → Ended n (getD all i [])
 Unaborted n all (Refused k) = Unit {0}

@@ -1,52 +1,30 @@
 -- The pick (document 01, Groups and pick; What a call hands back): what is answered, and what the two outputs hold then. The call
 -- of the paper checks its map; the other takes the map as it is.
 -- Assumes nothing.
-use Prim.Native.Nat.{ℕ, _+_}
-use mathlib.Core.List.{List, [], _∷_, _++_, map}
-use lib.ListN.{length, take, drop}
-use Rattle.netgroup.specs.declared.Refusal.{Refusal}
-use Rattle.netgroup.specs.declared.Refusal.the-variants.{None, Number}
-use Rattle.netgroup.specs.Group.{Numbering, groupOf, countOf}
+use Prim.Native.Nat.{ℕ}
+use mathlib.Core.List.{List}
+use lib.ListN.{length}
+use Rattle.peer_lists.specs.declared.Refusal.{Refusal}
+use Rattle.peer_lists.specs.declared.Refusal.the-variants.{None, Number}
+use Rattle.peer_lists.specs.Candidates.{candidatesOf}
+use Rattle.netgroup.specs.Group.{Numbering}
 use Rattle.netgroup.specs.Refusal.{limitRefusal, checkRefusal}
+use Rattle.pick_passes.specs.Ranked.{first, instructions}
+use Rattle.pick_passes.specs.Fill.{fill}
+use Rattle.pick_passes.specs.Output.{written}
 use Rattle.netgroup_pick.specs.declared.PickAnswer.{PickAnswer}
 use Rattle.netgroup_pick.specs.declared.PickAnswer.the-variants.{Picked, Refused}
 use Rattle.netgroup_pick.specs.declared.Totals.{Totals}
-use Rattle.netgroup_pick.specs.Candidates.{candidatesOf}
 use Rattle.netgroup_pick.specs.PickRefusal.{pickRefusal}
-use Rattle.netgroup_pick.specs.First.{Pass, firstPass}
-use Rattle.netgroup_pick.specs.Fill.{fill}
-
--- the groups of candidates, place by place
-abbrev pub groupsOf : Numbering → List (List ℕ) → List ℕ
-groupsOf n cs = map (groupOf n) cs
-
--- the instructions that finding each takes
-abbrev pub countsOf : Numbering → List (List ℕ) → List ℕ
-countsOf n cs = map (countOf n) cs
-
-abbrev pub sum : List ℕ → ℕ
-sum [] = 0
-sum (x ∷ xs) = x + sum xs
 
 -- all: the candidates in ranked order
 module _ (n : Numbering) (all : List (List ℕ)) (occupied : List ℕ) (max : ℕ) where
-  abbrev pub first : Pass
-  first = firstPass occupied max (groupsOf n all)
-
   -- the places of all picks
   abbrev pub places : List ℕ
-  places = fill all max (first .places)
-
-  -- of the candidates examined, each once for its place in the list
-  abbrev pub instructions : ℕ
-  instructions = sum (take (first .examined) (countsOf n all))
+  places = fill all max (first n all occupied max .places)
 
   abbrev pub totals : Totals
-  totals = record { total = length places; first = length (first .places); examined = first .examined; instructions = instructions }
-
--- a list written to the front of an output; what lies past it stays
-abbrev pub written : List ℕ → List ℕ → List ℕ
-written xs output = xs ++ drop (length xs) output
+  totals = record { total = length places; first = length (first n all occupied max .places); examined = first n all occupied max .examined; instructions = instructions n all occupied max }
 
 -- the answer, and the two outputs at exit
 pub record Handed : Type 0 where

@@ -1,7 +1,7 @@
 -- The rows in order; three of them go by the same four bytes, and two ask for zeros beside their IPv4.
 -- Assumes nothing.
 use Prim.Native.Nat.{ℕ}
-use mathlib.Core.Bool.{Bool, true, false, cond, not, _||_}
+use mathlib.Core.Bool.{true, false, cond, not, _||_}
 use mathlib.Core.List.{List, [], _∷_}
 use mathlib.Core.Path.{_≡_, _∙_, sym}
 use Rattle.netaddr_ranges.specs.Unroutable.{unroutable4, held, zeros, decided}

@@ -1,10 +1,10 @@
--- `netgroup` is the group call over a map that is checked; no walk behind a group aborts (`call-checked`).
+-- `netgroup` is the group call over a map that is checked; past the check it is the call over the map as it is.
 -- Assumes nothing.
 use mathlib.Core.Path.{_∙_, sym}
 use borrow.Author.Tests.{not-true, not-false}
 use Rattle.netgroup.specs.Group.{numbering}
 use Rattle.netgroup.specs.Refusal.{checkRefusal}
-use Rattle.netgroup.proofs.Calls.{call-invalid, call-refused, call-checked}
+use Rattle.netgroup.proofs.Calls.{call-invalid, call-refused, checked-is-unchecked}
 use borrow.Author.Needs.{needs}
 use Rattle.netgroup.proofs.netgroup.Statement.{statement}
 use Rattle.netgroup.proofs.netgroup.Tie as tie
@@ -40,7 +40,9 @@ returns-3 : tie.Need-returns-3
 returns-3 c =
     let a = c .before .before .before .before .before .before .before .before .args in
     let n = numbering (a .grouping) (a .map .now) in
-    call-checked n (a .candidate .now) (sym (c .before .before .before .before .before .is-candidate .ensures) ∙ not-false _ (c .before .before .before .before .if1 .left)) (sym (c .before .before .before .check-refusal .ensures) ∙ c .before .enum-told .given .1) _ (c .netgroup-unchecked .ensures)
+    let u = c .netgroup-unchecked in
+    let passed = sym (c .before .before .before .check-refusal .ensures) ∙ c .before .enum-told .given .1 in
+    (u .ensures .0 ∙ checked-is-unchecked n (a .candidate .now) (sym (c .before .before .before .before .before .is-candidate .ensures) ∙ not-false _ (c .before .before .before .before .if1 .left)) passed, u .ensures .1 passed)
 
 pub netgroup-spec : {M : Type 1} → statement M
 netgroup-spec =

@@ -2,10 +2,11 @@
 -- Assumes nothing.
 use mathlib.Core.Path.{_∙_, refl, sym, ap}
 use borrow.Author.Tests.{not-true, not-false}
-use Rattle.netgroup.specs.declared.Refusal.the-variants.{None}
+use Rattle.peer_lists.specs.declared.Refusal.the-variants.{None}
+use Rattle.peer_lists.proofs.Valids.{valid-length}
 use Rattle.netgroup.specs.declared.GroupAnswer.the-variants.{Group}
 use Rattle.netgroup.specs.Group.{byPrefixes}
-use Rattle.netgroup.proofs.Calls.{valid-length, call-invalid, call-group}
+use Rattle.netgroup.proofs.Calls.{call-invalid, call-group}
 use borrow.Author.Needs.{needs}
 use Rattle.netgroup.proofs.prefix_group.Statement.{statement}
 use Rattle.netgroup.proofs.prefix_group.Tie as tie

@@ -1,4 +1,4 @@
--- `prefix_number` is `prefixGroup`.
+-- `prefix_number` is `prefixGroup`, by the family.
 -- Assumes nothing.
 use borrow.Author.Tests.{eq-eqb, ne-eqb}
 use native.Mathlib.Omega.{arith}

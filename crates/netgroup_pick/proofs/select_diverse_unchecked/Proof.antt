@@ -7,7 +7,7 @@ use lib.ListN.{getD}
 use Rattle.netgroup.proofs.Walked.{ended}
 use Rattle.netgroup.specs.Group.{numbering}
 use Rattle.netgroup.specs.Refusal.{limitRefusal}
-use Rattle.netgroup_pick.specs.Candidates.{candidatesOf}
+use Rattle.peer_lists.specs.Candidates.{candidatesOf}
 use Rattle.netgroup_pick.proofs.PickRefusals.{none-ready}
 use Rattle.netgroup_pick.proofs.Picks.{refused, first-are-places, first-fits, picked-whole, picked-demand}
 use borrow.Author.Needs.{needs}

@@ -1,0 +1,6 @@
+pub mod Sames
+pub mod SameNumbers
+pub mod Valids
+pub mod Lists
+pub mod Scans
+pub mod Refusals

@@ -1,0 +1,52 @@
+-- What a list has from a place on; the candidate at a place, and whether those from a place on are valid.
+-- Assumes nothing.
+use mathlib.Core.Path.{_≡_, _∙_, refl, sym, ap}
+use mathlib.Core.List.{List, [], _∷_}
+use mathlib.Core.Bool.{true, false}
+use Prim.Native.Nat.{ℕ, zero, suc, _+_, _*_, _/_, _≤_, _<_}
+use native.Mathlib.Omega.{arith}
+use native.Mathlib.Numerals.{add-one}
+use lib.ListN.{length, take, drop, getD}
+use lib.Seq.{drop-cons, drop-drop}
+use Rattle.peer_lists.specs.Candidate.{valid}
+use Rattle.peer_lists.specs.Candidates.{cut, candidatesOf, allValid}
+
+-- the element at a place and those after it
+pub ahead : {A : Type 0} (xs : List A) (i : ℕ) (d : A) → i < length xs → drop i xs ≡ getD xs i d ∷ drop (i + 1) xs
+ahead xs i d h = rw (add-one i) (drop-cons xs i d h)
+
+pub ended : {A : Type 0} (xs : List A) (i : ℕ) → length xs ≤ i → drop i xs ≡ []
+ended [] zero h = refl
+ended [] (suc i) h = refl
+ended (x ∷ xs) zero h = absurd (omega arith)
+ended (x ∷ xs) (suc i) h = ended xs i (omega arith)
+
+-- n candidates from the front
+pub length-cut : (n : ℕ) (bytes : List ℕ) → length (cut n bytes) ≡ n
+length-cut zero bytes = refl
+length-cut (suc n) bytes = ap suc (length-cut n _)
+
+-- the candidate at a place is the 20 bytes from 20 times that place on
+pub cut-at : (n : ℕ) (bytes : List ℕ) (i : ℕ) → i < n → getD (cut n bytes) i [] ≡ take 20 (drop (20 * i) bytes)
+cut-at zero bytes i h = absurd (omega arith)
+cut-at (suc n) bytes zero h = refl
+cut-at (suc n) bytes (suc i) h =
+    let e : 20 * suc i ≡ 20 + 20 * i = omega arith in
+    cut-at n (drop 20 bytes) i (omega arith) ∙ ap (λ (l : List ℕ). take 20 l) (drop-drop (20 * i) 20 bytes ∙ ap (λ (k : ℕ). drop k bytes) (sym e))
+
+pub candidate-at : (bytes : List ℕ) (i : ℕ) → i < length bytes / 20 → getD (candidatesOf bytes) i [] ≡ take 20 (drop (20 * i) bytes)
+candidate-at bytes i h = cut-at (length bytes / 20) bytes i h
+
+pub length-candidates : (bytes : List ℕ) → length (candidatesOf bytes) ≡ length bytes / 20
+length-candidates bytes = length-cut (length bytes / 20) bytes
+
+-- the validity of all, from a place on
+module _ (all : List (List ℕ)) (i : ℕ) where
+  pub valid-on : i < length all → valid (getD all i []) ≡ true → allValid (drop i all) ≡ allValid (drop (i + 1) all)
+  valid-on h e = rw (ahead all i [] h, e)
+
+  pub valid-not : i < length all → valid (getD all i []) ≡ false → allValid (drop i all) ≡ false
+  valid-not h e = rw (ahead all i [] h, e)
+
+  pub valid-done : length all ≤ i → allValid (drop i all) ≡ true
+  valid-done h = rw (ended all i h)

@@ -1,0 +1,4 @@
+pub mod Candidate
+pub mod Candidates
+pub mod Groups
+pub mod Refusal

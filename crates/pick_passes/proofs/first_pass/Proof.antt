@@ -1,0 +1,166 @@
+-- `first_pass` is the defined first pass: it stands where `Passing` says.
+-- Assumes nothing.
+use mathlib.Core.Logic.{⊎-elim}
+use lib.Seq.{length-take-le}
+use borrow.Author.Needs.{needs}
+use mathlib.Core.Path.{_≡_, _∙_, refl, sym, ap}
+use mathlib.Core.List.{[]}
+use Prim.Native.Nat.{_-_, _/_, _≤_, _<_}
+use native.Mathlib.Omega.{arith}
+use lib.ListN.{length, getD}
+use Rattle.netgroup.specs.declared.Grouped.{Grouped}
+use Rattle.netgroup.specs.Group.{numbering, groupedOf}
+use Rattle.peer_lists.specs.Candidates.{candidatesOf}
+use Rattle.pick_passes.specs.Ranked.{groupsOf, countsOf}
+use Rattle.pick_passes.proofs.Passes.{Passing, passing-start, passing-take, passing-over, passing-full, passing-done}
+use Rattle.peer_lists.proofs.Lists.{length-candidates}
+use Rattle.pick_passes.proofs.Lists.{length-groups, length-counts, group-at, count-at}
+use Rattle.pick_passes.proofs.first_pass.Statement.{statement}
+use Rattle.pick_passes.proofs.first_pass.Tie as tie
+
+abbrev Inv-loop : tie.InvT-loop
+Inv-loop candidates occupied marks max grouping map picks₀ groups₀ n taken₀ instructions₀ i₀ picks groups taken instructions i =
+    (i ≤ n)
+    × (n ≡ length candidates / 20)
+    × (Passing occupied max (groupsOf (numbering grouping map) (candidatesOf candidates)) (countsOf (numbering grouping map) (candidatesOf candidates)) picks₀ groups₀ picks groups taken instructions i)
+
+abbrev μ-loop : tie.MeasureT-loop
+μ-loop candidates occupied marks max grouping map picks₀ groups₀ n taken₀ instructions₀ i₀ picks groups taken instructions i = n - i
+
+loop-holds : tie.Need-loop-holds Inv-loop μ-loop
+loop-holds c = (omega arith, refl, passing-start _ _ _ _ _ _)
+
+candidate-at-requires : tie.Need-candidate-at-requires Inv-loop μ-loop
+candidate-at-requires c κs = search needs
+
+group-of-requires : tie.Need-group-of-requires Inv-loop μ-loop
+group-of-requires c κs = search needs
+
+cast-instructions : tie.Need-cast-instructions Inv-loop μ-loop
+cast-instructions c = search needs
+
+add-instructions : tie.Need-add-instructions Inv-loop μ-loop
+add-instructions c = search needs
+
+slice-reshare-prefix-is-free : tie.Need-slice-reshare-prefix-is-free Inv-loop μ-loop
+slice-reshare-prefix-is-free c = search needs
+
+slice-aggregate-is-free : tie.Need-slice-aggregate-is-free Inv-loop μ-loop
+slice-aggregate-is-free c = sym (length-take-le (c .before .before .before .before .before .before .loop .taken) (c .before .before .before .before .before .before .loop .groups) (c .before .before .before .before .before .before .loop .inv .2 .fit-groups))
+
+is-free-requires : tie.Need-is-free-requires Inv-loop μ-loop
+is-free-requires c κs = search needs
+
+cast-picks : tie.Need-cast-picks Inv-loop μ-loop
+cast-picks c = search needs
+
+mul-picks : tie.Need-mul-picks Inv-loop μ-loop
+mul-picks c = search needs
+
+slice-write-picks : tie.Need-slice-write-picks Inv-loop μ-loop
+slice-write-picks c = search needs
+
+mul-groups : tie.Need-mul-groups Inv-loop μ-loop
+mul-groups c = search needs
+
+slice-write-groups : tie.Need-slice-write-groups Inv-loop μ-loop
+slice-write-groups c = search needs
+
+add-taken : tie.Need-add-taken Inv-loop μ-loop
+add-taken c = search needs
+
+add-i : tie.Need-add-i Inv-loop μ-loop
+add-i c = search needs
+
+loop-less : tie.Need-loop-less Inv-loop μ-loop
+loop-less c = search needs
+
+loop-again : tie.Need-loop-again Inv-loop μ-loop
+loop-again c =
+    let l = c .before .before .before .before .before .before .before .before .loop in
+    let a = c .before .before .before .before .before .before .before .before .before .before .before .before .before .before .before .args in
+    let n = numbering (a .grouping) (a .map .now) in
+    let all = candidatesOf (a .candidates .now) in
+    let q = length-candidates (a .candidates .now) in
+    let i : l .i < length all = omega arith in
+    let r = c .before .before .before .before .group-of .result in
+    let found : r ≡ groupedOf n (getD all (l .i) []) = c .before .before .before .before .group-of .ensures ∙ ap (groupedOf n) (c .before .before .before .before .before .candidate-at .ensures .0) in
+    let same-group : r .group ≡ getD (groupsOf n all) (l .i) 0 = ap (λ (x : Grouped). x .group) found ∙ sym (group-at n all (l .i) i) in
+    let same-count : r .count ≡ getD (countsOf n all) (l .i) 0 = ap (λ (x : Grouped). x .count) found ∙ sym (count-at n all (l .i) i) in
+    ⊎-elim
+    (λ w. (
+      omega arith,
+      refl,
+      rw (w .1, w .2, w .3)
+          (passing-take (a .occupied .now) (a .max) (groupsOf n all) (countsOf n all) (a .picks .now) (a .groups .now) (l .picks) (l .groups) (l .taken) (l .instructions) (l .i) (r .group) (r .count) (l .inv .2)
+          (omega (arith, length-groups n all)) (omega (arith, length-counts n all)) (omega arith) same-group same-count (omega (arith, c .before .before .before .struct-known .given))
+          (omega (arith, l .inv .2 .few, l .inv .2 .long-picks)) (omega (arith, l .inv .2 .few, l .inv .2 .long-groups)) (sym (w .0 .taken) ∙ c .before .is-free .ensures)),
+    ))
+    (λ w. (
+      omega arith,
+      refl,
+      rw (w .1, w .2, w .3)
+          (passing-over (a .occupied .now) (a .max) (groupsOf n all) (countsOf n all) (a .picks .now) (a .groups .now) (l .picks) (l .groups) (l .taken) (l .instructions) (l .i) (r .group) (r .count) (l .inv .2)
+          (omega (arith, length-groups n all)) (omega (arith, length-counts n all)) (omega arith) same-group same-count (omega (arith, c .before .before .before .struct-known .given)) (sym (w .0 .left) ∙ c .before .is-free .ensures)),
+    ))
+    (c .if2 .came)
+
+same-length : tie.Need-same-length Inv-loop μ-loop
+same-length c = search needs
+
+same-length-2 : tie.Need-same-length-2 Inv-loop μ-loop
+same-length-2 c = search needs
+
+returns : tie.Need-returns Inv-loop μ-loop
+returns c =
+    let l = c .before .loop in
+    let a = c .before .before .before .before .before .before .before .before .args in
+    let n = numbering (a .grouping) (a .map .now) in
+    let all = candidatesOf (a .candidates .now) in
+    let q = length-candidates (a .candidates .now) in
+    passing-done (a .occupied .now) (a .max) (groupsOf n all) (countsOf n all) (a .picks .now) (a .groups .now) (l .picks) (l .groups) (l .taken) (l .instructions) (l .i) (l .inv .2) (omega (arith, length-groups n all))
+
+same-length-3 : tie.Need-same-length-3 Inv-loop μ-loop
+same-length-3 c = search needs
+
+same-length-4 : tie.Need-same-length-4 Inv-loop μ-loop
+same-length-4 c = search needs
+
+returns-2 : tie.Need-returns-2 Inv-loop μ-loop
+returns-2 c =
+    let l = c .before .before .loop in
+    let a = c .before .before .before .before .before .before .before .before .before .args in
+    let n = numbering (a .grouping) (a .map .now) in
+    let all = candidatesOf (a .candidates .now) in
+    let q = length-candidates (a .candidates .now) in
+    passing-full (a .occupied .now) (a .max) (groupsOf n all) (countsOf n all) (a .picks .now) (a .groups .now) (l .picks) (l .groups) (l .taken) (l .instructions) (l .i) (l .inv .2) (omega arith)
+
+pub first-pass-spec : {M : Type 1} → statement M
+first-pass-spec =
+    tie.close
+    (tie.spec
+    Inv-loop
+    μ-loop
+    loop-holds
+    candidate-at-requires
+    group-of-requires
+    cast-instructions
+    add-instructions
+    slice-reshare-prefix-is-free
+    slice-aggregate-is-free
+    is-free-requires
+    cast-picks
+    mul-picks
+    slice-write-picks
+    mul-groups
+    slice-write-groups
+    add-taken
+    add-i
+    loop-less
+    loop-again
+    same-length
+    same-length-2
+    returns
+    same-length-3
+    same-length-4
+    returns-2)

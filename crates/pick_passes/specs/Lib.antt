@@ -1,0 +1,5 @@
+pub mod First
+pub mod Ranked
+pub mod Fill
+pub mod Output
+pub mod models
