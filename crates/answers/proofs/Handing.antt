@@ -11,6 +11,16 @@ unfoldable pub Counted : Outcome → Type 0
 Counted (Done numbers) = Unit {0}
 Counted (No n) = 0 < n
 
+-- what is shown of the number of each refusal
+unfoldable pub Refuses : (ℕ → Type 0) → Outcome → Type 0
+Refuses P (Done numbers) = Unit {0}
+Refuses P (No n) = P n
+
+pub counted : (o : Outcome) → Refuses (λ n. 0 < n) o → Counted o
+unfolding Refuses Counted
+counted (Done numbers) h = tt
+counted (No n) h = h
+
 zero : (o : Outcome) (r : ℕ) (lent left : List ℕ) → Counted o → r ∷ left ≡ handed o lent → r ≡ 0 → IsDone o
 unfolding Counted handed IsDone
 zero (Done numbers) r lent left h e z = tt

@@ -6,12 +6,12 @@ use mathlib.Core.List.{List}
 use native.Mathlib.Omega.{arith}
 use lib.Dec.{ltb}
 use lib.ListN.{length}
-use Rattle.asmap_program.specs.Map.{limit, Fetched, Whole, CutOpcode, CutOperand}
+use Rattle.asmap_program.specs.Map.{limit, Fetched, Whole, CutOpcode, CutOperand, Part, Opcode, Operand}
 use Rattle.asmap_codes.specs.Row.{Row, typeRow, operandRow, inRange}
 use Rattle.asmap_codes.specs.Encode.{encodeOf, instructionBits}
 use Rattle.asmap_codes.specs.declared.Code.{Code}
 use Rattle.asmap_codes.specs.declared.Code.the-variants.{Value, Cut}
-use Rattle.asmap_codes.specs.Code.{answered, codeAt, readCode}
+use Rattle.asmap_codes.specs.Code.{answered, partFrom, codeAt, readCode}
 use Rattle.asmap_codes.specs.Instruction.{answeredWhole, fetchAt, readInstruction}
 use Rattle.asmap_encode.specs.declared.Word.{Word}
 use Rattle.asmap_encode.specs.declared.Written.the-variants.{Bits, Refused}
@@ -19,14 +19,15 @@ use Rattle.asmap_encode.specs.Write.{puts, none, pickWritten, writeCode, writeI
 use Rattle.answers.specs.Codes.{codeRead, instructionRead, bitsWritten}
 use Rattle.answers.proofs.Handing.{Counted}
 
-counted-code : (long : Bool) (c : Code) → Counted (codeRead (answered long c))
+counted-code : (p : Part) (long : Bool) (c : Code) → Counted (codeRead (answered p long c))
 unfolding Counted codeRead
-counted-code true c = omega arith
-counted-code false (Value v n) = tt
-counted-code false Cut = omega arith
+counted-code p true c = omega arith
+counted-code p false (Value v n) = tt
+counted-code Opcode false Cut = omega arith
+counted-code Operand false Cut = omega arith
 
 pub code-read : (m : List ℕ) (at : ℕ) (row : Row) → Counted (codeRead (readCode m at row))
-code-read m at row = counted-code (ltb limit (length m)) (codeAt m at row)
+code-read m at row = counted-code (partFrom (row .least)) (ltb limit (length m)) (codeAt m at row)
 
 counted-fetched : (long : Bool) (f : Fetched) → Counted (instructionRead (answeredWhole long f))
 unfolding Counted instructionRead

@@ -1,6 +1,6 @@
--- No refusal of a group call or a pick has the number 0.
+-- Which numbers a group call or a pick refuses with; none of them is 0.
 -- Assumes nothing.
-use Prim.Native.Nat.{ℕ, _/_, _%_, _<_, min}
+use Prim.Native.Nat.{ℕ, _/_, _%_, _≤_, _<_, min}
 use mathlib.Core.Bool.{Bool, true, false, not}
 use mathlib.Core.List.{List}
 use native.Mathlib.Omega.{arith}
@@ -10,105 +10,124 @@ use Rattle.asmap_program.specs.declared.Verdict.{Verdict}
 use Rattle.asmap_program.specs.declared.Verdict.the-variants.{Accepted, Refused}
 use Rattle.asmap_program.specs.Map.{limit}
 use Rattle.asmap_check.specs.Check.{checkOf}
-use Rattle.netgroup.specs.declared.Refusal.{Refusal}
-use Rattle.netgroup.specs.declared.Refusal.the-variants.{None, Number}
-use Rattle.netgroup.specs.Candidate.{valid}
+use Rattle.peer_lists.specs.declared.Refusal.{Refusal}
+use Rattle.peer_lists.specs.declared.Refusal.the-variants.{None, Number}
+use Rattle.peer_lists.specs.Candidate.{valid}
+use Rattle.peer_lists.specs.Candidates.{candidatesOf, allValid}
+use Rattle.peer_lists.specs.Refusal.{refuseIf, orElse, candidateRefusal, listRefusal}
 use Rattle.netgroup.specs.Group.{Numbering, byMap, byPrefixes}
-use Rattle.netgroup.specs.Refusal.{refuseIf, orElse, candidateRefusal, verdictRefusal, limitRefusal, checkRefusal}
+use Rattle.netgroup.specs.Refusal.{verdictRefusal, limitRefusal, checkRefusal}
 use Rattle.netgroup.specs.Netgroup.{groupUnless, groupCall, prefixGroupCall, netgroupOf, netgroupUnchecked}
-use Rattle.netgroup_pick.specs.Candidates.{candidatesOf, allValid}
-use Rattle.netgroup_pick.specs.PickRefusal.{listRefusal, roomRefusal, pickRefusal}
+use Rattle.netgroup_pick.specs.PickRefusal.{roomRefusal, pickRefusal}
 use Rattle.netgroup_pick.specs.Pick.{pickUnless, pickCall, selectDiverse, selectUnchecked}
 use Rattle.answers.specs.Maps.{mapChecked}
 use Rattle.answers.specs.Groups.{groupFound, pickMade}
-use Rattle.answers.proofs.Handing.{Counted}
-use Rattle.answers.proofs.NeverZeroMaps.{map-checked}
+use Rattle.answers.proofs.Handing.{Counted, Refuses, counted}
+use Rattle.answers.proofs.NeverZeroMaps.{map-numbers}
 
--- a refusal that is none, or has a number from 1 on
+-- P: what is shown of the number of a refusal
+module _ (P : ℕ → Type 0) where
+  -- a refusal that is none, or has such a number
+  abbrev pub From : Refusal → Type 0
+  From None = Unit {0}
+  From (Number n) = P n
+
+  either : (a b : Refusal) → From a → From b → From (orElse a b)
+  either None b h k = k
+  either (Number n) b h k = h
+
+  refusing : (b : Bool) (n : ℕ) → P n → From (refuseIf b n)
+  refusing true n h = h
+  refusing false n h = tt
+
+  by-verdict : (v : Verdict) → Refuses P (mapChecked v) → From (verdictRefusal v)
+  unfolding Refuses mapChecked
+  by-verdict (Accepted c d) h = tt
+  by-verdict (Refused n) h = h
+
+  -- a map that the call checks, 1 to 10; a map taken as it is, 1
+  pub by-check : (n : Numbering) → P 1 → ((k : ℕ) → 2 ≤ k → k ≤ 10 → P k) → From (checkRefusal n)
+  by-check (byMap m) one h = by-verdict (checkOf m 128) (map-numbers P h m 128 one)
+  by-check byPrefixes one h = tt
+
+  pub by-limit : (n : Numbering) → P 1 → From (limitRefusal n)
+  by-limit (byMap m) one = refusing (ltb limit (length m)) 1 one
+  by-limit byPrefixes one = tt
+
+  -- ---- groups
+
+  unless-refused : (why : Refusal) (n : Numbering) (c : List ℕ) → From why → Refuses P (groupFound (groupUnless why n c))
+  unfolding Refuses groupFound
+  unless-refused None n c h = tt
+  unless-refused (Number k) n c h = h
+
+  -- ofMap: what is wrong with the map. 13, then that
+  pub group-numbers : (ofMap : Refusal) (n : Numbering) (c : List ℕ) → P 13 → From ofMap → Refuses P (groupFound (groupCall ofMap n c))
+  group-numbers ofMap n c none h =
+      unless-refused (orElse (candidateRefusal c) ofMap) n c (either (candidateRefusal c) ofMap (refusing (not (valid c)) 13 none) h)
+
+  -- ---- pick
+
+  no-list : (a b c d : Bool) → P 12 → P 13 → From (orElse (refuseIf a 13) (orElse (refuseIf b 12) (orElse (refuseIf c 12) (refuseIf d 13))))
+  no-list true b c d many none = none
+  no-list false true c d many none = many
+  no-list false false true d many none = many
+  no-list false false false d many none = refusing d 13 none
+
+  no-room : (a b : Bool) → P 14 → From (orElse (refuseIf a 14) (refuseIf b 14))
+  no-room true b short = short
+  no-room false b short = refusing b 14 short
+
+  module _ (bytes occupied : List ℕ) (max : ℕ) (picks groups : List ℕ) where
+    made-unless : (why : Refusal) (n : Numbering) → From why → Refuses P (pickMade (pickUnless why n (candidatesOf bytes) occupied max picks groups .answer))
+    unfolding Refuses pickMade
+    made-unless None n h = tt
+    made-unless (Number k) n h = h
+
+    listed : P 12 → P 13 → From (listRefusal bytes occupied)
+    listed many none =
+        no-list (not (eqb (length bytes % 20) 0)) (ltb 4096 (length bytes / 20)) (ltb 4096 (length occupied)) (not (allValid (candidatesOf bytes))) many none
+
+    roomy : P 14 → From (roomRefusal (length bytes / 20) max picks groups)
+    roomy short = no-room (ltb (length picks) (min max (length bytes / 20))) (ltb (length groups) (min max (length bytes / 20))) short
+
+    -- 13, 12, 13, what is wrong with the map, 14
+    pub pick-numbers : (ofMap : Refusal) (n : Numbering) → P 12 → P 13 → P 14 → From ofMap
+        → Refuses P (pickMade (pickCall ofMap n bytes occupied max picks groups .answer))
+    pick-numbers ofMap n many none short h =
+        let room = roomRefusal (length bytes / 20) max picks groups in
+        made-unless (pickRefusal ofMap bytes occupied max picks groups) n
+        (either (listRefusal bytes occupied) (orElse ofMap room) (listed many none) (either ofMap room h (roomy short)))
+
+-- ---- none of them is 0
+
 abbrev From1 : Refusal → Type 0
-From1 None = Unit {0}
-From1 (Number n) = 0 < n
+From1 = From (λ n. 0 < n)
 
-either : (a b : Refusal) → From1 a → From1 b → From1 (orElse a b)
-either None b h k = k
-either (Number n) b h k = h
+by-check-1 : (n : Numbering) → From1 (checkRefusal n)
+by-check-1 n = by-check (λ n. 0 < n) n (omega arith) (λ k l h. omega arith)
 
-by-verdict : (v : Verdict) → Counted (mapChecked v) → From1 (verdictRefusal v)
-unfolding Counted mapChecked
-by-verdict (Accepted c d) h = tt
-by-verdict (Refused n) h = h
+by-limit-1 : (n : Numbering) → From1 (limitRefusal n)
+by-limit-1 n = by-limit (λ n. 0 < n) n (omega arith)
 
-by-check : (n : Numbering) → From1 (checkRefusal n)
-by-check (byMap m) = by-verdict (checkOf m 128) (map-checked m 128)
-by-check byPrefixes = tt
-
-by-limit : (n : Numbering) → From1 (limitRefusal n)
-by-limit (byMap m) = too-long (ltb limit (length m))
-  where
-    too-long : (b : Bool) → From1 (refuseIf b 1)
-    too-long true = omega arith
-    too-long false = tt
-by-limit byPrefixes = tt
-
--- ---- groups
-
-no-candidate : (b : Bool) → From1 (refuseIf b 13)
-no-candidate true = omega arith
-no-candidate false = tt
-
-counted-group : (why : Refusal) (n : Numbering) (c : List ℕ) → From1 why → Counted (groupFound (groupUnless why n c))
-unfolding Counted groupFound
-counted-group None n c h = tt
-counted-group (Number k) n c h = h
-
--- ofMap: what is wrong with the map
 group-found : (ofMap : Refusal) (n : Numbering) (c : List ℕ) → From1 ofMap → Counted (groupFound (groupCall ofMap n c))
-group-found ofMap n c h =
-    counted-group (orElse (candidateRefusal c) ofMap) n c (either (candidateRefusal c) ofMap (no-candidate (not (valid c))) h)
+group-found ofMap n c h = counted _ (group-numbers (λ n. 0 < n) ofMap n c (omega arith) h)
 
 pub prefix-group-found : (c : List ℕ) → Counted (groupFound (prefixGroupCall c))
 prefix-group-found c = group-found None byPrefixes c tt
 
 pub netgroup-found : (n : Numbering) (c : List ℕ) → Counted (groupFound (netgroupOf n c))
-netgroup-found n c = group-found (checkRefusal n) n c (by-check n)
+netgroup-found n c = group-found (checkRefusal n) n c (by-check-1 n)
 
 pub unchecked-found : (n : Numbering) (c : List ℕ) → Counted (groupFound (netgroupUnchecked n c))
-unchecked-found n c = group-found (limitRefusal n) n c (by-limit n)
-
--- ---- pick
-
-no-list : (a b c d : Bool) → From1 (orElse (refuseIf a 13) (orElse (refuseIf b 12) (orElse (refuseIf c 12) (refuseIf d 13))))
-no-list true b c d = omega arith
-no-list false true c d = omega arith
-no-list false false true d = omega arith
-no-list false false false true = omega arith
-no-list false false false false = tt
-
-no-room : (a b : Bool) → From1 (orElse (refuseIf a 14) (refuseIf b 14))
-no-room true b = omega arith
-no-room false true = omega arith
-no-room false false = tt
+unchecked-found n c = group-found (limitRefusal n) n c (by-limit-1 n)
 
 module _ (bytes occupied : List ℕ) (max : ℕ) (picks groups : List ℕ) where
-  listed : From1 (listRefusal bytes occupied)
-  listed = no-list (not (eqb (length bytes % 20) 0)) (ltb 4096 (length bytes / 20)) (ltb 4096 (length occupied)) (not (allValid (candidatesOf bytes)))
-
-  roomy : From1 (roomRefusal (length bytes / 20) max picks groups)
-  roomy = no-room (ltb (length picks) (min max (length bytes / 20))) (ltb (length groups) (min max (length bytes / 20)))
-
-  counted-pick : (why : Refusal) (n : Numbering) → From1 why → Counted (pickMade (pickUnless why n (candidatesOf bytes) occupied max picks groups .answer))
-  unfolding Counted pickMade
-  counted-pick None n h = tt
-  counted-pick (Number k) n h = h
-
   pick-made : (ofMap : Refusal) (n : Numbering) → From1 ofMap → Counted (pickMade (pickCall ofMap n bytes occupied max picks groups .answer))
-  pick-made ofMap n h =
-      let room = roomRefusal (length bytes / 20) max picks groups in
-      counted-pick (pickRefusal ofMap bytes occupied max picks groups) n
-      (either (listRefusal bytes occupied) (orElse ofMap room) listed (either ofMap room h roomy))
+  pick-made ofMap n h = counted _ (pick-numbers (λ n. 0 < n) bytes occupied max picks groups ofMap n (omega arith) (omega arith) (omega arith) h)
 
   pub diverse-made : (n : Numbering) → Counted (pickMade (selectDiverse n bytes occupied max picks groups .answer))
-  diverse-made n = pick-made (checkRefusal n) n (by-check n)
+  diverse-made n = pick-made (checkRefusal n) n (by-check-1 n)
 
   pub unchecked-made : (n : Numbering) → Counted (pickMade (selectUnchecked n bytes occupied max picks groups .answer))
-  unchecked-made n = pick-made (limitRefusal n) n (by-limit n)
+  unchecked-made n = pick-made (limitRefusal n) n (by-limit-1 n)

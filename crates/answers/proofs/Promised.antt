@@ -1,19 +1,21 @@
 -- What the crates below promise of their answers, carried over to the numbers that the calls hand out: demand 3 for walk and pick,
--- what Core answers, and that no walk behind a group aborts.
+-- what Core answers, and how each walk behind a group ends.
 -- Assumes nothing.
 use Prim.Native.Nat.{ℕ}
-use mathlib.Core.Path.{_≡_, _∙_, refl, sym, ap, subst}
-use mathlib.Core.Logic.{_⊎_, inl, inr, _≢_}
+use mathlib.Core.Path.{_≡_, _∙_, sym, ap, subst}
+use mathlib.Core.Logic.{_⊎_, inl, inr}
 use mathlib.Core.List.{List, [], _∷_}
 use native.Mathlib.Omega.{arith}
 use borrow.Author.Tests.{eq-eqb, ne-eqb}
 use Rattle.asmap_program.specs.declared.Kind.{Kind}
-use Rattle.asmap_program.specs.declared.Kind.the-variants.{Returned, Differed, Aborted}
 use Rattle.asmap_program.specs.declared.Verdict.{Verdict}
 use Rattle.asmap_program.specs.declared.Verdict.the-variants as verdict
-use Rattle.asmap_program.specs.Core.{Number}
+use Rattle.asmap_program.specs.Core.{Read, Number}
+use Rattle.asmap_program.specs.Demand.{NoDefault, Answers}
+use Rattle.asmap_codes.specs.declared.Decoded.{Decoded}
+use Rattle.asmap_codes.specs.declared.Decoded.the-variants as code
+use Rattle.asmap_codes.specs.Core.{CoreReads}
 use Rattle.asmap_check.specs.Check.{LikeCore}
-use Rattle.asmap_walk.specs.declared.Ending.{Ending}
 use Rattle.asmap_walk.specs.declared.Interpreted.{Interpreted}
 use Rattle.asmap_walk.specs.declared.Interpreted.the-variants.{Ended}
 use Rattle.asmap_walk.specs.Interpret.{walkOf, summary}
@@ -26,26 +28,29 @@ use Rattle.netgroup_pick.specs.Pick.{Handed}
 use Rattle.netgroup_pick.specs.Pick as below
 use Rattle.answers.specs.Outcome.{handed, IsDone, Hands}
 use Rattle.answers.specs.Maps.{mapChecked, kindNumber, endNumbers, walkMade}
+use Rattle.answers.specs.Codes.{codeRead}
 use Rattle.answers.specs.Groups.{groupFound, totalsOf, pickMade, Picks}
-use Rattle.answers.specs.Promise.{Finished, Demand3, CoreVerdict, CoreNumber}
+use Rattle.answers.specs.Promise.{Finished, Demand3, CoreVerdict, CoreNumber, CoreCode}
 use Rattle.answers.proofs.Handing.{Counted, hands}
 
 -- ---- the walk
 
--- an end that is no abort has the number 1 or 2
-no-abort : (k : Kind) (n : ℕ) → n ≡ kindNumber k → k ≢ Aborted → (n ≡ 1) ⊎ (n ≡ 2)
-no-abort Returned n e h = inl e
-no-abort Differed n e h = inr e
-no-abort Aborted n e h = absurd (h refl)
+-- an end at a RETURN or at a difference has the number 1 or 2
+numbered : (k : Kind) (n : ℕ) → n ≡ kindNumber k → Answers k → (n ≡ 1) ⊎ (n ≡ 2)
+numbered k n e (inl h) = inl (e ∙ ap kindNumber h)
+numbered k n e (inr h) = inr (e ∙ ap kindNumber h)
 
 finished : (m a : List ℕ) (r kind number count bits : ℕ) → walk.Kept m a 128 (summary (walkOf m a 128))
     → r ∷ kind ∷ number ∷ count ∷ bits ∷ [] ≡ 0 ∷ endNumbers (summary (walkOf m a 128)) → Finished m a r kind number count bits
 finished m a r kind number count bits k e =
     let w = summary (walkOf m a 128) in
     let ek : kind ≡ kindNumber (w .kind) = cc in
+    let en : w .number ≡ number = cc in
     let ec : count ≡ w .count = cc in
     let eb : bits ≡ w .bits = cc in
-    record { done = cc; exact = cc; ended = no-abort (w .kind) kind ek (k .ended); bounded = omega (arith, k .bounded); most = omega (arith, k .most); kept = k }
+    let zero : number ≡ 0 → (kind ≡ 2) × NoDefault (walkOf m a 128 .read) =
+    λ z. let d = k .zero (en ∙ z) in (ek ∙ ap kindNumber (d .0), d .1) in
+    record { done = cc; exact = cc; ended = numbered (w .kind) kind ek (k .ended); zero = zero; bounded = omega (arith, k .bounded); most = omega (arith, k .most); kept = k }
 
 pub walk-finished : (m a : List ℕ) (x : Interpreted) (r kind number count bits : ℕ) (lent : List ℕ) → walk.Demand3 m a x
     → r ∷ kind ∷ number ∷ count ∷ bits ∷ [] ≡ handed (walkMade x) lent → Demand3 m a r kind number count bits
@@ -65,6 +70,25 @@ core-number m a x r kind number count bits lent p e c d h l =
     let q : r ∷ kind ∷ number ∷ count ∷ bits ∷ [] ≡ 0 ∷ endNumbers (t .0) = rw (t .1) at e in
     let n : t .0 .number ≡ number = cc in
     t .2 ∙ ap Number n
+
+-- ---- a code that was read is what Core reads
+
+read-by-core : (m : List ℕ) (at : ℕ) (x : Decoded) {answer value next : ℕ} {lent : List ℕ} {r : Read}
+    → CoreReads m at x r → Hands (codeRead x) answer lent (value ∷ next ∷ []) → CoreCode m at answer value next r
+unfolding handed IsDone codeRead
+read-by-core m at (code.Found v n) {answer} {value} {next} p h l k =
+    let e = h .numbers in
+    let ea : answer ≡ 0 = cc in
+    let ev : v ≡ value = cc in
+    let en : n ≡ next = cc in
+    let q = p l k in
+    (λ _. (q .0 ∙ ap (λ (w : ℕ). record { value = w; pos = n }) ev ∙ ap (λ (w : ℕ). record { value = value; pos = w }) en, omega (arith, q .1)), λ z. absurd (z ea))
+read-by-core m at (code.Refused n) p h l k = (λ z. absurd (h .zero-is-done z), λ _. p l k)
+
+-- x: what the crate below answered; y: what its definition says
+pub core-code : (m : List ℕ) (at : ℕ) {x y : Decoded} {answer value next : ℕ} {lent : List ℕ} (r : Read)
+    → x ≡ y → CoreReads m at x r → Hands (codeRead y) answer lent (value ∷ next ∷ []) → CoreCode m at answer value next r
+core-code m at {y} r e p h = read-by-core m at y (subst (λ (d : Decoded). CoreReads m at d r) e p) h
 
 -- ---- the check: 0 where Core accepts, and no other number
 

@@ -1,26 +1,29 @@
 -- Demand 3 for the walk, and what Bitcoin Core answers to the same bytes, in the numbers that the calls hand out.
 -- Assumes nothing.
-use Prim.Native.Nat.{ℕ, _+_, _*_, _≤_}
+use Prim.Native.Nat.{ℕ, _+_, _*_, _≤_, _<_}
 use mathlib.Core.Path.{_≡_}
-use mathlib.Core.Logic.{_⊎_}
+use mathlib.Core.Logic.{_⊎_, _≢_}
 use mathlib.Core.List.{List, [], _∷_}
 use lib.Dec.{eqb}
 use lib.ListN.{length}
 use Rattle.asmap_program.specs.declared.Verdict.the-variants.{Accepted}
 use Rattle.asmap_program.specs.Map.{limit, addressBit}
-use Rattle.asmap_program.specs.Core.{coreCheck, Number, coreInterpret}
+use Rattle.asmap_program.specs.Core.{Read, INVALID, coreCheck, Number, coreInterpret}
+use Rattle.asmap_program.specs.Demand.{NoDefault}
 use Rattle.asmap_codes.specs.Core.{fileOf}
 use Rattle.asmap_check.specs.Check.{checkOf}
 use Rattle.asmap_walk.specs.Interpret.{walkOf, summary}
 use Rattle.asmap_walk.specs.Promise.{Kept}
 use Rattle.answers.specs.Maps.{endNumbers}
 
--- The walk of the map m by the address a was made, and came to the end of the defined walk: at a RETURN, 1, or at a difference, 2,
--- never an abort; within so many instructions. `kept` says the rest of that end, as that each instruction read is in the unpacked list.
+-- The walk of the map m by the address a was made, and came to the end of the defined walk: at a RETURN, 1, or at a difference, 2;
+-- within so many instructions. The number 0 is only that of a difference before any DEFAULT was read. `kept` says the rest of that
+-- end, as that each instruction read is in the unpacked list.
 pub record Finished (m a : List ℕ) (r kind number count bits : ℕ) : Type 0 where
   pub done : r ≡ 0
   pub exact : kind ∷ number ∷ count ∷ bits ∷ [] ≡ endNumbers (summary (walkOf m a 128))
   pub ended : (kind ≡ 1) ⊎ (kind ≡ 2)
+  pub zero : number ≡ 0 → (kind ≡ 2) × NoDefault (walkOf m a 128 .read)
   pub bounded : count ≤ 2 * bits + 1
   pub most : count ≤ 257
   pub kept : Kept m a 128 (summary (walkOf m a 128))
@@ -37,3 +40,11 @@ CoreVerdict m r = length m ≤ limit → coreCheck (fileOf m) 128 ≡ eqb r 0
 -- Core's Interpret gives the number that the walk's call hands out, wherever the check accepts the map, for every address of 16 bytes.
 abbrev pub CoreNumber : List ℕ → List ℕ → ℕ → Type 0
 CoreNumber m a number = (c d : ℕ) → checkOf m 128 ≡ Accepted c d → length a ≡ 16 → coreInterpret (addressBit a) 128 (fileOf m) ≡ Number number
+
+-- Core's DecodeBits (r: its answer) reads at that bit what a call that reads a code hands out: where the call answers 0, the value,
+-- which is never INVALID, and the bit after it; where it refuses, INVALID. Of a map within the limit, which Core does not have, and from
+-- a bit up to the map's end, past which Core never reads.
+abbrev pub CoreCode : List ℕ → ℕ → ℕ → ℕ → ℕ → Read → Type 0
+CoreCode m at answer value next r =
+    length m ≤ limit → at ≤ 8 * length m
+    → (answer ≡ 0 → (r ≡ record { value = value; pos = next }) × (value < INVALID)) × (answer ≢ 0 → r .value ≡ INVALID)

@@ -5,7 +5,9 @@ ghost use Rattle.asmap_codes.specs.Code.{readCode};
 ghost use Rattle.asmap_codes.specs.Instruction.{readInstruction};
 ghost use Rattle.asmap_encode.specs.Write.{writeCode, writeInstruction};
 ghost use Rattle.answers.specs.Outcome.{Hands};
+ghost use Rattle.asmap_codes.specs.Core.{fileOf};
 ghost use Rattle.answers.specs.Codes.{codeRead, instructionRead, bitsWritten};
+ghost use Rattle.answers.specs.Promise.{CoreCode};
 use answers::codes::hand_bits;
 use answers::codes::hand_code;
 use answers::codes::hand_instruction;
@@ -21,6 +23,7 @@ pub extern "C" fn corbastrigo_decode_type(
     next: &mut usize,
 ) -> u8
     ensures { λ r. ⌜ Hands (codeRead (readCode (now (map .entry)) at typeRow)) r (now (value .entry) ∷ now (next .entry) ∷ []) (now (value .exit) ∷ now (next .exit) ∷ []) ⌝ }
+    ensures core { λ r. ⌜ CoreCode (now (map .entry)) at r (now (value .exit)) (now (next .exit)) (fileOf (now (map .entry)) .decodeType at) ⌝ }
 {
     hand_code(asmap_decode::decode_type(map, at), value, next)
 }
@@ -34,6 +37,7 @@ pub extern "C" fn corbastrigo_decode_asn(
     next: &mut usize,
 ) -> u8
     ensures { λ r. ⌜ Hands (codeRead (readCode (now (map .entry)) at asnRow)) r (now (value .entry) ∷ now (next .entry) ∷ []) (now (value .exit) ∷ now (next .exit) ∷ []) ⌝ }
+    ensures core { λ r. ⌜ CoreCode (now (map .entry)) at r (now (value .exit)) (now (next .exit)) (fileOf (now (map .entry)) .decodeASN at) ⌝ }
 {
     hand_code(asmap_decode::decode_asn(map, at), value, next)
 }
@@ -47,6 +51,7 @@ pub extern "C" fn corbastrigo_decode_match(
     next: &mut usize,
 ) -> u8
     ensures { λ r. ⌜ Hands (codeRead (readCode (now (map .entry)) at matchRow)) r (now (value .entry) ∷ now (next .entry) ∷ []) (now (value .exit) ∷ now (next .exit) ∷ []) ⌝ }
+    ensures core { λ r. ⌜ CoreCode (now (map .entry)) at r (now (value .exit)) (now (next .exit)) (fileOf (now (map .entry)) .decodeMatch at) ⌝ }
 {
     hand_code(asmap_decode::decode_match(map, at), value, next)
 }
@@ -60,6 +65,7 @@ pub extern "C" fn corbastrigo_decode_jump(
     next: &mut usize,
 ) -> u8
     ensures { λ r. ⌜ Hands (codeRead (readCode (now (map .entry)) at jumpRow)) r (now (value .entry) ∷ now (next .entry) ∷ []) (now (value .exit) ∷ now (next .exit) ∷ []) ⌝ }
+    ensures core { λ r. ⌜ CoreCode (now (map .entry)) at r (now (value .exit)) (now (next .exit)) (fileOf (now (map .entry)) .decodeJump at) ⌝ }
 {
     hand_code(asmap_decode::decode_jump(map, at), value, next)
 }

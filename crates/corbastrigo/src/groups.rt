@@ -2,10 +2,10 @@
 // the map is not looked at. Any other number is with it.
 ghost use mathlib.Core.Path.{_≡_};
 ghost use mathlib.Core.List.{_∷_, []};
+ghost use Rattle.peer_lists.specs.Candidates.{candidatesOf};
 ghost use Rattle.netgroup.specs.Group.{numbering};
 ghost use Rattle.netgroup.specs.Netgroup.{prefixGroupCall, netgroupOf, netgroupUnchecked, Whole};
 ghost use Rattle.netgroup.specs.Refusal.{checkRefusal};
-ghost use Rattle.netgroup_pick.specs.Candidates.{candidatesOf};
 ghost use Rattle.netgroup_pick.specs.Pick.{selectDiverse, selectUnchecked};
 ghost use Rattle.netgroup_pick.specs.Demand.{Demand3, Unaborted};
 ghost use Rattle.answers.specs.Outcome.{Hands};
@@ -14,8 +14,8 @@ use answers::groups::grouping_of;
 use answers::groups::hand_group;
 use answers::groups::hand_pick;
 use netgroup::GroupAnswer;
-use netgroup::Refusal;
 use netgroup_pick::PickAnswer;
+use peer_lists::Refusal;
 
 // The group of a candidate of 20 bytes by its prefix. Refusal 13.
 #[no_mangle]
@@ -51,6 +51,7 @@ pub extern "C" fn corbastrigo_netgroup_unchecked(
     group: &mut u64,
 ) -> u8
     ensures { λ r. ⌜ Hands (groupFound (netgroupUnchecked (numbering (groupingOf «has_map») (now (map .entry))) (now (candidate .entry)))) r (now (group .entry) ∷ []) (now (group .exit) ∷ []) ⌝ }
+    ensures unaborted { λ r. ⌜ (checkRefusal (numbering (groupingOf «has_map») (now (map .entry))) ≡ Refusal.None → r ≡ 0 → Whole (numbering (groupingOf «has_map») (now (map .entry))) (now (candidate .entry)) (GroupAnswer.Group (now (group .exit)))) ⌝ }
 {
     hand_group(
         netgroup::netgroup_unchecked(candidate, grouping_of(has_map), map),

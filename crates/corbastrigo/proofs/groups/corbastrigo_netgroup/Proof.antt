@@ -1,4 +1,4 @@
--- The group that was found is handed out, and its walk did not abort.
+-- The group that was found is handed out, with how its walk ended.
 -- Assumes nothing.
 use mathlib.Core.Path.{_∙_, subst}
 use Rattle.netgroup.specs.Group.{numbering}

@@ -1,9 +1,12 @@
--- The group that was found is handed out.
+-- The group that was found is handed out, with how its walk ended where the check accepts the map.
 -- Assumes nothing.
+use mathlib.Core.Path.{_∙_, subst}
 use Rattle.netgroup.specs.Group.{numbering}
+use Rattle.netgroup.specs.Netgroup.{netgroupUnchecked, Whole}
 use Rattle.answers.specs.Groups.{groupFound}
 use Rattle.answers.proofs.Handing.{hands}
 use Rattle.answers.proofs.NeverZeroGroups.{unchecked-found}
+use Rattle.answers.proofs.Promised.{found}
 use borrow.Author.Needs.{needs}
 use Rattle.corbastrigo.proofs.groups.corbastrigo_netgroup_unchecked.Statement.{statement}
 use Rattle.corbastrigo.proofs.groups.corbastrigo_netgroup_unchecked.Tie as tie
@@ -20,8 +23,10 @@ hand-group-requires c κs = search needs
 returns : tie.Need-returns
 returns c =
     let a = c .before .before .before .before .before .before .args in
-    rw (← (c .before .before .before .grouping-of .ensures))
-    (hands groupFound (c .before .before .netgroup-unchecked .ensures) (unchecked-found (numbering (c .before .before .before .grouping-of .result) (a .map .now)) (a .candidate .now)) (c .hand-group .ensures))
+    let g = c .before .before .netgroup-unchecked .ensures in
+    let n = numbering (c .before .before .before .grouping-of .result) (a .map .now) in
+    let h = hands groupFound (g .0) (unchecked-found n (a .candidate .now)) (c .hand-group .ensures) in
+    rw (← (c .before .before .before .grouping-of .ensures)) (h, λ e z. subst (Whole n (a .candidate .now)) (g .0 ∙ found (netgroupUnchecked n (a .candidate .now)) h z) (g .1 e))
 
 pub corbastrigo-netgroup-unchecked-spec : {M : Type 1} → statement M
 corbastrigo-netgroup-unchecked-spec =

@@ -1,0 +1,11 @@
+pub mod AnswerLaws
+pub mod CodeAnswers
+pub mod TripLaws
+pub mod MapAnswers
+pub mod WalkLaws
+pub mod RecordAnswers
+pub mod CandidateLaws
+pub mod PickLaws
+pub mod PickAnswers
+pub mod FilterAnswers
+pub mod CoreAnswers

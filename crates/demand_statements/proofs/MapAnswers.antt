@@ -1,0 +1,138 @@
+-- The numbers of check, walk, unpack and pack.
+-- Assumes nothing.
+use Prim.Native.Nat.{ℕ, _%_, _≤_, _<_}
+use mathlib.Core.Path.{_≡_, _∙_, refl, sym, ap}
+use mathlib.Core.Bool.{Bool, true, false, not}
+use mathlib.Core.Logic.{_⊎_, inl, inr, _≢_}
+use mathlib.Core.List.{List, [], _∷_}
+use native.Mathlib.Omega.{arith}
+use native.Mathlib.Decide.{decLe}
+use borrow.Author.Tests.{lt-ltb, le-ltb, eq-eqb, ne-eqb}
+use lib.Dec.{ltb, eqb}
+use lib.ListN.{length}
+use Rattle.asmap_program.specs.declared.Verdict.the-variants.{Refused}
+use Rattle.asmap_program.specs.Map.{limit}
+use Rattle.asmap_program.specs.Walk.{Walked}
+use Rattle.asmap_program.specs.Check.{check}
+use Rattle.asmap_codes.specs.Instruction.{mapOf}
+use Rattle.asmap_check.specs.Check.{unlessLong, checkOf}
+use Rattle.asmap_walk.specs.declared.Ending.{Ending}
+use Rattle.asmap_walk.specs.declared.Interpreted.{Interpreted}
+use Rattle.asmap_walk.specs.declared.Interpreted.the-variants.{Ended}
+use Rattle.asmap_walk.specs.Interpret.{walkOf, summary, interpretOf, refusedIf}
+use Rattle.asmap_records.specs.Output.{Result, No, refuse, within, answerOf}
+use Rattle.asmap_records.specs.Unpack.{unpackOf}
+use Rattle.asmap_records.specs.Pack.{packBits, packOf}
+use Rattle.asmap_records.proofs.OutputLaws.{made-same}
+use Rattle.answers.specs.Outcome.{handed, IsDone, Hands}
+use Rattle.answers.specs.Maps.{mapChecked, kindNumber, endNumbers, walkMade, bytesWritten, Writes}
+use Rattle.answers.proofs.NeverZeroMaps.{check-numbers, map-numbers, unpack-numbers, pack-numbers}
+use Rattle.demand_statements.specs.AnyInput.{Checks, Told, Walks, Unpacks, Packs}
+use Rattle.demand_statements.proofs.AnswerLaws.{kept, numbered, refused-as, done-as, handed-out, refused-by}
+use Rattle.demand_statements.proofs.TripLaws.{wrote, no-room, left-alone, unpack-made, unpack-size, unpack-answers}
+
+-- ---- the check
+
+at-most-10 : {r : ℕ} → (r ≡ 0) ⊎ (r ≤ 10) → r ≤ 10
+at-most-10 (inl z) = omega arith
+at-most-10 (inr l) = l
+
+module _ (m : List ℕ) {r : ℕ} {entry exit : List ℕ} where
+  pub check-10 : Hands (mapChecked (checkOf m 128)) r entry exit → r ≤ 10
+  check-10 h = at-most-10 (numbered (λ n. n ≤ 10) _ (map-numbers (λ n. n ≤ 10) (λ n l k. k) m 128 (omega arith)) h)
+
+  -- 1 is for long maps
+  long-only : Hands (mapChecked (checkOf m 128)) r entry exit → r ≡ 1 → 16777216 < length m
+  long-only h z = by (decLe (length m) 16777216)
+    where
+      not-1 : (r ≡ 0) ⊎ (2 ≤ r) → 16777216 < length m
+      not-1 (inl k) = absurd (omega arith)
+      not-1 (inr k) = absurd (omega arith)
+
+      by : Dec (length m ≤ 16777216) → 16777216 < length m
+      by (yes l) =
+          not-1 (numbered (λ n. 2 ≤ n) (mapChecked (check (mapOf m) 128)) (check-numbers (λ n. 2 ≤ n) (λ n l k. l) (mapOf m) 128) (rw (le-ltb limit (length m) l) at h))
+      by (no l) = omega arith
+
+  pub checks : Hands (mapChecked (checkOf m 128)) r entry exit → Checks m r entry exit
+  unfolding mapChecked
+  checks h = record {
+    numbers = check-10 h;
+    accepted = λ c d e. handed-out (checkOf m 128) e h;
+    refused = λ n e. refused-by (checkOf m 128) e h;
+    too-long = λ l. refused-as _ (ap (λ (b : Bool). mapChecked (unlessLong b (check (mapOf m) 128))) (lt-ltb limit (length m) l)) h;
+    only-then = long-only h;
+    untouched = kept _ h;
+  }
+
+-- ---- the walk
+
+-- the numbers of a walk that was made, by the call's two tests
+ends-with : (sixteen long : Bool) (e : Ending) {r kind number count bits : ℕ} {entry : List ℕ}
+    → Hands (walkMade (refusedIf (not sixteen) 11 (refusedIf long 1 (Ended e)))) r entry (kind ∷ number ∷ count ∷ bits ∷ [])
+    → r ≡ 0 → kind ∷ number ∷ count ∷ bits ∷ [] ≡ endNumbers e
+unfolding handed IsDone walkMade
+ends-with false long e h z = absurd (h .zero-is-done z)
+ends-with true true e h z = absurd (h .zero-is-done z)
+ends-with true false e h z = let k = h .numbers in cc
+
+told : (w : Walked) {kind number count bits : ℕ} → kind ∷ number ∷ count ∷ bits ∷ [] ≡ endNumbers (summary w) → Told w kind number count bits
+told w {kind} e =
+    let k : kind ≡ kindNumber (w .kind) = cc in
+    record { returned = λ q. k ∙ ap kindNumber q; differed = λ q. k ∙ ap kindNumber q; aborted = λ q. k ∙ ap kindNumber q; same-number = cc; same-count = cc; same-bits = cc }
+
+pub walks : (m a : List ℕ) {r kind number count bits : ℕ} {entry : List ℕ}
+    → Hands (walkMade (interpretOf m a)) r entry (kind ∷ number ∷ count ∷ bits ∷ []) → Walks m a r entry kind number count bits
+unfolding walkMade
+walks m a h =
+    let e = summary (walkOf m a 128) in
+    let long = ltb limit (length m) in
+    let by : Bool → Interpreted = λ (b : Bool). refusedIf (not b) 11 (refusedIf long 1 (Ended e)) in
+    let sixteen : length a ≡ 16 → walkMade (interpretOf m a) ≡ walkMade (refusedIf long 1 (Ended e)) = λ l. ap (λ (b : Bool). walkMade (by b)) (eq-eqb (length a) 16 l) in
+    record {
+      no-address = λ n. refused-as _ (ap (λ (b : Bool). walkMade (by b)) (ne-eqb (length a) 16 n)) h;
+      too-long = λ l k. refused-as _ (sixteen l ∙ ap (λ (b : Bool). walkMade (refusedIf b 1 (Ended e))) (lt-ltb limit (length m) k)) h;
+      answered = λ l k. done-as _ (sixteen l ∙ ap (λ (b : Bool). walkMade (refusedIf b 1 (Ended e))) (le-ltb limit (length m) k)) h;
+      told = λ z. told (walkOf m a 128) (ends-with (eqb (length a) 16) long e h z);
+      untouched = kept _ h;
+    }
+
+-- ---- unpack and pack
+
+check-or-14 : {r : ℕ} → (r ≡ 0) ⊎ ((r ≤ 10) ⊎ (r ≡ 14)) → (r ≤ 10) ⊎ (r ≡ 14)
+check-or-14 (inl z) = inl (omega arith)
+check-or-14 (inr k) = k
+
+not-made : (m : List ℕ) (n : ℕ) → checkOf m 128 ≡ Refused n → unpackOf m 128 ≡ No n
+unfolding unpackOf
+not-made m n e = rw e
+
+pub unpacks : (m o o′ : List ℕ) {r written written′ : ℕ} → Writes (unpackOf m 128) o o′ r (written ∷ []) (written′ ∷ []) → Unpacks m o o′ r written written′
+unfolding bytesWritten
+unpacks m o o′ {r} {written} {written′} w = record {
+  numbers = check-or-14 (numbered (λ n. (n ≤ 10) ⊎ (n ≡ 14)) _ (unpack-numbers (λ n. (n ≤ 10) ⊎ (n ≡ 14)) (length o) m 128 (inr refl) (map-numbers (λ n. (n ≤ 10) ⊎ (n ≡ 14)) (λ n l k. inl k) m 128 (inl (omega arith)))) (w .hands));
+  refused = λ n e. refused-as _ (ap (λ (x : Result). bytesWritten (answerOf (within (length o) x))) (not-made m n e)) (w .hands);
+  answered = λ c d e k.
+      let z = unpack-answers m o o′ c d e k w in
+      let u = wrote (unpackOf m 128) w z in
+      (z, u .many ∙ ap length (made-same (sym (unpack-made m c d e) ∙ u .these)) ∙ unpack-size m c d e);
+  no-room = λ c d e k. no-room (unpackOf m 128) _ o o′ (unpack-made m c d e) (omega (arith, unpack-size m c d e)) w;
+  past = λ z. wrote (unpackOf m 128) w z .past;
+  untouched = left-alone (unpackOf m 128) w;
+}
+
+no-whole : (rs : List ℕ) → length rs % 16 ≢ 0 → packOf rs ≡ No 16
+unfolding packOf packBits refuse
+no-whole rs n = rw (ne-eqb (length rs % 16) 0 n)
+
+abbrev PackNumber : ℕ → Type 0
+PackNumber n = (n ≡ 1) ⊎ ((n ≡ 14) ⊎ ((n ≡ 15) ⊎ (n ≡ 16)))
+
+pub packs : (rs o o′ : List ℕ) {r written written′ : ℕ} → Writes (packOf rs) o o′ r (written ∷ []) (written′ ∷ []) → Packs rs o o′ r written written′
+unfolding bytesWritten
+packs rs o o′ w = record {
+  numbers = numbered PackNumber _ (pack-numbers PackNumber (inl refl) (inr (inr (inl refl))) (inr (inr (inr refl))) (length o) rs (inr (inl refl))) (w .hands);
+  no-records = λ n. refused-as _ (ap (λ (x : Result). bytesWritten (answerOf (within (length o) x))) (no-whole rs n)) (w .hands);
+  past = λ z. wrote (packOf rs) w z .past;
+  untouched = left-alone (packOf rs) w;
+}

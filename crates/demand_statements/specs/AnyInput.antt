@@ -1,0 +1,163 @@
+-- Demand 1 as a caller reads it: of each call which numbers it can answer and when, and that a refused call writes nothing. r is the
+-- answer; what is lent stands at entry first, at exit second. 16,777,216 is the greatest length of a map.
+-- Assumes nothing.
+use Prim.Native.Nat.{ℕ, zero, suc, _+_, _*_, _/_, _%_, _≤_, _<_, min}
+use mathlib.Core.Path.{_≡_}
+use mathlib.Core.Logic.{_⊎_, _≢_}
+use mathlib.Core.List.{List, [], _∷_}
+use lib.ListN.{length, take, drop, getD}
+use Rattle.asmap_program.specs.declared.Kind.the-variants.{Returned, Differed, Aborted}
+use Rattle.asmap_program.specs.declared.Verdict.the-variants.{Accepted, Refused}
+use Rattle.asmap_program.specs.Walk.{Walked}
+use Rattle.asmap_check.specs.Check.{checkOf}
+use Rattle.asmap_walk.specs.Interpret.{walkOf}
+
+-- refused, it leaves all as it was
+abbrev pub Untouched : ℕ → List ℕ → List ℕ → Type 0
+Untouched r entry exit = r ≢ 0 → exit ≡ entry
+
+-- ---- codes and instructions
+
+-- Reading from bit `at` of the map m: 1 exactly for a map that is too long, else 4 at or past its end.
+pub record Reads (m : List ℕ) (at r : ℕ) (entry exit : List ℕ) : Type 0 where
+  pub numbers : (r ≡ 0) ⊎ ((r ≡ 1) ⊎ (r ≡ 4))
+  pub too-long : 16777216 < length m → r ≡ 1
+  pub only-then : r ≡ 1 → 16777216 < length m
+  pub past-the-end : length m ≤ 16777216 → 8 * length m ≤ at → r ≡ 4
+  pub untouched : Untouched r entry exit
+
+-- Writing the value v: 15 exactly where it is below the least or above the greatest of its kind.
+pub record Writes (least greatest v r : ℕ) (entry exit : List ℕ) : Type 0 where
+  pub in-range : least ≤ v → v ≤ greatest → r ≡ 0
+  pub out-of-range : (v < least) ⊎ (greatest < v) → r ≡ 15
+  pub untouched : Untouched r entry exit
+
+-- The operands of RETURN 0, JUMP 1, MATCH 2 and DEFAULT 3.
+abbrev pub leastOperand : ℕ → ℕ
+leastOperand zero = 1
+leastOperand (suc zero) = 17
+leastOperand (suc (suc zero)) = 2
+leastOperand (suc (suc (suc n))) = 1
+
+abbrev pub greatestOperand : ℕ → ℕ
+greatestOperand zero = 33521664
+greatestOperand (suc zero) = 2147483632
+greatestOperand (suc (suc zero)) = 511
+greatestOperand (suc (suc (suc n))) = 33521664
+
+pub record WritesInstruction (opcode operand r : ℕ) (entry exit : List ℕ) : Type 0 where
+  pub in-range : opcode ≤ 3 → leastOperand opcode ≤ operand → operand ≤ greatestOperand opcode → r ≡ 0
+  pub no-opcode : 3 < opcode → r ≡ 15
+  pub out-of-range : (operand < leastOperand opcode) ⊎ (greatestOperand opcode < operand) → r ≡ 15
+  pub untouched : Untouched r entry exit
+
+-- ---- check, walk, unpack, pack
+
+-- The check: 0 to 10, as the defined check says, with its count and depth where it accepts; and 1 exactly for a map that is too long.
+pub record Checks (m : List ℕ) (r : ℕ) (entry exit : List ℕ) : Type 0 where
+  pub numbers : r ≤ 10
+  pub accepted : (c d : ℕ) → checkOf m 128 ≡ Accepted c d → (r ≡ 0) × (exit ≡ c ∷ d ∷ [])
+  pub refused : (n : ℕ) → checkOf m 128 ≡ Refused n → r ≡ n
+  pub too-long : 16777216 < length m → r ≡ 1
+  pub only-then : r ≡ 1 → 16777216 < length m
+  pub untouched : Untouched r entry exit
+
+-- The numbers of a walk w: 1 for a RETURN, 2 for a difference, 3 for an abort; its number, the instructions read, the address bits read.
+pub record Told (w : Walked) (kind number count bits : ℕ) : Type 0 where
+  pub returned : w .kind ≡ Returned → kind ≡ 1
+  pub differed : w .kind ≡ Differed → kind ≡ 2
+  pub aborted : w .kind ≡ Aborted → kind ≡ 3
+  pub same-number : number ≡ w .number
+  pub same-count : count ≡ length (w .read)
+  pub same-bits : bits ≡ w .bits
+
+-- The walk, of any map, accepted or not: 11 for an address that has not 16 bytes, else 1 for a map that is too long, else the defined walk.
+pub record Walks (m a : List ℕ) (r : ℕ) (entry : List ℕ) (kind number count bits : ℕ) : Type 0 where
+  pub no-address : length a ≢ 16 → r ≡ 11
+  pub too-long : length a ≡ 16 → 16777216 < length m → r ≡ 1
+  pub answered : length a ≡ 16 → length m ≤ 16777216 → r ≡ 0
+  pub told : r ≡ 0 → Told (walkOf m a 128) kind number count bits
+  pub untouched : Untouched r entry (kind ∷ number ∷ count ∷ bits ∷ [])
+
+-- Unpack: the check's numbers, else 14 exactly where there is no room for 16 bytes for each of the c instructions.
+pub record Unpacks (m o o′ : List ℕ) (r written written′ : ℕ) : Type 0 where
+  pub numbers : (r ≤ 10) ⊎ (r ≡ 14)
+  pub refused : (n : ℕ) → checkOf m 128 ≡ Refused n → r ≡ n
+  pub answered : (c d : ℕ) → checkOf m 128 ≡ Accepted c d → 16 * c ≤ length o → (r ≡ 0) × (written′ ≡ 16 * c)
+  pub no-room : (c d : ℕ) → checkOf m 128 ≡ Accepted c d → length o < 16 * c → r ≡ 14
+  pub past : r ≡ 0 → drop written′ o′ ≡ drop written′ o
+  pub untouched : r ≢ 0 → (o′ ≡ o) × (written′ ≡ written)
+
+-- Pack: 16 for bytes that are no whole records, and no other numbers than these.
+pub record Packs (records o o′ : List ℕ) (r written written′ : ℕ) : Type 0 where
+  pub numbers : (r ≡ 0) ⊎ ((r ≡ 1) ⊎ ((r ≡ 14) ⊎ ((r ≡ 15) ⊎ (r ≡ 16))))
+  pub no-records : length records % 16 ≢ 0 → r ≡ 16
+  pub past : r ≡ 0 → drop written′ o′ ≡ drop written′ o
+  pub untouched : r ≢ 0 → (o′ ≡ o) × (written′ ≡ written)
+
+-- ---- groups and picks; `has` is 0 without a map
+
+-- The candidate at place i of a row is one: a zero after its family, which is 6, or 4 with an address in the mapped form.
+pub record Candidate (candidates : List ℕ) (i : ℕ) : Type 0 where
+  pub blank : getD candidates (20 * i + 1) 0 ≡ 0
+  pub family : (getD candidates (20 * i) 0 ≡ 6) ⊎ ((getD candidates (20 * i) 0 ≡ 4) × (take 12 (drop (20 * i + 2) candidates) ≡ 0 ∷ 0 ∷ 0 ∷ 0 ∷ 0 ∷ 0 ∷ 0 ∷ 0 ∷ 0 ∷ 0 ∷ 255 ∷ 255 ∷ []))
+
+-- The map, where there is one, is one that the check accepts.
+abbrev pub Usable : ℕ → List ℕ → Type 0
+Usable has m = has ≢ 0 → (c : ℕ) × (d : ℕ) × (checkOf m 128 ≡ Accepted c d)
+
+-- A group: 13, and always for what has not 20 bytes; then with a map the check's numbers; and 0 where nothing is wrong.
+pub record Groups (has : ℕ) (m candidate : List ℕ) (r : ℕ) (entry exit : List ℕ) : Type 0 where
+  pub numbers : (r ≡ 0) ⊎ ((r ≡ 13) ⊎ ((has ≢ 0) × ((1 ≤ r) × (r ≤ 10))))
+  pub no-candidate : length candidate ≢ 20 → r ≡ 13
+  pub answered : length candidate ≡ 20 → Candidate candidate 0 → Usable has m → r ≡ 0
+  pub untouched : Untouched r entry exit
+
+-- The same by a map that the caller checks first: the check's numbers come before 13.
+pub record LoadedGroups (r : ℕ) (entry exit : List ℕ) : Type 0 where
+  pub numbers : (r ≡ 0) ⊎ ((r ≡ 13) ⊎ ((1 ≤ r) × (r ≤ 10)))
+  pub untouched : Untouched r entry exit
+
+-- A pick: 13 for bytes that are no whole candidates, then 12 for more than 4,096 of them or of occupied groups; 14 where an output has
+-- less than min(max, candidates) places, so 0 only where both have; and 0 where nothing is wrong.
+pub record Picks (has : ℕ) (m candidates occupied : List ℕ) (max r : ℕ) (entry exit picks picks′ groups groups′ : List ℕ) : Type 0 where
+  pub numbers : (r ≡ 0) ⊎ ((r ≡ 12) ⊎ ((r ≡ 13) ⊎ ((r ≡ 14) ⊎ ((has ≢ 0) × ((1 ≤ r) × (r ≤ 10))))))
+  pub no-candidates : length candidates % 20 ≢ 0 → r ≡ 13
+  pub too-many : length candidates % 20 ≡ 0 → 4096 < length candidates / 20 → r ≡ 12
+  pub too-occupied : length candidates % 20 ≡ 0 → length candidates / 20 ≤ 4096 → 4096 < length occupied → r ≡ 12
+  pub room : r ≡ 0 → (min max (length candidates / 20) ≤ length picks) × (min max (length candidates / 20) ≤ length groups)
+  pub answered : length candidates % 20 ≡ 0 → length candidates / 20 ≤ 4096 → length occupied ≤ 4096
+      → ((i : ℕ) → i < length candidates / 20 → Candidate candidates i) → Usable has m
+      → min max (length candidates / 20) ≤ length picks → min max (length candidates / 20) ≤ length groups → r ≡ 0
+  pub untouched : Untouched r entry exit
+  pub picks-untouched : Untouched r picks picks′
+  pub groups-untouched : Untouched r groups groups′
+
+-- The same by a map that the caller checks first.
+pub record LoadedPicks (r : ℕ) (entry exit picks picks′ groups groups′ : List ℕ) : Type 0 where
+  pub numbers : (r ≡ 0) ⊎ ((r ≡ 12) ⊎ ((r ≡ 13) ⊎ ((r ≡ 14) ⊎ ((1 ≤ r) × (r ≤ 10)))))
+  pub untouched : Untouched r entry exit
+  pub picks-untouched : Untouched r picks picks′
+  pub groups-untouched : Untouched r groups groups′
+
+-- ---- filters
+
+-- The filter: 11 exactly for an address that has not 16 bytes; it says 0 or 1.
+pub record Filters (a : List ℕ) (r entry said : ℕ) : Type 0 where
+  pub no-address : length a ≢ 16 → r ≡ 11
+  pub answered : length a ≡ 16 → r ≡ 0
+  pub yes-or-no : r ≡ 0 → (said ≡ 0) ⊎ (said ≡ 1)
+  pub untouched : r ≢ 0 → said ≡ entry
+
+-- The bytes of an address by its BIP155 network id: 4, 16, 10, 32, 32 and 16 for 1 to 6, and at most 512 for any other.
+pub record Sized (id n : ℕ) : Type 0 where
+  pub known : 1 ≤ id → id ≤ 6 → n ≡ getD (0 ∷ 4 ∷ 16 ∷ 10 ∷ 32 ∷ 32 ∷ 16 ∷ []) id 0
+  pub others : (id ≡ 0) ⊎ (6 < id) → n ≤ 512
+
+-- The relay's filter: 17 exactly for another length; it says 0 or 1.
+pub record Relays (id : ℕ) (a : List ℕ) (r entry said : ℕ) : Type 0 where
+  pub numbers : (r ≡ 0) ⊎ (r ≡ 17)
+  pub answered : Sized id (length a) → r ≡ 0
+  pub only-then : r ≡ 0 → Sized id (length a)
+  pub yes-or-no : r ≡ 0 → (said ≡ 0) ⊎ (said ≡ 1)
+  pub untouched : r ≢ 0 → said ≡ entry

@@ -1,0 +1,4 @@
+pub mod AnyInput
+pub mod Walked
+pub mod Picked
+pub mod Same

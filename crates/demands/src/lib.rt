@@ -1,0 +1,24 @@
+// What a caller can conclude: document 01's three demands, each said in plain numbers of functions that make the exported calls
+// (`corbastrigo_…`) as a user would. This is the page to read first for whoever doubts the rest.
+//
+// A contract here uses no definition of the project but the check (`checkOf`), the walk (`walkOf`), the unpacked list (`unpacked`), the
+// first pass (`firstPass`) and Core's functions (`coreCheck`, `coreInterpret`, its four decoders), with how these take bytes (`mapOf`,
+// `fileOf`, `addressBit`). All else is numbers, bytes and equations, in `demand_statements/specs`. Each is proved from the contracts of
+// the exported calls and from laws about those definitions (`demand_statements/proofs`); no code below them is looked at. So what a
+// contract there no longer says is refused here. All 21 exported calls have a caller.
+//
+// Demand 1, any input: `any_input`, and `refused` in `picks`. Maps, addresses, lists and lengths of every kind get an answer, 0, or one
+// of document 01's numbers for that call, said with when. Where the answer is not 0, every lent number and byte is what it was.
+//
+// Demand 2, as Core has it, and both ways without loss: `same`, and `core` in `walks` and of the codes read in `any_input`. A code that is
+// read is Core's; the check answers 0 exactly where Core's says true; the walk of an accepted map has Core's number; a map unpacked and
+// packed is that map, records packed and unpacked are those.
+//
+// Demand 3, what an accepted map can never do: `walks` and `picks`. No walk aborts; each ends as the defined walk does, at a RETURN or at
+// a difference, within 2 × bits + 1 instructions, so within 257, each of them in the unpacked list and among the bytes that unpack
+// writes. A number 0 is that of a difference before any DEFAULT was read. A pick's first pass is the defined one, with as many
+// candidates examined, and as many instructions as the defined walks of those candidates read.
+pub mod any_input;
+pub mod picks;
+pub mod same;
+pub mod walks;
