@@ -1,4 +1,5 @@
-/* Every call of the header once done and once refused, from C. Exits with 1 where an answer differs from the one written here. */
+/* Every call of the header once done and once refused, from C. Exits with 1 where an answer differs from the one written here. The numbers
+ * are chosen so that no two parameters of a call can be exchanged unseen (swaps.c). */
 #include "../include/corbastrigo.h"
 #include <stdio.h>
 #include <string.h>
@@ -15,8 +16,8 @@ static void expect(uint64_t got, uint64_t wanted, const char *what, int line) {
 
 #define IS(got, wanted) expect((uint64_t)(got), (uint64_t)(wanted), #got, __LINE__)
 
-/* What lent numbers hold before a call: a refused call leaves it. */
-#define BEFORE 77
+/* What the n-th number or slice that is lent to a call holds before it: a refused call leaves it. */
+#define BEFORE(n) (70 + (n))
 
 /* 1.2.0.0/16 is sent to 1, 3.4.0.0/16 to 2. */
 static const uint8_t two_prefixes[35] = {0xfb, 0x03, 0xec, 0x0f, 0xb0, 0x3f, 0xc0, 0xfe, 0x00, 0xfb, 0x03, 0xec,
@@ -45,64 +46,65 @@ static void candidate(uint8_t *bytes, uint8_t a, uint8_t b, uint8_t c, uint8_t d
 typedef uint8_t decode(const uint8_t *, size_t, size_t, uint32_t *, size_t *);
 typedef uint8_t encode(uint32_t, uint64_t *, size_t *);
 
-/* A row: its least value is written, read again, read where it is cut, and a number below or above the row is refused. */
+/* A row: its least value is written, read again from the fourth bit on, read where it is cut, and a number below or above the row is
+ * refused. */
 static void row(decode *reads, encode *writes, uint32_t least, size_t len, uint32_t outside) {
-    uint32_t value = BEFORE;
-    size_t next = BEFORE, length = BEFORE;
-    uint64_t bits = BEFORE;
+    uint32_t value = BEFORE(1);
+    size_t next = BEFORE(2), length = BEFORE(2);
+    uint64_t bits = BEFORE(1);
     uint8_t bytes[8];
     IS(writes(outside, &bits, &length), CORBASTRIGO_OUT_OF_RANGE);
-    IS(bits, BEFORE);
-    IS(length, BEFORE);
+    IS(bits, BEFORE(1));
+    IS(length, BEFORE(2));
     IS(writes(least, &bits, &length), 0);
     IS(length, len);
     for (int i = 0; i < 8; i++)
-        bytes[i] = (uint8_t)(bits >> (8 * i));
+        bytes[i] = (uint8_t)(bits << 3 >> (8 * i));
     IS(reads(bytes, 0, 0, &value, &next), CORBASTRIGO_CUT);
     IS(reads(bytes, 8, 64, &value, &next), CORBASTRIGO_CUT);
     IS(reads(bytes, 8, SIZE_MAX, &value, &next), CORBASTRIGO_CUT);
     IS(reads(too_long, sizeof too_long, 0, &value, &next), CORBASTRIGO_MAP_TOO_LONG);
-    IS(value, BEFORE);
-    IS(next, BEFORE);
-    IS(reads(bytes, 8, 0, &value, &next), 0);
+    IS(value, BEFORE(1));
+    IS(next, BEFORE(2));
+    IS(reads(bytes, 8, 3, &value, &next), 0);
     IS(value, least);
-    IS(next, len);
+    IS(next, 3 + len);
 }
 
 static void codes(void) {
-    uint32_t opcode = BEFORE, operand = BEFORE;
-    size_t size = BEFORE, length = BEFORE;
-    uint64_t bits = BEFORE;
+    uint32_t opcode = BEFORE(1), operand = BEFORE(2);
+    size_t size = BEFORE(3), length = BEFORE(2);
+    uint64_t bits = BEFORE(1);
     row(corbastrigo_decode_type, corbastrigo_encode_type, 0, 1, 4);
     row(corbastrigo_decode_asn, corbastrigo_encode_asn, 1, 16, 0);
     row(corbastrigo_decode_match, corbastrigo_encode_match, 2, 2, 512);
     row(corbastrigo_decode_jump, corbastrigo_encode_jump, 17, 6, 16);
     IS(corbastrigo_decode_instruction(lone_jump, 1, 1, &opcode, &operand, &size), CORBASTRIGO_CUT);
     IS(corbastrigo_decode_instruction(too_long, sizeof too_long, 0, &opcode, &operand, &size), CORBASTRIGO_MAP_TOO_LONG);
-    IS(opcode, BEFORE);
-    IS(operand, BEFORE);
-    IS(size, BEFORE);
+    IS(opcode, BEFORE(1));
+    IS(operand, BEFORE(2));
+    IS(size, BEFORE(3));
     IS(corbastrigo_decode_instruction(lone_jump, 1, 0, &opcode, &operand, &size), 0);
     IS(opcode, CORBASTRIGO_JUMP);
     IS(operand, 17);
     IS(size, 8);
     IS(corbastrigo_encode_instruction(CORBASTRIGO_JUMP, 16, &bits, &length), CORBASTRIGO_OUT_OF_RANGE);
     IS(corbastrigo_encode_instruction(4, 17, &bits, &length), CORBASTRIGO_OUT_OF_RANGE);
-    IS(bits, BEFORE);
-    IS(length, BEFORE);
+    IS(bits, BEFORE(1));
+    IS(length, BEFORE(2));
     IS(corbastrigo_encode_instruction(CORBASTRIGO_JUMP, 17, &bits, &length), 0);
     IS(bits, 1);
     IS(length, 8);
 }
 
 static void check(void) {
-    uint32_t count = BEFORE;
-    uint8_t depth = BEFORE;
+    uint32_t count = BEFORE(1);
+    uint8_t depth = BEFORE(2);
     IS(corbastrigo_sanity_check(none, 0, &count, &depth), CORBASTRIGO_MAP_ENDS);
     IS(corbastrigo_sanity_check(two_prefixes, 34, &count, &depth), CORBASTRIGO_CUT);
     IS(corbastrigo_sanity_check(too_long, sizeof too_long, &count, &depth), CORBASTRIGO_MAP_TOO_LONG);
-    IS(count, BEFORE);
-    IS(depth, BEFORE);
+    IS(count, BEFORE(1));
+    IS(depth, BEFORE(2));
     IS(corbastrigo_sanity_check(two_prefixes, 35, &count, &depth), 0);
     IS(count, 16);
     IS(depth, 1);
@@ -112,12 +114,15 @@ static void check(void) {
 }
 
 static void walk(void) {
-    uint8_t address[16], kind = BEFORE, bits = BEFORE;
-    uint32_t number = BEFORE, count = BEFORE;
+    uint8_t address[16], kind = BEFORE(1), bits = BEFORE(4);
+    uint32_t number = BEFORE(2), count = BEFORE(3);
     mapped(address, 3, 4, 0, 0);
     IS(corbastrigo_interpret(two_prefixes, 35, address, 15, &kind, &number, &count, &bits), CORBASTRIGO_ADDRESS_LENGTH);
     IS(corbastrigo_interpret(too_long, sizeof too_long, address, 16, &kind, &number, &count, &bits), CORBASTRIGO_MAP_TOO_LONG);
-    IS(kind == BEFORE && number == BEFORE && count == BEFORE && bits == BEFORE, 1);
+    IS(kind, BEFORE(1));
+    IS(number, BEFORE(2));
+    IS(count, BEFORE(3));
+    IS(bits, BEFORE(4));
     IS(corbastrigo_interpret(two_prefixes, 35, address, 16, &kind, &number, &count, &bits), 0);
     IS(kind, CORBASTRIGO_RETURNED);
     IS(number, 2);
@@ -138,24 +143,24 @@ static void walk(void) {
 
 static void records(void) {
     uint8_t list[256], bytes[35];
-    size_t written = BEFORE;
-    memset(list, BEFORE, sizeof list);
-    memset(bytes, BEFORE, sizeof bytes);
+    size_t written = BEFORE(2);
+    memset(list, BEFORE(1), sizeof list);
+    memset(bytes, BEFORE(1), sizeof bytes);
     IS(corbastrigo_unpack(lone_jump, 1, list, sizeof list, &written), CORBASTRIGO_MAP_ENDS);
     IS(corbastrigo_unpack(two_prefixes, 35, list, 255, &written), CORBASTRIGO_OUTPUT_TOO_SHORT);
-    IS(list[0], BEFORE);
-    IS(written, BEFORE);
+    IS(list[0], BEFORE(1));
+    IS(written, BEFORE(2));
     IS(corbastrigo_unpack(two_prefixes, 35, list, 256, &written), 0);
     IS(written, 256);
     IS(list[0], CORBASTRIGO_MATCH);
-    written = BEFORE;
+    written = BEFORE(2);
     IS(corbastrigo_pack(list, 255, bytes, 35, &written), CORBASTRIGO_RECORD);
     IS(corbastrigo_pack(list, 256, bytes, 34, &written), CORBASTRIGO_OUTPUT_TOO_SHORT);
     list[0] = 4;
     IS(corbastrigo_pack(list, 256, bytes, 35, &written), CORBASTRIGO_OUT_OF_RANGE);
     list[0] = CORBASTRIGO_MATCH;
-    IS(bytes[0], BEFORE);
-    IS(written, BEFORE);
+    IS(bytes[0], BEFORE(1));
+    IS(written, BEFORE(2));
     IS(corbastrigo_pack(list, 256, bytes, 35, &written), 0);
     IS(written, 35);
     IS(memcmp(bytes, two_prefixes, 35), 0);
@@ -163,13 +168,13 @@ static void records(void) {
 
 static void groups(void) {
     uint8_t peer[20];
-    uint64_t group = BEFORE;
+    uint64_t group = BEFORE(1);
     candidate(peer, 3, 4, 5, 6);
     IS(corbastrigo_prefix_group(peer, 19, &group), CORBASTRIGO_CANDIDATE);
     IS(corbastrigo_netgroup(peer, 21, 0, none, 0, &group), CORBASTRIGO_CANDIDATE);
     IS(corbastrigo_netgroup(peer, 20, 1, lone_jump, 1, &group), CORBASTRIGO_MAP_ENDS);
     IS(corbastrigo_netgroup_unchecked(peer, 20, 1, too_long, sizeof too_long, &group), CORBASTRIGO_MAP_TOO_LONG);
-    IS(group, BEFORE);
+    IS(group, BEFORE(1));
     IS(corbastrigo_netgroup_unchecked(peer, 20, 1, lone_jump, 1, &group), 0);
     IS(group, 0);
     IS(corbastrigo_prefix_group(peer, 20, &group), 0);
@@ -182,28 +187,33 @@ static void groups(void) {
     IS(group, 2);
 }
 
-typedef uint8_t select(const uint8_t *, size_t, const uint64_t *, size_t, size_t, uint8_t, const uint8_t *, size_t, uint16_t *,
-                       size_t, uint64_t *, size_t, size_t *, size_t *, size_t *, uint64_t *);
+typedef uint8_t selection(const uint8_t *, size_t, const uint64_t *, size_t, size_t, uint8_t, const uint8_t *, size_t, uint16_t *,
+                          size_t, uint64_t *, size_t, size_t *, size_t *, size_t *, uint64_t *);
 
-/* Four peers, two of group 2, one of 1, one of 0; group 0 is occupied, so the last is a fill. */
-static void pick(select *call, uint8_t of_a_refused_map) {
+/* Four peers, two of group 2, one of 1, one of 0; group 0 is occupied, so the last is a fill. By their prefixes none is occupied. */
+static void pick(selection *call, uint8_t of_a_refused_map) {
     uint8_t peers[80];
-    const uint64_t occupied[1] = {0};
-    uint16_t places[4] = {BEFORE, BEFORE, BEFORE, BEFORE};
-    uint64_t taken[4] = {BEFORE, BEFORE, BEFORE, BEFORE}, instructions = BEFORE;
-    size_t total = BEFORE, first = BEFORE, examined = BEFORE;
+    const uint64_t occupied[2] = {9, 0};
+    uint16_t places[4] = {BEFORE(1), BEFORE(1), BEFORE(1), BEFORE(1)};
+    uint64_t taken[4] = {BEFORE(2), BEFORE(2), BEFORE(2), BEFORE(2)}, instructions = BEFORE(6);
+    size_t total = BEFORE(3), first = BEFORE(4), examined = BEFORE(5);
     candidate(peers, 8, 8, 8, 8);
     candidate(peers + 20, 3, 4, 0, 1);
     candidate(peers + 40, 3, 4, 0, 2);
     candidate(peers + 60, 1, 2, 0, 1);
-#define PICK(bytes, room, map, map_len)                                                                                                \
-    call(peers, bytes, occupied, 1, 3, 1, map, map_len, places, room, taken, room, &total, &first, &examined, &instructions)
-    IS(PICK(79, 4, two_prefixes, 35), CORBASTRIGO_CANDIDATE);
-    IS(PICK(80, 2, two_prefixes, 35), CORBASTRIGO_OUTPUT_TOO_SHORT);
-    IS(PICK(80, 4, too_long, sizeof too_long), CORBASTRIGO_MAP_TOO_LONG);
-    IS(places[0] == BEFORE && taken[0] == BEFORE && total == BEFORE && first == BEFORE, 1);
-    IS(examined == BEFORE && instructions == BEFORE, 1);
-    IS(PICK(80, 4, two_prefixes, 35), 0);
+#define PICK(bytes, has_map, map, map_len, room, group_room)                                                                           \
+    call(peers, bytes, occupied, 2, 3, has_map, map, map_len, places, room, taken, group_room, &total, &first, &examined, &instructions)
+    IS(PICK(79, 1, two_prefixes, 35, 4, 4), CORBASTRIGO_CANDIDATE);
+    IS(PICK(80, 1, two_prefixes, 35, 2, 3), CORBASTRIGO_OUTPUT_TOO_SHORT);
+    IS(PICK(80, 1, two_prefixes, 35, 3, 2), CORBASTRIGO_OUTPUT_TOO_SHORT);
+    IS(PICK(80, 1, too_long, sizeof too_long, 4, 4), CORBASTRIGO_MAP_TOO_LONG);
+    IS(places[0], BEFORE(1));
+    IS(taken[0], BEFORE(2));
+    IS(total, BEFORE(3));
+    IS(first, BEFORE(4));
+    IS(examined, BEFORE(5));
+    IS(instructions, BEFORE(6));
+    IS(PICK(80, 1, two_prefixes, 35, 4, 4), 0);
     IS(total, 3);
     IS(first, 2);
     IS(examined, 4);
@@ -211,20 +221,24 @@ static void pick(select *call, uint8_t of_a_refused_map) {
     IS(places[0], 1);
     IS(places[1], 3);
     IS(places[2], 0);
-    IS(places[3], BEFORE);
+    IS(places[3], BEFORE(1));
     IS(taken[0], 2);
     IS(taken[1], 1);
-    IS(taken[2], BEFORE);
-    IS(PICK(80, 4, lone_jump, 1), of_a_refused_map);
+    IS(taken[2], BEFORE(2));
+    IS(PICK(80, 1, lone_jump, 1, 4, 4), of_a_refused_map);
+    IS(PICK(80, 0, lone_jump, 1, 4, 4), 0);
+    IS(first, 3);
+    IS(instructions, 0);
+    IS(taken[0], 256 * 8 + 8);
 #undef PICK
 }
 
 static void filters(void) {
-    uint8_t address[16], answer = BEFORE;
+    uint8_t address[16], answer = BEFORE(1);
     mapped(address, 10, 0, 0, 1);
     IS(corbastrigo_clearnet_unroutable(address, 4, &answer), CORBASTRIGO_ADDRESS_LENGTH);
     IS(corbastrigo_addrv2_skip_relay(1, address, 16, 8333, &answer), CORBASTRIGO_RELAY_LENGTH);
-    IS(answer, BEFORE);
+    IS(answer, BEFORE(1));
     IS(corbastrigo_clearnet_unroutable(address, 16, &answer), 0);
     IS(answer, 1);
     IS(corbastrigo_addrv2_skip_relay(1, address + 12, 4, 8333, &answer), 0);
@@ -232,7 +246,7 @@ static void filters(void) {
     mapped(address, 11, 0, 0, 1);
     IS(corbastrigo_clearnet_unroutable(address, 16, &answer), 0);
     IS(answer, 0);
-    answer = BEFORE;
+    answer = BEFORE(1);
     IS(corbastrigo_addrv2_skip_relay(1, address + 12, 4, 8333, &answer), 0);
     IS(answer, 0);
     IS(corbastrigo_addrv2_skip_relay(1, address + 12, 4, 0, &answer), 0);
