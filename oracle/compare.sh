@@ -1,48 +1,40 @@
 #!/bin/sh
-# Compiles the original, unchanged, runs it on the cases of each program of src/bin, and compares what it prints with the
-# answers that the Rattle program of that name must print (crates/NAME/stdout) and, where that program reads a list of answers,
-# with the list (crates/NAME/stdin). With --write answers and lists are written anew.
-# Skipped, with a message, where the folder of the original or cargo is missing: the answers are stored.
+# Compiles the original, unchanged, asks it for the answers to all cases of src/bin/replay_vectors, and compares them with those that are
+# stored: the list that the Rattle program of that name reads (crates/replay_vectors/stdin), what it must print (stdout), and the tables
+# of docs/tables. With --write they are written anew.
+# Skipped where the original or cargo is missing: the answers are stored.
 cd "$(dirname "$0")" || exit 2
-original=../../shared/docs/src/crates/rbitcoin-net/src
-if [ ! -f "$original/asmap.rs" ]; then
-    echo "oracle: skipped, since the original's folder shared/docs/src is not beside this repository"
-    exit 0
-fi
-if ! command -v cargo > /dev/null; then
-    echo "oracle: skipped, since there is no cargo on this machine"
-    exit 0
-fi
+./needs.sh oracle original cargo || exit
 CARGO_TARGET_DIR=$(cd .. && pwd)/target/oracle
 export CARGO_TARGET_DIR
 cargo build --quiet --offline || exit 1
+program=$CARGO_TARGET_DIR/debug/replay_vectors
+made=$CARGO_TARGET_DIR/made
 failed=0
 
-# compare PROGRAM FILE WORD...: what the program prints, handed the words, against the stored file of crates/PROGRAM.
+# compare FILE WORD...: what the program prints, handed the words, against the stored file.
 write=${1:-}
 compare() {
-    name=$1
-    answers=../crates/$1/$2
-    made=$CARGO_TARGET_DIR/$1.$2
-    shift 2
-    if ! "$CARGO_TARGET_DIR/debug/$name" "$@" > "$made"; then
-        echo "oracle: $name stopped with an error"
+    stored=$1
+    shift
+    if ! "$program" "$@" > "$made"; then
+        echo "oracle: $stored could not be made"
         failed=1
     elif [ "$write" = --write ]; then
-        cp "$made" "$answers"
-        echo "oracle: ${answers#../} written ($(wc -l < "$answers") lines)"
-    elif cmp -s "$made" "$answers"; then
-        echo "oracle: ${answers#../} agrees ($(wc -l < "$answers") lines)"
+        cp "$made" "../$stored"
+        echo "oracle: $stored written ($(wc -l < "$made") lines)"
+    elif cmp -s "$made" "../$stored"; then
+        echo "oracle: $stored agrees ($(wc -l < "$made") lines)"
     else
-        echo "oracle: ${answers#../} differs:"
-        diff "$answers" "$made" | head -n 20
+        echo "oracle: $stored differs:"
+        diff "../$stored" "$made" | head -n 20
         failed=1
     fi
 }
 
-for source in src/bin/*.rs; do
-    name=$(basename "$source" .rs)
-    compare "$name" stdout
-    [ ! -f "../crates/$name/stdin" ] || compare "$name" stdin --list
+compare crates/replay_vectors/stdin --list
+compare crates/replay_vectors/stdout
+for table in $("$program" --tables); do
+    compare "docs/tables/$table.txt" --table "$table"
 done
 exit "$failed"

@@ -1,5 +1,5 @@
 //! Document 01's check and walk, worked through step by step from its text, on the original's decoders. They say what the original
-//! does not: reasons, counts, depth, kinds of end and bits. Where the original has a say, the programs of `bin` hold them to it.
+//! does not: reasons, counts, depth, kinds of end and bits. Where the original has a say, `bin/replay_vectors` holds them to it.
 use crate::asmap::*;
 
 /// A number of document 01's table.

@@ -16,10 +16,13 @@ pub mod error {
     }
 }
 
+pub mod codes;
 pub mod document;
 pub mod filters;
 pub mod picks;
 pub mod records;
+
+pub use codes::instruction;
 
 /// The test maps, by name.
 pub const MAPS: [(&str, &[u8]); 11] = [
@@ -39,16 +42,4 @@ pub const MAPS: [(&str, &[u8]); 11] = [
 /// Bytes written in hexadecimal, with spaces between them.
 pub fn bytes(hex: &str) -> Vec<u8> {
     hex.split_whitespace().map(|byte| u8::from_str_radix(byte, 16).expect("two digits")).collect()
-}
-
-/// The original's writer of an opcode and an operand of its row. It has no DEFAULT of its own.
-pub fn instruction(opcode: u32, operand: u32) -> Vec<bool> {
-    use asmap::*;
-    let mut bits = encode_bits(opcode, 0, &TYPE_BIT_SIZES);
-    bits.extend(match opcode {
-        JUMP => encode_bits(operand, 17, &JUMP_BIT_SIZES),
-        MATCH => encode_bits(operand, 2, &MATCH_BIT_SIZES),
-        _ => encode_bits(operand, 1, &ASN_BIT_SIZES),
-    });
-    bits
 }

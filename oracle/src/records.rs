@@ -1,22 +1,8 @@
 //! Document 01's unpack and pack, worked through from its text on the original's decoders and writers. The original has neither call.
-use crate::asmap::*;
-use crate::document::{check, Refusal, Verdict};
-use crate::instruction;
-
-/// The operand's row of an opcode: its least value, its sizes, and its decoder.
-pub fn row(opcode: u32) -> (u32, &'static [u8], fn(&mut usize, &[u8]) -> u32) {
-    match opcode {
-        JUMP => (17, &JUMP_BIT_SIZES, decode_jump),
-        MATCH => (2, &MATCH_BIT_SIZES, decode_match),
-        _ => (1, &ASN_BIT_SIZES, decode_asn),
-    }
-}
-
-pub fn in_range(opcode: u32, operand: u32) -> bool {
-    let (least, sizes, _) = row(opcode);
-    let values: u64 = sizes.iter().map(|&size| 1u64 << size).sum();
-    opcode <= DEFAULT && operand >= least && u64::from(operand) < u64::from(least) + values
-}
+use crate::asmap::pack_le;
+pub use crate::codes::in_range;
+use crate::codes::instruction;
+use crate::document::{check, instruction_at, Refusal, Verdict};
 
 pub fn record(opcode: u32, operand: u32, place: usize, length: usize) -> Vec<u8> {
     [opcode, operand, place as u32, length as u32].iter().flat_map(|n| n.to_le_bytes()).collect()
@@ -30,8 +16,7 @@ pub fn unpack(map: &[u8]) -> Result<Vec<u8>, Refusal> {
     let mut pos = 0;
     let records = (0..count).flat_map(|_| {
         let place = pos;
-        let opcode = decode_type(&mut pos, map);
-        let operand = row(opcode).2(&mut pos, map);
+        let (opcode, operand) = instruction_at(&mut pos, map);
         record(opcode, operand, place, pos - place)
     });
     Ok(records.collect())

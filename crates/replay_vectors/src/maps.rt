@@ -1,0 +1,83 @@
+// The check, the walk, unpack and pack.
+use asmap_program::Kind;
+use asmap_program::Verdict;
+use asmap_records::Answer;
+use asmap_walk::Ending;
+use asmap_walk::Interpreted;
+use replay_lines::outcome::Out;
+use replay_lines::outcome::Seen;
+use replay_lines::outcome::and_left;
+use replay_lines::outcome::compared;
+use replay_lines::outcome::done;
+use replay_lines::outcome::refused;
+use replay_lines::words::Words;
+use replay_lines::words::word;
+
+pub fn check(bytes: &[u8], words: Words) -> Seen {
+    let verdict = asmap_check::sanity_check(word(bytes, words, 0));
+    let answer = word(bytes, words, 1);
+    match verdict {
+        Verdict::Refused(reason) => compared(refused(reason), answer),
+        Verdict::Accepted(count, depth) => compared(
+            done().number(count as u64, 4).byte(depth),
+            answer,
+        ),
+    }
+}
+
+fn kind_number(kind: Kind) -> u8 {
+    match kind {
+        Kind::Returned => 1,
+        Kind::Differed => 2,
+        Kind::Aborted => 3,
+    }
+}
+
+fn ended(ending: Ending) -> Out {
+    let kind = ending.kind;
+    let out = done().byte(kind_number(kind));
+    out.number(ending.number as u64, 4)
+        .number(ending.count as u64, 4)
+        .byte(ending.bits)
+}
+
+pub fn walk(bytes: &[u8], words: Words) -> Seen {
+    let got = asmap_walk::interpret(word(bytes, words, 0), word(bytes, words, 1));
+    let answer = word(bytes, words, 2);
+    match got {
+        Interpreted::Refused(reason) => compared(refused(reason), answer),
+        Interpreted::Ended(ending) => compared(ended(ending), answer),
+    }
+}
+
+// How many bytes unpack and pack wrote.
+fn wrote(got: Answer) -> Out {
+    match got {
+        Answer::Refused(reason) => refused(reason),
+        Answer::Wrote(n) => done().number(n as u64, 4),
+    }
+}
+
+// Unpack is kind 7, and pack 8.
+fn write_into(kind: usize, input: &[u8], out: &mut [u8]) -> Answer {
+    if kind == 7 {
+        return asmap_unpack::unpack(input, out);
+    }
+    asmap_pack::pack(input, out)
+}
+
+fn compared_output(kind: usize, bytes: &[u8], words: Words, out: &mut [u8]) -> Seen {
+    let got = write_into(kind, word(bytes, words, 0), out);
+    let seen = compared(wrote(got), word(bytes, words, 1));
+    and_left(seen, peer_lists::same_bytes(out, word(bytes, words, 2)))
+}
+
+// The output is as long as the list's, which is what it holds at exit; at entry it holds ee in every byte.
+pub fn unpack_or_pack(kind: usize, bytes: &[u8], words: Words) -> Seen {
+    let mut room = [238u8; 8192];
+    let n = word(bytes, words, 2).len();
+    if 8192 < n {
+        return Seen::Unread;
+    }
+    compared_output(kind, bytes, words, &mut room[0..n])
+}

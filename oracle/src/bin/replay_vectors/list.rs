@@ -1,0 +1,274 @@
+//! The list: a method for each kind of line, which asks the original and document 01 for the answer.
+use crate::word;
+use oracle::asmap::{self, consume_bit_le, AsMap, INVALID};
+use oracle::codes::{in_range, instruction, Row, ROWS};
+use oracle::document::{self, Refusal, Verdict, Walk};
+use oracle::filters::message;
+use oracle::picks::{self, By, Groups, Pick};
+use oracle::{netaddr, records};
+use std::net::{IpAddr, Ipv4Addr, Ipv6Addr};
+use std::panic;
+
+/// The calls in the order in which the program counts them: letter and name.
+pub const CALLS: [(char, &str); 17] = [
+    ('d', "code read"),
+    ('e', "code written"),
+    ('i', "instruction read"),
+    ('j', "instruction written"),
+    ('b', "bit reader"),
+    ('c', "check"),
+    ('w', "walk"),
+    ('u', "unpack"),
+    ('p', "pack"),
+    ('n', "group by prefix"),
+    ('g', "group"),
+    ('h', "group, map unchecked"),
+    ('s', "pick"),
+    ('t', "pick, map unchecked"),
+    ('m', "IPv4-mapped address"),
+    ('f', "unroutable"),
+    ('r', "relay skip"),
+];
+
+/// The item of the reader that is no code.
+pub const BIT: u8 = 4;
+
+/// What a call hands back: a refusal, or its results one after the other.
+type Answer = Result<Vec<u8>, Refusal>;
+
+#[derive(Default)]
+pub struct List {
+    pub lines: Vec<String>,
+}
+
+/// What a pick is handed. The rooms are those of the places and of the groups. With `By::Prefixes` the map is there and not looked at.
+#[derive(Clone, Copy)]
+pub struct Picking<'a> {
+    pub list: &'a [u8],
+    pub occupied: &'a [u64],
+    pub max: usize,
+    pub by: By<'a>,
+    pub map: &'a [u8],
+    pub rooms: [usize; 2],
+}
+
+fn answered(answer: &Answer) -> Vec<u8> {
+    match answer {
+        Ok(results) => [&[0][..], results].concat(),
+        Err(reason) => vec![*reason as u8],
+    }
+}
+
+/// What bytes written to an output of so many bytes leave in it: ee is what was there before.
+fn output(written: &[u8], room: usize) -> Vec<u8> {
+    let mut bytes = vec![0xee; room];
+    bytes[..written.len()].copy_from_slice(written);
+    bytes
+}
+
+fn le<const N: usize>(numbers: impl IntoIterator<Item = [u8; N]>) -> Vec<u8> {
+    numbers.into_iter().flatten().collect()
+}
+
+impl List {
+    /// A line that starts with `#` is passed over.
+    pub fn heading(&mut self, text: &str) {
+        self.lines.push(format!("# {text}"));
+    }
+
+    fn add(&mut self, call: char, words: &[&[u8]]) {
+        let words: Vec<String> = words.iter().map(|bytes| word::text(bytes)).collect();
+        self.lines.push(format!("{call} {}", words.join(" ")));
+    }
+
+    // ---- codes
+
+    pub fn read_code(&mut self, row: &Row, map: &[u8], at: usize) -> Option<(u32, usize)> {
+        let got = row.read(map, at);
+        self.add('d', &[&[row.number], map, &word::number(at as u64), &answered(&decoded(got))]);
+        got
+    }
+
+    /// The bits, or none where the value is out of its row's range. The original has no refusal: it panics, or what it writes is not
+    /// read back as the value.
+    pub fn write_code(&mut self, row: &Row, value: u32) -> Option<Vec<bool>> {
+        let bits = row.holds(value).then(|| row.write(value));
+        if bits.is_none() {
+            assert!(is_lost(row, value), "the original writes {} {value}", row.name);
+        }
+        self.add('e', &[&[row.number], &word::number(value.into()), &answered(&written(bits.as_deref()))]);
+        bits
+    }
+
+    /// Opcode and operand, and the bit after them; none where one of them is cut.
+    pub fn read_instruction(&mut self, map: &[u8], at: usize) -> Option<(u32, u32, usize)> {
+        let mut next = at;
+        let (opcode, operand) = document::instruction_at(&mut next, map);
+        let got = (operand != INVALID).then_some((opcode, operand, next));
+        let results = |(opcode, operand, next): (u32, u32, usize)| {
+            [le([opcode, operand].map(u32::to_le_bytes)), le([at, next - at].map(usize::to_le_bytes))].concat()
+        };
+        self.add('i', &[map, &word::number(at as u64), &answered(&got.map(results).ok_or(4))]);
+        got
+    }
+
+    pub fn write_instruction(&mut self, opcode: u32, operand: u32) {
+        let bits = in_range(opcode, operand).then(|| instruction(opcode, operand));
+        let inputs = [opcode, operand].map(|n| word::number(n.into()));
+        self.add('j', &[&inputs[0], &inputs[1], &answered(&written(bits.as_deref()))]);
+    }
+
+    /// The original's functions move a cursor. A code that the map's end cuts leaves it at the end, where a reader stays at the code's
+    /// first bit.
+    pub fn read_item(&mut self, item: u8, map: &[u8], at: usize) -> Option<(u32, usize)> {
+        let got = match item {
+            BIT => {
+                let mut next = at;
+                consume_bit_le(&mut next, map).map(|bit| (u32::from(bit), next))
+            }
+            row => ROWS[row as usize].read(map, at),
+        };
+        let place = got.map_or(at, |(_, next)| next);
+        let left = (8 * map.len()).saturating_sub(place);
+        let answer = [answered(&decoded(got)), le([place, left].map(usize::to_le_bytes))].concat();
+        self.add('b', &[&[item], map, &word::number(at as u64), &answer]);
+        got
+    }
+
+    // ---- maps
+
+    pub fn check(&mut self, map: &[u8]) -> Verdict {
+        let verdict = document::check(map);
+        let answer = match verdict {
+            Verdict::Accepted { count, depth } => Ok([&count.to_le_bytes()[..], &[depth as u8]].concat()),
+            Verdict::Refused(reason) => Err(reason),
+        };
+        assert_eq!(answer.is_ok(), asmap::sanity_check(map), "the original's verdict on {map:?}");
+        self.add('c', &[map, &answered(&answer)]);
+        verdict
+    }
+
+    /// None where the address has not 16 bytes.
+    pub fn walk(&mut self, map: &[u8], address: &[u8]) -> Option<Walk> {
+        let walked = <&[u8; 16]>::try_from(address).ok().map(|address| walked(map, address));
+        let results = walked.as_ref().map(|walk| {
+            let kind = ["return", "difference", "abort"].iter().position(|&kind| kind == walk.kind).expect("a kind of end") + 1;
+            [&[kind as u8][..], &le([walk.number, walk.count].map(u32::to_le_bytes)), &[walk.bits as u8]].concat()
+        });
+        self.add('w', &[map, address, &answered(&results.ok_or(11))]);
+        walked
+    }
+
+    /// A call that writes bytes to an output with so much room.
+    fn writes(&mut self, call: char, input: &[u8], made: Answer, room: usize) {
+        let fits = made.and_then(|bytes| if bytes.len() > room { Err(14) } else { Ok(bytes) });
+        let count = fits.as_ref().map(|bytes| (bytes.len() as u32).to_le_bytes().to_vec()).map_err(|&reason| reason);
+        self.add(call, &[input, &answered(&count), &output(&fits.unwrap_or_default(), room)]);
+    }
+
+    pub fn unpack(&mut self, map: &[u8], room: usize) {
+        self.writes('u', map, records::unpack(map), room);
+    }
+
+    pub fn pack(&mut self, records: &[u8], room: usize) {
+        self.writes('p', records, records::pack(records), room);
+    }
+
+    // ---- peers
+
+    pub fn prefix_group(&mut self, candidate: &[u8]) {
+        self.add('n', &[candidate, &answered(&group(By::Prefixes, candidate))]);
+    }
+
+    /// With `By::Prefixes` the map is there and not looked at.
+    pub fn group(&mut self, by: By, candidate: &[u8], map: &[u8]) {
+        self.add('g', &[&[has_map(by)], candidate, map, &answered(&group(by, candidate))]);
+    }
+
+    pub fn group_unchecked(&mut self, by: By, candidate: &[u8], map: &[u8]) {
+        self.add('h', &[&[has_map(by)], candidate, map, &answered(&group(by, candidate))]);
+    }
+
+    pub fn pick(&mut self, inputs: &Picking) -> Result<Pick, Refusal> {
+        self.picked('s', inputs)
+    }
+
+    pub fn pick_unchecked(&mut self, inputs: &Picking) -> Result<Pick, Refusal> {
+        self.picked('t', inputs)
+    }
+
+    fn picked(&mut self, call: char, inputs: &Picking) -> Result<Pick, Refusal> {
+        let Picking { list, occupied, max, by, map, rooms } = *inputs;
+        let made = picks::pick(list, occupied, max, &Groups::new(by), rooms);
+        let (mut places, mut groups) = (vec![999u16; rooms[0]], vec![888u64; rooms[1]]);
+        let answer = made.as_ref().map_err(|&reason| reason).map(|pick| {
+            pick.places.iter().zip(&mut places).for_each(|(&place, left)| *left = place as u16);
+            groups[..pick.groups.len()].copy_from_slice(&pick.groups);
+            le([pick.places.len() as u64, pick.groups.len() as u64, pick.examined as u64, pick.instructions].map(u64::to_le_bytes))
+        });
+        let taken = le(occupied.iter().map(|group| group.to_le_bytes()));
+        let outputs = [le(places.iter().map(|place| place.to_le_bytes())), le(groups.iter().map(|group| group.to_le_bytes()))];
+        let max = word::number(max as u64);
+        self.add(call, &[&[has_map(by)], list, &taken, &max, map, &answered(&answer), &outputs[0], &outputs[1]]);
+        made
+    }
+
+    // ---- addresses
+
+    pub fn mapped(&mut self, address: Ipv4Addr) -> [u8; 16] {
+        let bytes = asmap::ip16_for_lookup(IpAddr::V4(address));
+        self.add('m', &[&address.octets(), &bytes]);
+        bytes
+    }
+
+    pub fn filter(&mut self, address: &[u8]) -> Result<bool, Refusal> {
+        let filtered = <[u8; 16]>::try_from(address).map_err(|_| 11);
+        let answer = filtered.map(|bytes| netaddr::clearnet_unroutable(IpAddr::from(Ipv6Addr::from(bytes))));
+        self.add('f', &[address, &answered(&answer.map(|yes| vec![u8::from(yes)]))]);
+        answer
+    }
+
+    pub fn relay(&mut self, id: u8, port: u16, address: &[u8]) -> Result<bool, Refusal> {
+        let answer = message(id, address, port).map(|message| netaddr::addrv2_skip_relay(&message)).ok_or(17);
+        self.add('r', &[&[id], &word::number(port.into()), address, &answered(&answer.map(|yes| vec![u8::from(yes)]))]);
+        answer
+    }
+}
+
+fn decoded(got: Option<(u32, usize)>) -> Answer {
+    got.map(|(value, next)| [&value.to_le_bytes()[..], &next.to_le_bytes()].concat()).ok_or(4)
+}
+
+fn written(bits: Option<&[bool]>) -> Answer {
+    bits.map(|bits| [&[bits.len() as u8][..], &oracle::codes::word(bits).to_le_bytes()].concat()).ok_or(15)
+}
+
+/// A panic of the original is the answer here, and says nothing on standard error.
+fn is_lost(row: &Row, value: u32) -> bool {
+    let hook = panic::take_hook();
+    panic::set_hook(Box::new(|_| {}));
+    let written = panic::catch_unwind(|| row.write(value));
+    panic::set_hook(hook);
+    match written {
+        Err(_) => true,
+        Ok(bits) => row.read(&asmap::pack_le(&bits), 0) != Some((value, bits.len())),
+    }
+}
+
+/// Of a map that is accepted the number is held to the original's, and no walk of it aborts.
+fn walked(map: &[u8], address: &[u8; 16]) -> Walk {
+    let walk = document::walk(map, address);
+    if let Some(accepted) = AsMap::from_bytes(map.to_vec()) {
+        assert_eq!(walk.number, accepted.interpret_ip16(address), "the original's number for {address:?} by {map:?}");
+        assert_ne!(walk.kind, "abort", "{address:?} by {map:?}");
+    }
+    walk
+}
+
+fn has_map(by: By) -> u8 {
+    u8::from(!matches!(by, By::Prefixes))
+}
+
+fn group(by: By, candidate: &[u8]) -> Answer {
+    Groups::new(by).group(candidate).map(|group| group.to_le_bytes().to_vec())
+}

@@ -1,0 +1,80 @@
+//! The answers that the program `replay_vectors` works through: with `--list` the list that it reads (crates/replay_vectors/stdin), with
+//! `--table NAME` a table of docs/tables, with `--tables` the names of those, and without a word what the program prints
+//! (crates/replay_vectors/stdout). The answers are the original's and, where it has no say, document 01's.
+//!
+//! # The list
+//!
+//! A line is a letter for the call and words with one blank before each: the inputs, the answer, and what each output holds at exit. A line
+//! that starts with `#` is a heading.
+//!
+//! A word is bytes, written as pairs of hexadecimal digits. `ee*40` says the pairs 40 times; `0000*4096+01` says them 4,096 times, each
+//! time with 01 added to the number that they are. A comma joins such pieces (`04,00*11,ffff`), and `-` is a word of no bytes. Numbers are
+//! little-endian; as an input a number may leave out zeros at its end.
+//!
+//! An answer is the byte 0 or the refusal's number and, where the call is done, its results one after the other, here with their bytes.
+//! An output is as long as its word. Before the call each byte of it is ee, each place 999, and each group 888: what a call does not
+//! write has to be so at exit too.
+//!
+//! The program has room for a list of 1,048,575 bytes, for 262,144 bytes in the words of a line, for outputs of 8,192 bytes or of 4,096
+//! places and groups, and for 4,100 occupied groups.
+//!
+//!     d ROW MAP BIT ANSWER               code read: value (4), the bit after it (8). Rows: 0 opcode, 1 AS number, 2 MATCH, 3 JUMP
+//!     e ROW VALUE ANSWER                 code written: how many bits (1), the bits, the first lowest (8)
+//!     i MAP BIT ANSWER                   instruction read: opcode (4), operand (4), its first bit (8), how many bits (8)
+//!     j OPCODE OPERAND ANSWER            instruction written: as a code
+//!     b ITEM MAP BIT ANSWER              bit reader: as a code read, by row or 4 for a bit; then, also after a refusal, where the reader
+//!                                        stands (8) and how many bits are left (8)
+//!     c MAP ANSWER                       check: count (4), depth (1)
+//!     w MAP ADDRESS ANSWER               walk: kind of end (1: RETURN 1, difference 2, abort 3), number (4), count (4), bits (1)
+//!     u MAP ANSWER RECORDS               unpack: bytes written (4)
+//!     p RECORDS ANSWER MAP               pack: bytes written (4)
+//!     n CANDIDATE ANSWER                 group by prefix: group (8)
+//!     g HAS CANDIDATE MAP ANSWER         group (8). HAS is 1 with a map, and 0 without, where the map is not to be looked at
+//!     h HAS CANDIDATE MAP ANSWER         the same with a map that is not checked
+//!     s HAS LIST OCCUPIED MAX MAP ANSWER PLACES GROUPS
+//!                                        pick: total, first, examined, instructions (8 each). Occupied groups have 8 bytes each, as GROUPS
+//!                                        have, and PLACES 2
+//!     t (the same)                       pick with a map that is not checked
+//!     m IPV4 ADDRESS                     IPv4-mapped address
+//!     f ADDRESS ANSWER                   unroutable (1)
+//!     r NETWORK PORT ADDRESS ANSWER      relay skip (1)
+//!
+//! # A new call
+//!
+//! Here: a letter above and in `list::CALLS`, a method of `List`, and cases. In the program: a function that makes the call and compares,
+//! the letter in `kind_of`, the lengths of its words in `shape_of`, a name where the counts are printed.
+mod addresses;
+mod codes;
+mod list;
+mod peers;
+mod programs;
+mod sample;
+mod tables;
+mod word;
+
+use list::{List, CALLS};
+use tables::Tables;
+
+fn print_counts(list: &List) {
+    let count = |start: &str| list.lines.iter().filter(|line| line.starts_with(start)).count();
+    for (letter, name) in CALLS {
+        println!("{name}: {} answers, 0 differ", count(&format!("{letter} ")));
+    }
+    println!("{} lines, {} of them headings, 0 with a wrong count of words, 0 not read", list.lines.len(), count("#"));
+}
+
+fn main() {
+    let (mut list, mut tables) = (List::default(), Tables::new());
+    codes::cases(&mut list, &mut tables);
+    programs::cases(&mut list, &mut tables);
+    peers::cases(&mut list, &mut tables);
+    addresses::cases(&mut list, &mut tables);
+    sample::cases(&mut list);
+    let words: Vec<String> = std::env::args().skip(1).collect();
+    match words.iter().map(String::as_str).collect::<Vec<&str>>()[..] {
+        ["--list"] => list.lines.iter().for_each(|line| println!("{line}")),
+        ["--tables"] => Tables::names().for_each(|name| println!("{name}")),
+        ["--table", name] => tables.print(name),
+        _ => print_counts(&list),
+    }
+}

@@ -1,0 +1,83 @@
+//! The tables that teach something, as text: docs/tables/NAME.txt.
+
+/// Each with its first lines, which say what a row holds.
+const TABLES: [(&str, &str); 7] = [
+    (
+        "codes",
+        "The code of the first and the last value of each size of the four rows (document 01, Codes), and of values around each row.\n\
+         Row and value: how many bits, and the bits in the order in which they are read.",
+    ),
+    (
+        "instructions",
+        "The instructions of the original's test maps, one behind the other from bit 0, up to where none can be read.\n\
+         Bit: opcode and operand, and how many bits both have.",
+    ),
+    (
+        "check",
+        "What the check says of maps. R1, J17, M2 and D1 are RETURN 1, JUMP 17, MATCH 2 and DEFAULT 1; x16 says that the next one stands\n\
+         16 times, and b0 and b1 are lone bits. A JUMP of 17 skips a RETURN of a small number, and of 22 a MATCH of one bit too.\n\
+         A MATCH of 2 is one zero, of 4 two, of 64 six, of 128 seven, of 256 eight.\n\
+         Map: bytes; accepted, with the number of instructions and the most jumps open at once, or refused, with document 01's number.",
+    ),
+    (
+        "walk",
+        "Walks of maps; check.txt says what the maps are. The last lines cut a map at each of its bits: the byte of the cut is kept,\n\
+         its bits from the cut on are zeros.\n\
+         Map, address: how the walk ends, the number, the instructions read whole, the address bits read.",
+    ),
+    (
+        "groups",
+        "The group of a candidate by its prefix, by a map that is checked, and by the same map as it is.\n\
+         Map, candidate: the three groups.",
+    ),
+    (
+        "pick",
+        "Picks of at most so many (max) of these candidates, with or without a map, some groups being occupied.\n\
+         Candidates by what, max: picks in all, those of the first pass, candidates examined, instructions of their walks;\n\
+         the places picked; the groups of the first pass.",
+    ),
+    (
+        "filters",
+        "The address filters at the edges of each range: the address before it, its first, its last and the one after.\n\
+         U unroutable, R routable; S skipped by the relay, P passed; a number is a refusal. An IPv4 address stands alone (S or P,\n\
+         network 1) and then in each form that holds one: mapped, 6to4, NAT64, translated, compatible, local NAT64 (U or R).\n\
+         At the end the relay of an entry by its network, the first byte of its address (all others are 08) and its length, with port 0\n\
+         and port 1; a first byte is left out where the answers are those of one before it.",
+    ),
+];
+
+pub struct Tables {
+    rows: Vec<(&'static str, String)>,
+}
+
+impl Tables {
+    pub fn new() -> Tables {
+        Tables { rows: vec![] }
+    }
+
+    pub fn row(&mut self, table: &'static str, text: String) {
+        self.rows.push((table, text));
+    }
+
+    pub fn names() -> impl Iterator<Item = &'static str> {
+        TABLES.iter().map(|(name, _)| *name)
+    }
+
+    pub fn print(&self, table: &str) {
+        let (_, head) = TABLES.iter().find(|(name, _)| *name == table).expect("a table of that name");
+        println!("{head}\n");
+        self.rows.iter().filter(|(name, _)| *name == table).for_each(|(_, text)| println!("{text}"));
+    }
+}
+
+/// Cases in a row that come out the same: the first, the last, and what comes out.
+pub fn runs(cases: impl Iterator<Item = (usize, String)>) -> Vec<(usize, usize, String)> {
+    let mut runs: Vec<(usize, usize, String)> = vec![];
+    for (case, outcome) in cases {
+        match runs.last_mut() {
+            Some(last) if last.2 == outcome => last.1 = case,
+            _ => runs.push((case, case, outcome)),
+        }
+    }
+    runs
+}
