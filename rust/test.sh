@@ -1,11 +1,7 @@
 #!/bin/sh
-# The tests of the safe crate, over the archive.
-# Skipped, with a message, where cargo is missing.
+# The tests of the safe crate, over the archive. Skipped where cargo is missing.
 cd "$(dirname "$0")" || exit 2
-if ! command -v cargo > /dev/null; then
-    echo "rust: skipped, since there is no cargo on this machine"
-    exit 0
-fi
+../oracle/needs.sh rust cargo || exit
 CARGO_TARGET_DIR=$(cd .. && pwd)/target/rust
 export CARGO_TARGET_DIR
 exec cargo test --quiet --offline
