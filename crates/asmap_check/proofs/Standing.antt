@@ -1,4 +1,4 @@
--- What the loop knows where it stands: a state that the check comes to, and that the answer from here is the answer.
+-- What the loop knows where it stands: a state that the check comes to, and that answer and place from here are the answer and the place.
 -- Assumes nothing.
 use Prim.Native.Nat.{ℕ, suc, _-_, _*_, _≤_, _<_}
 use mathlib.Core.Path.{_≡_, refl, sym, ap, subst, _∙_}
@@ -10,33 +10,40 @@ use lib.Dec.{ltb}
 use lib.ListN.{length}
 use Rattle.asmap_program.specs.declared.Instruction.{Instruction}
 use Rattle.asmap_program.specs.declared.Verdict.the-variants.{Accepted, Refused}
-use Rattle.asmap_program.specs.Check.{State, start, Outcome, Next, Done, Refuse, step, after, check}
+use Rattle.asmap_program.specs.Check.{State, start, Outcome, Next, Done, Refuse, step, after, check, stopping, stopOf}
 use Rattle.asmap_program.proofs.Tree.{View, view}
 use Rattle.asmap_program.proofs.Depth.{one-more, Room, Reached, begins, goes, room}
-use Rattle.asmap_program.proofs.Loop.{moved, result, result-step, result-start}
+use Rattle.asmap_program.proofs.Loop.{moved, result, result-step, result-start, stop, stop-step, stop-start}
 use Rattle.asmap_codes.specs.Instruction.{mapOf}
-use Rattle.asmap_check.specs.Check.{unlessLong, checkOf}
+use Rattle.asmap_check.specs.declared.Judged.{Judged}
+use Rattle.asmap_check.specs.declared.Stopped.the-variants as stopped
+use Rattle.asmap_check.specs.Check.{unlessLong, checkOf, reasonOf, stoppedOf}
+use Rattle.asmap_check.specs.models.State.{judged}
 use Rattle.asmap_codes.proofs.MapLaws.{laws, map-bits}
 
 module _ (m : List ℕ) (w : ℕ) where
   pub record Standing (s : State) : Type 0 where
     pub reached : Reached (mapOf m) w s
     pub same : check (mapOf m) w ≡ result (mapOf m) s
+    pub place : stopOf (mapOf m) w ≡ stop (mapOf m) s
 
   pub standing-start : Standing (start w)
-  standing-start = record { reached = begins; same = result-start (mapOf m) (laws m) w }
+  standing-start = record { reached = begins; same = result-start (mapOf m) (laws m) w; place = stop-start (mapOf m) (laws m) w }
 
   answer : (s : State) → Standing s → (o : Outcome) → step (mapOf m) s ≡ o → check (mapOf m) w ≡ after (result (mapOf m)) o
   answer s h o e = h .same ∙ result-step (mapOf m) (laws m) s ∙ ap (after (result (mapOf m))) e
 
+  placed : (s : State) → Standing s → (o : Outcome) → step (mapOf m) s ≡ o → stopOf (mapOf m) w ≡ stopping (s .at) (stop (mapOf m)) o
+  placed s h o e = h .place ∙ stop-step (mapOf m) (laws m) s ∙ ap (stopping (s .at) (stop (mapOf m))) e
+
   pub standing-on : (s : State) → Standing s → (i : Instruction) (s′ : State) → step (mapOf m) s ≡ Next i s′ → Standing s′
-  standing-on s h i s′ e = record { reached = goes (h .reached) e; same = answer s h (Next i s′) e }
+  standing-on s h i s′ e = record { reached = goes (h .reached) e; same = answer s h (Next i s′) e; place = placed s h (Next i s′) e }
 
-  pub standing-done : (s : State) → Standing s → (i : Instruction) (c d : ℕ) → step (mapOf m) s ≡ Done i c d → Accepted c d ≡ check (mapOf m) w
-  standing-done s h i c d e = sym (answer s h (Done i c d) e)
+  pub standing-done : (s : State) → Standing s → (i : Instruction) (c d : ℕ) → step (mapOf m) s ≡ Done i c d → record { verdict = Accepted c d; place = s .at } ≡ judged m w
+  standing-done s h i c d e = λ j. record { verdict = sym (answer s h (Done i c d) e) j; place = sym (placed s h (Done i c d) e) j }
 
-  pub standing-refused : (s : State) → Standing s → (n : ℕ) → step (mapOf m) s ≡ Refuse n → Refused n ≡ check (mapOf m) w
-  standing-refused s h n e = sym (answer s h (Refuse n) e)
+  pub standing-refused : (s : State) → Standing s → (n : ℕ) → step (mapOf m) s ≡ Refuse n → record { verdict = Refused n; place = s .at } ≡ judged m w
+  standing-refused s h n e = λ j. record { verdict = sym (answer s h (Refuse n) e) j; place = sym (placed s h (Refuse n) e) j }
 
   -- a step goes forward, inside the map, and counts one
   pub record Onward (s s′ : State) : Type 0 where
@@ -73,6 +80,12 @@ module _ (m : List ℕ) (w : ℕ) where
 
   pub checked : length m ≤ 16777216 → check (mapOf m) w ≡ checkOf m w
   checked h = rw (le-ltb 16777216 (length m) h)
+
+  pub stopped-long : 16777216 < length m → stopped.Refused 1 ≡ stoppedOf m w
+  stopped-long h = rw (lt-ltb 16777216 (length m) h)
+
+  pub stopped-at : length m ≤ 16777216 → (j : Judged) → j ≡ judged m w → stopped.At (reasonOf (j .verdict)) (j .place) ≡ stoppedOf m w
+  stopped-at h j e = rw (e, le-ltb 16777216 (length m) h)
 
   -- an accepted map is within the limit
   pub accepted-within : (c d : ℕ) → checkOf m w ≡ Accepted c d → (length m ≤ 16777216) × (check (mapOf m) w ≡ Accepted c d)

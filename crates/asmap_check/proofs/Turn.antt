@@ -9,10 +9,10 @@ use lib.ListN.{length, getD, set}
 use Rattle.asmap_program.specs.declared.Previous.{Previous}
 use Rattle.asmap_program.specs.declared.Previous.the-variants.{Other, Default}
 use Rattle.asmap_program.specs.declared.Verdict.the-variants.{Accepted, Refused}
-use Rattle.asmap_program.specs.Check.{Open, State, afterMatch, Next, step, check}
+use Rattle.asmap_program.specs.Check.{Open, State, afterMatch, Next, step}
 use Rattle.asmap_codes.specs.Instruction.{mapOf}
 use Rattle.asmap_check.specs.declared.CheckState.{CheckState}
-use Rattle.asmap_check.specs.models.State.{opensOf, opens, top, stateOf}
+use Rattle.asmap_check.specs.models.State.{opensOf, opens, top, stateOf, judged}
 use Rattle.asmap_check_act.specs.models.Act.{acts}
 use Rattle.asmap_check_act.specs.declared.Act.{Act}
 use Rattle.asmap_check_act.specs.declared.Act.the-variants.{Opens, Closes, Uses, Keeps, Accepts, Refuses}
@@ -35,7 +35,7 @@ pub record Turned (m : List ℕ) (w pos : ℕ) (s : State) : Type 0 where
   pub forward : pos < s .at
 
 pub turn-end : (m : List ℕ) (w : ℕ) (st : CheckState) (pos : ℕ) (prev : Previous) (count deepest : ℕ)
-    → Standing m w (stateOf st pos prev count deepest) → 8 * length m ≤ pos → Refused 2 ≡ check (mapOf m) w
+    → Standing m w (stateOf st pos prev count deepest) → 8 * length m ≤ pos → record { verdict = Refused 2; place = pos } ≡ judged m w
 turn-end m w st pos prev count deepest h k =
     standing-refused m w _ h 2 (end-is m (st .targets) (st .saved) (st .bits) pos prev count deepest (st .depth) k)
 
@@ -99,8 +99,8 @@ module _ {m : List ℕ} {w : ℕ} {st : CheckState} {pos : ℕ} {prev : Previous
   pub turn-keeps : (n : ℕ) → a ≡ Keeps n → Turned m w pos (stateOf st n Default (count + 1) deepest)
   turn-keeps n e = rw (add-one count) (turned _ (step-is (Keeps n) e))
 
-  pub turn-accepts : a ≡ Accepts → Accepted (count + 1) deepest ≡ check (mapOf m) w
+  pub turn-accepts : a ≡ Accepts → record { verdict = Accepted (count + 1) deepest; place = pos } ≡ judged m w
   turn-accepts e = rw (add-one count) (standing-done m w s (T .standing) (here m pos) (suc count) deepest (step-is Accepts e))
 
-  pub turn-refuses : (n : ℕ) → a ≡ Refuses n → Refused n ≡ check (mapOf m) w
+  pub turn-refuses : (n : ℕ) → a ≡ Refuses n → record { verdict = Refused n; place = pos } ≡ judged m w
   turn-refuses n e = standing-refused m w s (T .standing) n (step-is (Refuses n) e)

@@ -7,12 +7,14 @@ use mathlib.Core.List.{List}
 use lib.Dec.{ltb}
 use lib.ListN.{length}
 use Rattle.asmap_program.specs.declared.Verdict.{Verdict}
-use Rattle.asmap_program.specs.declared.Verdict.the-variants.{Refused}
+use Rattle.asmap_program.specs.declared.Verdict.the-variants.{Accepted, Refused}
 use Rattle.asmap_program.specs.Map.{limit}
-use Rattle.asmap_program.specs.Check.{accepted, check}
+use Rattle.asmap_program.specs.Check.{accepted, check, stopOf}
 use Rattle.asmap_program.specs.Core.{coreCheck}
 use Rattle.asmap_codes.specs.Instruction.{mapOf}
 use Rattle.asmap_codes.specs.Core.{fileOf}
+use Rattle.asmap_check.specs.declared.Stopped.{Stopped}
+use Rattle.asmap_check.specs.declared.Stopped.the-variants as stopped
 
 -- refused 1 where the test holds
 abbrev pub unlessLong : Bool → Verdict → Verdict
@@ -28,3 +30,17 @@ checkOf m w = unlessLong (ltb limit (length m)) (check (mapOf m) w)
 -- document 01's; Core has none.
 abbrev pub LikeCore : List ℕ → ℕ → Verdict → Type 0
 LikeCore m w r = length m ≤ limit → coreCheck (fileOf m) w ≡ accepted r
+
+-- The reason in a verdict: 0 where it accepts.
+abbrev pub reasonOf : Verdict → ℕ
+reasonOf (Accepted c d) = 0
+reasonOf (Refused n) = n
+
+-- refused 1 where the test holds
+abbrev pub stopsUnlessLong : Bool → Stopped → Stopped
+stopsUnlessLong true s = stopped.Refused 1
+stopsUnlessLong false s = s
+
+-- Where the check of a map's bytes over w address bits stops: with which reason, and at which place. A map over the limit is 1.
+abbrev pub stoppedOf : List ℕ → ℕ → Stopped
+stoppedOf m w = stopsUnlessLong (ltb limit (length m)) (stopped.At (reasonOf (check (mapOf m) w)) (stopOf (mapOf m) w))

@@ -6,14 +6,30 @@
 // arrays, 640 bytes, copied to it and back at each call; so the loop itself stores an open jump and reads it.
 ghost use mathlib.Core.Path.{_≡_};
 ghost use Prim.Native.Nat.{_+_, _-_, _≤_, _<_, max};
+ghost use lib.Dec.{ltb};
+ghost use lib.ListN.{length};
+ghost use Rattle.asmap_program.specs.Map.{limit};
 ghost use Rattle.asmap_program.specs.Check.{afterMatch};
-ghost use Rattle.asmap_check.specs.models.State.{Arrays, top};
-ghost use Rattle.asmap_check.specs.Check.{checkOf, LikeCore};
+ghost use Rattle.asmap_check.specs.models.State.{Arrays, top, judged};
+ghost use Rattle.asmap_check.specs.Check.{checkOf, LikeCore, reasonOf, stoppedOf};
 use asmap_check_act::Act;
 use asmap_program::ADDRESS_BITS;
 use asmap_program::MAX_MAP_BYTES;
 use asmap_program::Previous;
 use asmap_program::Verdict;
+
+// Where the check of a map stops: at a place, with the reason, 0 where it accepts; or the number of document 01's refusal, where the map is
+// too long to be read.
+pub enum Stopped {
+    At(u8, usize),
+    Refused(u8),
+}
+
+// What the loop comes to, for both calls: the verdict, and the place at which it stopped.
+struct Judged {
+    verdict: Verdict,
+    place: usize,
+}
 
 // The open jumps, innermost last, and the address bits left.
 //
@@ -98,14 +114,12 @@ fn innermost(targets: &[u32; 128], depth: usize) -> u32
     targets[depth - 1]
 }
 
-// The check over a number of address bits, which the public calls fix: the arrays hold as many jumps as there are bits.
-fn sanity_check_bits(map: &[u8], bits: u8) -> Verdict
-    requires { ⌜ bits ≤ 128 ⌝ }
-    ensures { λ r. ⌜ r ≡ checkOf (now (map .entry)) bits ⌝ }
+// The check of a map within the limit over a number of address bits, which the public calls fix: the arrays hold as many jumps as there
+// are bits.
+fn sanity_check_bits(map: &[u8], bits: u8) -> Judged
+    requires { ⌜ (length (now map) ≤ limit) × (bits ≤ 128) ⌝ }
+    ensures { λ r. ⌜ r ≡ judged (now (map .entry)) bits ⌝ }
 {
-    if MAX_MAP_BYTES < map.len() {
-        return Verdict::Refused(1);
-    }
     let end = 8 * map.len();
     let mut state = CheckState::new(bits);
     let mut pos: usize = 0;
@@ -147,14 +161,30 @@ fn sanity_check_bits(map: &[u8], bits: u8) -> Verdict
             }
             Act::Accepts => {
                 let greatest = deepest as u8;
-                return Verdict::Accepted(count, greatest);
+                return Judged {
+                    verdict: Verdict::Accepted(count, greatest),
+                    place: pos,
+                };
             }
             Act::Refuses(reason) => {
-                return Verdict::Refused(reason);
+                return Judged {
+                    verdict: Verdict::Refused(reason),
+                    place: pos,
+                };
             }
         }
     }
-    Verdict::Refused(2)
+    Judged {
+        verdict: Verdict::Refused(2),
+        place: pos,
+    }
+}
+
+// A map over the limit, of which nothing is read.
+fn too_long(map: &[u8]) -> bool
+    ensures { λ r. ⌜ r ≡ ltb limit (length (now (map .entry))) ⌝ }
+{
+    MAX_MAP_BYTES < map.len()
 }
 
 // The check: accepted with the number of instructions and the greatest depth, or refused, 1 to 10. Any bytes may be handed in.
@@ -162,5 +192,31 @@ pub fn sanity_check(map: &[u8]) -> Verdict
     ensures { λ r. ⌜ r ≡ checkOf (now (map .entry)) 128 ⌝ }
     ensures core { λ r. ⌜ LikeCore (now (map .entry)) 128 r ⌝ }
 {
-    sanity_check_bits(map, ADDRESS_BITS)
+    if too_long(map) {
+        return Verdict::Refused(1);
+    }
+    sanity_check_bits(map, ADDRESS_BITS).verdict
+}
+
+// The reason in a verdict.
+fn reason_of(verdict: Verdict) -> u8
+    ensures { λ r. ⌜ r ≡ reasonOf verdict ⌝ }
+{
+    match verdict {
+        Verdict::Accepted(count, depth) => 0,
+        Verdict::Refused(reason) => reason,
+    }
+}
+
+// The check, and the place at which it stops: for whoever has to say where in a map the fault was met. Any bytes may be handed in; refused is
+// a map over the limit alone, 1.
+pub fn sanity_check_stop(map: &[u8]) -> Stopped
+    ensures { λ r. ⌜ r ≡ stoppedOf (now (map .entry)) 128 ⌝ }
+{
+    if too_long(map) {
+        return Stopped::Refused(1);
+    }
+    let judged = sanity_check_bits(map, ADDRESS_BITS);
+    let verdict = judged.verdict;
+    Stopped::At(reason_of(verdict), judged.place)
 }

@@ -2,6 +2,7 @@ pub mod Length
 pub mod Tree
 pub mod Depth
 pub mod Loop
+pub mod Stop
 pub mod Default
 pub mod Demand
 pub mod CoreCheck

@@ -141,6 +141,22 @@ run m (suc f) s = after (λ (s′ : State). run m f s′) (step m s)
 unfoldable pub check : Map → ℕ → Verdict
 check m w = run m (m .bits) (start w)
 
+-- The place at which the check stops after a step from p, k being that place from a state on: p itself, where the step accepts or refuses.
+abbrev pub stopping : ℕ → (State → ℕ) → Outcome → ℕ
+stopping p k (Next i s) = k s
+stopping p k (Done i c d) = p
+stopping p k (Refuse n) = p
+
+-- The place at which the steps of `run` stop: the first bit of the instruction at which they accept or refuse, and where the map ends before
+-- an instruction, its end.
+unfoldable pub stops : Map → ℕ → State → ℕ
+stops m zero s = s .at
+stops m (suc f) s = stopping (s .at) (λ (s′ : State). stops m f s′) (step m s)
+
+-- The place at which the check of a map over w address bits stops.
+unfoldable pub stopOf : Map → ℕ → ℕ
+stopOf m w = stops m (m .bits) (start w)
+
 -- Whether a verdict is an acceptance: all that Core's check answers.
 abbrev pub accepted : Verdict → Bool
 accepted (Accepted c d) = true
@@ -150,6 +166,19 @@ accepted (Refused n) = false
 pub data Reached (m : Map) (w : ℕ) : State → Type 0 where
   begins : Reached m w (start w)
   goes : {s s′ : State} {i : Instruction} → Reached m w s → step m s ≡ Next i s′ → Reached m w s′
+
+-- A step that gives the verdict v, and does not go on.
+abbrev pub Gives : Verdict → Outcome → Type 0
+Gives v (Next i s) = ⊥
+Gives v (Done i c d) = v ≡ Accepted c d
+Gives v (Refuse n) = v ≡ Refused n
+
+-- The check comes to a state with the place p, and there gives the verdict v.
+pub record StopsAt (m : Map) (w : ℕ) (v : Verdict) (p : ℕ) : Type 0 where
+  pub state : State
+  pub reached : Reached m w state
+  pub here : state .at ≡ p
+  pub gives : Gives v (step m state)
 
 -- A place before the innermost open target, where there is one.
 abbrev pub Before : ℕ → List Open → Type 0

@@ -5,6 +5,7 @@ use mathlib.Core.Path.{_≡_, refl}
 use mathlib.Core.List.{List, map}
 use Rattle.asmap_program.specs.declared.Verdict.{Verdict}
 use Rattle.asmap_program.specs.Map.{lengthIn, lengthOf}
+use Rattle.asmap_program.specs.Check.{stopOf}
 use Rattle.asmap_program.specs.Walk.{compared, enough, walkFrom, walk}
 use Rattle.asmap_codes.specs.Instruction.{fetchAt, mapOf}
 use Rattle.asmap_check.specs.Check.{checkOf}
@@ -17,6 +18,6 @@ all-walks : map computed walks ≡ map expected walks
 unfolding walkOf walk walkFrom compared enough mapOf fetchAt lengthOf lengthIn pairs
 all-walks = refl
 
-pub together : (map {B = Verdict} (λ (e : List ℕ × Verdict). checkOf (e .0) 128) examples ≡ map {B = Verdict} (λ (e : List ℕ × Verdict). e .1) examples)
+pub together : (map {B = Verdict × ℕ} (λ (e : List ℕ × (Verdict × ℕ)). (checkOf (e .0) 128, stopOf (mapOf (e .0)) 128)) examples ≡ map {B = Verdict × ℕ} (λ (e : List ℕ × (Verdict × ℕ)). e .1) examples)
     × (map computed walks ≡ map expected walks)
 together = (examples-hold, all-walks)

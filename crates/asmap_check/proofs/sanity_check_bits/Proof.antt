@@ -10,7 +10,7 @@ use Rattle.asmap_check.specs.declared.CheckState.{CheckState}
 use Rattle.asmap_check_act.specs.declared.Act.the-variants.{Opens, Closes, Uses}
 use Rattle.asmap_check.specs.models.State.{stateOf}
 use Rattle.asmap_check_act.specs.models.Act.{acts}
-use Rattle.asmap_check.proofs.Standing.{Standing, standing-start, count-few, standing-room, checked, checked-long}
+use Rattle.asmap_check.proofs.Standing.{Standing, standing-start, count-few, standing-room}
 use Rattle.asmap_check.proofs.StateLaws.{length-opens}
 use Rattle.asmap_check.proofs.Turn.{Turn, Turned, turn-end, less, certain, room-opens, turn-opens, turn-closes, turn-uses, turn-keeps, turn-accepts, turn-refuses}
 use Rattle.asmap_check.proofs.sanity_check_bits.Statement.{statement}
@@ -24,22 +24,22 @@ abbrev μ-loop : tie.MeasureT-loop
 
 -- what is known in a turn, said once: after `sanity_act`
 turn : (k : tie.After-sanity-act Inv-loop μ-loop)
-    → Turn (k .before .before .before .before .before .before .before .before .before .args .map .now) (k .before .before .before .before .before .before .before .before .before .args .bits) (k .before .before .before .before .before .loop .state) (k .before .before .before .before .before .loop .pos) (k .before .before .before .before .before .loop .previous) (k .before .before .before .before .before .loop .count) (k .before .before .before .before .before .loop .deepest) (k .sanity-act .result)
+    → Turn (k .before .before .before .before .before .before .before .before .args .map .now) (k .before .before .before .before .before .before .before .before .args .bits) (k .before .before .before .before .before .loop .state) (k .before .before .before .before .before .loop .pos) (k .before .before .before .before .before .loop .previous) (k .before .before .before .before .before .loop .count) (k .before .before .before .before .before .loop .deepest) (k .sanity-act .result)
 turn k =
     let l = k .before .before .before .before .before .loop in
     record {
       standing = l .inv;
       inside = k .before .before .before .before .loop-test .taken;
-      asked = ap (λ (t : ℕ). acts (k .before .before .before .before .before .before .before .before .before .args .map .now) (l .previous) (l .state .bits) (l .state .depth) t (l .pos)) (sym (k .before .innermost .ensures)) ∙ sym (k .sanity-act .ensures);
+      asked = ap (λ (t : ℕ). acts (k .before .before .before .before .before .before .before .before .args .map .now) (l .previous) (l .state .bits) (l .state .depth) t (l .pos)) (sym (k .before .innermost .ensures)) ∙ sym (k .sanity-act .ensures);
     }
 
 -- the arrays have room for a jump that opens
 space : (k : tie.After-use-bits Inv-loop μ-loop) → k .before .before .before .before .before .before .before .before .before .loop .state .depth < 128
-space k = omega (arith, room-opens (turn (k .before .before .before .before)) _ _ (k .before .before .asked .given .1), k .before .before .before .before .before .before .before .before .before .before .before .before .before .pre)
+space k = omega (arith, room-opens (turn (k .before .before .before .before)) _ _ (k .before .before .asked .given .1), k .before .before .before .before .before .before .before .before .before .before .before .before .pre .1)
 
 -- a jump has opened: `use_bits`, the stores, `open_jump`, `larger`
 opened : (k : tie.After-larger Inv-loop μ-loop)
-    → Turned (k .before .before .before .before .before .before .before .before .before .before .before .before .before .before .before .args .map .now) (k .before .before .before .before .before .before .before .before .before .before .before .before .before .before .before .args .bits) (k .before .before .before .before .before .before .before .before .before .before .before .loop .pos) (stateOf (k .before .open-jump .result) (k .before .before .before .before .asked .given .0 .0) Other (k .before .before .before .before .before .before .before .before .before .before .before .loop .count + 1) (k .larger .result))
+    → Turned (k .before .before .before .before .before .before .before .before .before .before .before .before .before .before .args .map .now) (k .before .before .before .before .before .before .before .before .before .before .before .before .before .before .args .bits) (k .before .before .before .before .before .before .before .before .before .before .before .loop .pos) (stateOf (k .before .open-jump .result) (k .before .before .before .before .asked .given .0 .0) Other (k .before .before .before .before .before .before .before .before .before .before .before .loop .count + 1) (k .larger .result))
 opened k =
     let l = k .before .before .before .before .before .before .before .before .before .before .before .loop in
     let target = k .before .before .before .before .asked .given .0 .1 .0 in
@@ -49,9 +49,6 @@ opened k =
     turn-opens (turn (k .before .before .before .before .before .before)) _ _ (k .before .before .before .before .asked .given .1) (omega (arith, d, used .1 .0)) (omega (arith, d, used .1 .1)) (k .before .open-jump .result) (k .larger .result)
     (made ∙ ap (λ (x : CheckState). record { targets = set (x .targets) (l .state .depth) target; saved = set (x .saved) (l .state .depth) (x .bits); depth = x .depth + 1; bits = x .bits }) (used .0))
     (k .larger .ensures ∙ ap (max (l .deepest)) (ap (λ (x : CheckState). x .depth) made ∙ ap (λ (x : CheckState). x .depth + 1) (used .0)))
-
-returns : tie.Need-returns Inv-loop μ-loop
-returns c = checked-long (c .before .before .args .map .now) (c .before .before .args .bits) (omega arith)
 
 mul-end : tie.Need-mul-end Inv-loop μ-loop
 mul-end c = omega arith
@@ -71,7 +68,7 @@ sanity-act-requires : tie.Need-sanity-act-requires Inv-loop μ-loop
 sanity-act-requires c κs = (omega arith, omega arith)
 
 add-count : tie.Need-add-count Inv-loop μ-loop
-add-count c = omega (arith, count-few (c .before .before .before .before .before .before .before .before .before .args .map .now) (c .before .before .before .before .before .before .before .before .before .args .bits) _ (c .before .before .before .before .before .loop .inv))
+add-count c = omega (arith, count-few (c .before .before .before .before .before .before .before .before .args .map .now) (c .before .before .before .before .before .before .before .before .args .bits) _ (c .before .before .before .before .before .loop .inv))
 
 -- ---- JUMP
 
@@ -113,7 +110,7 @@ sub-saved c = certain (turn (c .before .before .before)) (Closes _) (c .before .
 element-copy-out-saved : tie.Need-element-copy-out-saved Inv-loop μ-loop
 element-copy-out-saved c =
     let l = c .before .before .before .before .before .before .before .before .loop in
-    omega (arith, standing-room _ _ _ (l .inv) .now, length-opens (l .state .targets) (l .state .saved) (l .state .depth), c .before .before .before .before .before .before .before .before .before .before .before .before .pre)
+    omega (arith, standing-room _ _ _ (l .inv) .now, length-opens (l .state .targets) (l .state .saved) (l .state .depth), c .before .before .before .before .before .before .before .before .before .before .before .pre .1)
 
 close-jump-requires : tie.Need-close-jump-requires Inv-loop μ-loop
 close-jump-requires c κs = certain (turn (c .before .before .before .before)) (Closes _) (c .before .before .asked2 .given .1)
@@ -158,19 +155,19 @@ enum-told : tie.Need-enum-told Inv-loop μ-loop
 enum-told c = search needs
 
 cast-greatest : tie.Need-cast-greatest Inv-loop μ-loop
-cast-greatest c = omega (arith, standing-room _ _ _ (c .before .before .before .before .before .before .before .loop .inv) .deep, c .before .before .before .before .before .before .before .before .before .before .before .pre)
+cast-greatest c = omega (arith, standing-room _ _ _ (c .before .before .before .before .before .before .before .loop .inv) .deep, c .before .before .before .before .before .before .before .before .before .before .pre .1)
 
-returns-2 : tie.Need-returns-2 Inv-loop μ-loop
-returns-2 c = turn-accepts (turn (c .before .before)) (c .enum-told .given .1) ∙ checked _ _ (omega arith)
+returns : tie.Need-returns Inv-loop μ-loop
+returns c = turn-accepts (turn (c .before .before)) (c .enum-told .given .1)
 
 enum-known-asked-5 : tie.Need-enum-known-asked-5 Inv-loop μ-loop
 enum-known-asked-5 c = search needs
 
-returns-3 : tie.Need-returns-3 Inv-loop μ-loop
-returns-3 c = turn-refuses (turn (c .before .before .before)) _ (c .before .asked5 .given .1) ∙ checked _ _ (omega arith)
+returns-2 : tie.Need-returns-2 Inv-loop μ-loop
+returns-2 c = turn-refuses (turn (c .before .before .before)) _ (c .before .asked5 .given .1)
 
-returns-4 : tie.Need-returns-4 Inv-loop μ-loop
-returns-4 c = turn-end _ _ (c .before .loop .state) _ _ _ _ (c .before .loop .inv) (c .loop-test .left) ∙ checked _ _ (omega arith)
+returns-3 : tie.Need-returns-3 Inv-loop μ-loop
+returns-3 c = turn-end _ _ (c .before .loop .state) _ _ _ _ (c .before .loop .inv) (c .loop-test .left)
 
 pub sanity-check-bits-spec : {M : Type 1} → statement M
 sanity-check-bits-spec =
@@ -178,7 +175,6 @@ sanity-check-bits-spec =
     (tie.spec
     Inv-loop
     μ-loop
-    returns
     mul-end
     new-requires
     loop-holds
@@ -210,7 +206,7 @@ sanity-check-bits-spec =
     loop-again-4
     enum-told
     cast-greatest
-    returns-2
+    returns
     enum-known-asked-5
-    returns-3
-    returns-4)
+    returns-2
+    returns-3)

@@ -1,12 +1,14 @@
--- The check's state as code holds it, two arrays and a depth, and the definition's state that it stands for.
+-- The check's state as code holds it, two arrays and a depth, and the definition's state that it stands for; and what the loop comes to.
 -- Assumes nothing.
 use Prim.Native.Nat.{ℕ, zero, suc, _-_}
 use mathlib.Core.Path.{_≡_}
 use mathlib.Core.List.{List, [], _∷_}
 use lib.ListN.{length, getD}
 use Rattle.asmap_program.specs.declared.Previous.{Previous}
-use Rattle.asmap_program.specs.Check.{Open, State}
+use Rattle.asmap_program.specs.Check.{Open, State, check, stopOf}
+use Rattle.asmap_codes.specs.Instruction.{mapOf}
 use Rattle.asmap_check.specs.declared.CheckState.{CheckState}
+use Rattle.asmap_check.specs.declared.Judged.{Judged}
 
 -- both arrays have 128 places, as their types say
 abbrev pub Arrays : CheckState → Type 0
@@ -27,3 +29,7 @@ top ts d = getD ts (d - 1) 0
 -- the definition's state that the loop's locals stand for
 abbrev pub stateOf : CheckState → ℕ → Previous → ℕ → ℕ → State
 stateOf s at before count deepest = record { at = at; left = s .bits; before = before; opens = opens s; count = count; deepest = deepest }
+
+-- what the loop comes to over w address bits: the check's verdict, and the place at which it stops
+abbrev pub judged : List ℕ → ℕ → Judged
+judged m w = record { verdict = check (mapOf m) w; place = stopOf (mapOf m) w }
