@@ -10,16 +10,18 @@ use Rattle.asmap_program.specs.declared.Instruction.{Instruction}
 use Rattle.asmap_program.specs.declared.Verdict.{Verdict}
 use Rattle.asmap_program.specs.declared.Verdict.the-variants.{Accepted, Refused}
 use Rattle.asmap_program.specs.Map.{limit, Map, Fetched, Whole, CutOpcode, CutOperand}
-use Rattle.asmap_program.specs.Check.{State, Open, Outcome, Next, Done, Refuse, guard, closing, stepWhole, stepOn, step, after, run, start, check}
+use Rattle.asmap_program.specs.Check.{State, Open, Outcome, Next, Done, Refuse, guard, closing, stepWhole, stepOn, step, after, run, start, check, stopOf}
 use Rattle.asmap_codes.specs.Instruction.{mapOf}
-use Rattle.asmap_check.specs.Check.{unlessLong, checkOf}
+use Rattle.asmap_check.specs.Check.{unlessLong, checkOf, reasonOf, stopsUnlessLong, stoppedOf}
+use Rattle.asmap_check.specs.declared.Stopped.{Stopped}
+use Rattle.asmap_check.specs.declared.Stopped.the-variants.{At}
 use Rattle.asmap_walk.specs.declared.Ending.{Ending}
 use Rattle.asmap_walk.specs.declared.Interpreted.the-variants.{Ended}
 use Rattle.asmap_walk.specs.Interpret.{refusedIf, summary, walkOf, interpretOf}
 use Rattle.asmap_records.specs.Output.{Result, Made, No, refuse, on, within, answerOf}
 use Rattle.asmap_records.specs.Unpack.{unpackAs, unpackOf}
 use Rattle.asmap_records.specs.Pack.{fieldBits, recordBits, recordsBits, packBits, packOf}
-use Rattle.answers.specs.Maps.{mapChecked, walkMade, bytesWritten}
+use Rattle.answers.specs.Maps.{mapChecked, checkStopped, walkMade, bytesWritten}
 use Rattle.answers.proofs.Handing.{Counted, Refuses, counted}
 
 -- ---- the check: a step that refuses does so with a number from 2 to 10. P: what is shown of it
@@ -81,6 +83,15 @@ module _ (P : ℕ → Type 0) (reason : (n : ℕ) → 2 ≤ n → n ≤ 10 → P
 
 pub map-checked : (m : List ℕ) (w : ℕ) → Counted (mapChecked (checkOf m w))
 map-checked m w = counted (mapChecked (checkOf m w)) (map-numbers (λ n. 0 < n) (λ n l h. omega arith) m w (omega arith))
+
+-- where it stops: 1 alone
+counted-stop : (long : Bool) (reason place : ℕ) → Counted (checkStopped (stopsUnlessLong long (At reason place)))
+unfolding Counted checkStopped
+counted-stop true reason place = omega arith
+counted-stop false reason place = tt
+
+pub check-stopped : (m : List ℕ) (w : ℕ) → Counted (checkStopped (stoppedOf m w))
+check-stopped m w = counted-stop (ltb limit (length m)) (reasonOf (check (mapOf m) w)) (stopOf (mapOf m) w)
 
 -- ---- the walk
 

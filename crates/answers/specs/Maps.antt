@@ -8,6 +8,8 @@ use Rattle.asmap_program.specs.declared.Verdict.{Verdict}
 use Rattle.asmap_program.specs.declared.Verdict.the-variants as verdict
 use Rattle.asmap_program.specs.declared.Kind.{Kind}
 use Rattle.asmap_program.specs.declared.Kind.the-variants.{Returned, Differed, Aborted}
+use Rattle.asmap_check.specs.declared.Stopped.{Stopped}
+use Rattle.asmap_check.specs.declared.Stopped.the-variants as stopped
 use Rattle.asmap_walk.specs.declared.Ending.{Ending}
 use Rattle.asmap_walk.specs.declared.Interpreted.{Interpreted}
 use Rattle.asmap_walk.specs.declared.Interpreted.the-variants as walk
@@ -20,6 +22,11 @@ use Rattle.answers.specs.Outcome.{Outcome, Done, No, Hands}
 unfoldable pub mapChecked : Verdict → Outcome
 mapChecked (verdict.Accepted count depth) = Done (count ∷ depth ∷ [])
 mapChecked (verdict.Refused n) = No n
+
+-- A map whose check was followed to where it stops: the reason, 0 where it accepts, and the place.
+unfoldable pub checkStopped : Stopped → Outcome
+checkStopped (stopped.At reason place) = Done (reason ∷ place ∷ [])
+checkStopped (stopped.Refused n) = No n
 
 -- The number of each kind of end.
 abbrev pub kindNumber : Kind → ℕ

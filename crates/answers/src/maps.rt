@@ -2,7 +2,8 @@
 ghost use mathlib.Core.Path.{_≡_};
 ghost use mathlib.Core.List.{_∷_, []};
 ghost use Rattle.answers.specs.Outcome.{handed};
-ghost use Rattle.answers.specs.Maps.{mapChecked, kindNumber, walkMade, bytesWritten};
+ghost use Rattle.answers.specs.Maps.{mapChecked, checkStopped, kindNumber, walkMade, bytesWritten};
+use asmap_check::Stopped;
 use asmap_program::Kind;
 use asmap_program::Verdict;
 use asmap_records::Answer;
@@ -19,6 +20,20 @@ pub fn hand_verdict(got: Verdict, count: &mut u32, depth: &mut u8) -> u8
             0
         }
         Verdict::Refused(reason) => reason,
+    }
+}
+
+// Where the check stopped.
+pub fn hand_stop(got: Stopped, reason: &mut u8, place: &mut usize) -> u8
+    ensures { λ r. ⌜ r ∷ now (reason .exit) ∷ now (place .exit) ∷ [] ≡ handed (checkStopped got) (now (reason .entry) ∷ now (place .entry) ∷ []) ⌝ }
+{
+    match got {
+        Stopped::At(why, at) => {
+            *reason = why;
+            *place = at;
+            0
+        }
+        Stopped::Refused(number) => number,
     }
 }
 

@@ -1,13 +1,14 @@
 // Check, walk, unpack and pack (document 01, Check, Walk, Unpack and pack).
 ghost use mathlib.Core.List.{_∷_, []};
-ghost use Rattle.asmap_check.specs.Check.{checkOf};
+ghost use Rattle.asmap_check.specs.Check.{checkOf, stoppedOf};
 ghost use Rattle.asmap_walk.specs.Interpret.{interpretOf};
 ghost use Rattle.asmap_records.specs.Unpack.{unpackOf};
 ghost use Rattle.asmap_records.specs.Pack.{packOf};
 ghost use Rattle.answers.specs.Outcome.{Hands};
-ghost use Rattle.answers.specs.Maps.{mapChecked, walkMade, Writes};
+ghost use Rattle.answers.specs.Maps.{mapChecked, checkStopped, walkMade, Writes};
 ghost use Rattle.answers.specs.Promise.{Demand3, CoreVerdict, CoreNumber};
 use answers::maps::hand_bytes;
+use answers::maps::hand_stop;
 use answers::maps::hand_verdict;
 use answers::maps::hand_walk;
 
@@ -18,6 +19,15 @@ pub extern "C" fn corbastrigo_sanity_check(map: &[u8], count: &mut u32, depth: &
     ensures core { λ r. ⌜ CoreVerdict (now (map .entry)) r ⌝ }
 {
     hand_verdict(asmap_check::sanity_check(map), count, depth)
+}
+
+// Says where the check of a map stops, and why: the reason, 0 where the check accepts and else 2 to 10, and the place, the bit of the map at
+// which it stops. 0 says that both are written, also of a map that the check refuses. Refusal 1.
+#[no_mangle]
+pub extern "C" fn corbastrigo_sanity_check_stop(map: &[u8], reason: &mut u8, place: &mut usize) -> u8
+    ensures { λ r. ⌜ Hands (checkStopped (stoppedOf (now (map .entry)) 128)) r (now (reason .entry) ∷ now (place .entry) ∷ []) (now (reason .exit) ∷ now (place .exit) ∷ []) ⌝ }
+{
+    hand_stop(asmap_check::sanity_check_stop(map), reason, place)
 }
 
 // Walks any map by an address of 16 bytes. `kind` is 1 where the walk ended at a RETURN, 2 at a MATCH that differs, 3 where it
