@@ -113,6 +113,24 @@ static void check(void) {
     IS(depth, 0);
 }
 
+/* The jump of lone_jump is whole, so its map ends at bit 8; two_prefixes is cut in its last RETURN. */
+static void stop(void) {
+    uint8_t reason = BEFORE(1);
+    size_t place = BEFORE(2);
+    IS(corbastrigo_sanity_check_stop(too_long, sizeof too_long, &reason, &place), CORBASTRIGO_MAP_TOO_LONG);
+    IS(reason, BEFORE(1));
+    IS(place, BEFORE(2));
+    IS(corbastrigo_sanity_check_stop(lone_jump, 1, &reason, &place), 0);
+    IS(reason, CORBASTRIGO_MAP_ENDS);
+    IS(place, 8);
+    IS(corbastrigo_sanity_check_stop(two_prefixes, 34, &reason, &place), 0);
+    IS(reason, CORBASTRIGO_CUT);
+    IS(place, 256);
+    IS(corbastrigo_sanity_check_stop(two_prefixes, 35, &reason, &place), 0);
+    IS(reason, 0);
+    IS(place, 256);
+}
+
 static void walk(void) {
     uint8_t address[16], kind = BEFORE(1), bits = BEFORE(4);
     uint32_t number = BEFORE(2), count = BEFORE(3);
@@ -256,6 +274,7 @@ static void filters(void) {
 int main(void) {
     codes();
     check();
+    stop();
     walk();
     records();
     groups();

@@ -80,6 +80,11 @@ uint8_t corbastrigo_encode_instruction(uint32_t opcode, uint32_t operand, uint64
  * 10. No map that is accepted here can abort a walk. */
 uint8_t corbastrigo_sanity_check(const uint8_t *map, size_t map_len, uint32_t *count, uint8_t *depth);
 
+/* Where the check of a map stops, and why. Writes the reason, 0 where the check accepts and else the number of its refusal, 2 to 10; and the
+ * place, a bit of the map: the first of the instruction at which the check accepts or refuses, or 8 * map_len where the map ends before
+ * one. 0 says that both are written, not that the map is sane. Refusal 1. */
+uint8_t corbastrigo_sanity_check_stop(const uint8_t *map, size_t map_len, uint8_t *reason, size_t *place);
+
 /* How a walk ended. */
 #define CORBASTRIGO_RETURNED 1 /* at a RETURN */
 #define CORBASTRIGO_DIFFERED 2 /* at a MATCH that differs, with the default, 0 until a DEFAULT was read */

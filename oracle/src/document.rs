@@ -127,11 +127,17 @@ impl Check<'_> {
 
 /// The check over 128 address bits.
 pub fn check(map: &[u8]) -> Verdict {
+    check_stop(map).0
+}
+
+/// The check, and the bit at which it stands when it accepts or refuses: before that step reads anything.
+pub fn check_stop(map: &[u8]) -> (Verdict, usize) {
     let (previous, short_before) = (JUMP, false);
     let mut check = Check { map, pos: 0, left: 128, previous, short_before, open: vec![], count: 0, depth: 0 };
     loop {
+        let place = check.pos;
         if let Err(verdict) = check.step() {
-            return verdict;
+            return (verdict, place);
         }
     }
 }

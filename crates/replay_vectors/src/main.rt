@@ -17,6 +17,7 @@ use crate::groups::group;
 use crate::groups::pick;
 use crate::groups::prefix_group;
 use crate::maps::check;
+use crate::maps::check_stop;
 use crate::maps::unpack_or_pack;
 use crate::maps::walk;
 use libc::STDIN_FILENO;
@@ -49,7 +50,7 @@ fn word_room() -> [u8; 262144]
 
 // ---- a line
 
-// The kinds of call by their letters, and 17 for any other letter. They are counted and printed in this order.
+// The kinds of call by their letters, and 18 for any other letter. They are counted and printed in this order.
 fn kind_of(letter: u8) -> usize {
     match letter {
         b'd' => 0,
@@ -58,18 +59,19 @@ fn kind_of(letter: u8) -> usize {
         b'j' => 3,
         b'b' => 4,
         b'c' => 5,
-        b'w' => 6,
-        b'u' => 7,
-        b'p' => 8,
-        b'n' => 9,
-        b'g' => 10,
-        b'h' => 11,
-        b's' => 12,
-        b't' => 13,
-        b'm' => 14,
-        b'f' => 15,
-        b'r' => 16,
-        _ => 17,
+        b'k' => 6,
+        b'w' => 7,
+        b'u' => 8,
+        b'p' => 9,
+        b'n' => 10,
+        b'g' => 11,
+        b'h' => 12,
+        b's' => 13,
+        b't' => 14,
+        b'm' => 15,
+        b'f' => 16,
+        b'r' => 17,
+        _ => 18,
     }
 }
 
@@ -82,10 +84,10 @@ fn shape_of(kind: usize) -> [u8; 9]
         1 => [1, 4, 9, 0, 0, 0, 0, 0, 0],
         2 => [9, 8, 9, 0, 0, 0, 0, 0, 0],
         3 => [4, 4, 9, 0, 0, 0, 0, 0, 0],
-        6 | 7 | 8 => [9, 9, 9, 0, 0, 0, 0, 0, 0],
-        10 | 11 => [1, 9, 9, 9, 0, 0, 0, 0, 0],
-        12 | 13 => [1, 9, 9, 8, 9, 9, 9, 9, 0],
-        16 => [1, 2, 9, 9, 0, 0, 0, 0, 0],
+        7 | 8 | 9 => [9, 9, 9, 0, 0, 0, 0, 0, 0],
+        11 | 12 => [1, 9, 9, 9, 0, 0, 0, 0, 0],
+        13 | 14 => [1, 9, 9, 8, 9, 9, 9, 9, 0],
+        17 => [1, 2, 9, 9, 0, 0, 0, 0, 0],
         _ => [9, 9, 0, 0, 0, 0, 0, 0, 0],
     }
 }
@@ -143,25 +145,26 @@ fn replay_code(kind: usize, bytes: &[u8], words: Words) -> Seen {
 fn replay_map(kind: usize, bytes: &[u8], words: Words) -> Seen {
     match kind {
         5 => check(bytes, words),
-        6 => walk(bytes, words),
+        6 => check_stop(bytes, words),
+        7 => walk(bytes, words),
         _ => unpack_or_pack(kind, bytes, words),
     }
 }
 
 fn replay_peers(kind: usize, bytes: &[u8], words: Words) -> Seen {
     match kind {
-        9 => prefix_group(bytes, words),
-        10 => group(bytes, words, true),
-        11 => group(bytes, words, false),
-        12 => pick(bytes, words, 0),
+        10 => prefix_group(bytes, words),
+        11 => group(bytes, words, true),
+        12 => group(bytes, words, false),
+        13 => pick(bytes, words, 0),
         _ => pick(bytes, words, 2),
     }
 }
 
 fn replay_address(kind: usize, bytes: &[u8], words: Words) -> Seen {
     match kind {
-        14 => mapped(bytes, words),
-        15 => unroutable(bytes, words),
+        15 => mapped(bytes, words),
+        16 => unroutable(bytes, words),
         _ => relay_skip(bytes, words),
     }
 }
@@ -171,10 +174,10 @@ fn replay_words(kind: usize, bytes: &[u8], words: Words) -> Seen {
     if kind < 5 {
         return replay_code(kind, bytes, words);
     }
-    if kind < 9 {
+    if kind < 10 {
         return replay_map(kind, bytes, words);
     }
-    if kind < 14 {
+    if kind < 15 {
         return replay_peers(kind, bytes, words);
     }
     replay_address(kind, bytes, words)
@@ -192,7 +195,7 @@ fn letter_of(line: &[u8]) -> u8 {
 }
 
 fn replay_line(kind: usize, line: &[u8], bytes: &mut [u8]) -> Seen {
-    if 16 < kind {
+    if 17 < kind {
         return Seen::Unread;
     }
     let words = read_words(line, bytes);
@@ -208,19 +211,19 @@ fn replay_line(kind: usize, line: &[u8], bytes: &mut [u8]) -> Seen {
 
 // ---- the list
 
-// Every line is counted at one of 37 places: for each kind of call the answers that are ours and, 17 places on, those that differ; then
+// Every line is counted at one of 39 places: for each kind of call the answers that are ours and, 18 places on, those that differ; then
 // headings, lines with a wrong count of words, and lines that could not be read.
 fn place_of(kind: usize, seen: Seen) -> usize
-    ensures { λ r. ⌜ r < 37 ⌝ }
+    ensures { λ r. ⌜ r < 39 ⌝ }
 {
-    if 16 < kind {
-        return 36;
+    if 17 < kind {
+        return 38;
     }
     match seen {
         Seen::Same => kind,
-        Seen::Differs => 17 + kind,
-        Seen::Count => 35,
-        Seen::Unread => 36,
+        Seen::Differs => 18 + kind,
+        Seen::Count => 37,
+        Seen::Unread => 38,
     }
 }
 
@@ -233,18 +236,18 @@ fn is_heading(line: &[u8]) -> bool {
 }
 
 fn line_place(line: &[u8], bytes: &mut [u8]) -> usize
-    ensures { λ r. ⌜ r < 37 ⌝ }
+    ensures { λ r. ⌜ r < 39 ⌝ }
 {
     if is_heading(line) {
-        return 34;
+        return 36;
     }
     let kind = kind_of(letter_of(line));
     place_of(kind, replay_line(kind, line, bytes))
 }
 
 // One line more. The list is far too short for a count to wrap.
-fn add_one(counts: &mut [u64; 37], place: usize)
-    requires { ⌜ place < 37 ⌝ }
+fn add_one(counts: &mut [u64; 39], place: usize)
+    requires { ⌜ place < 39 ⌝ }
 {
     counts[place] = wrapping_add_u64(counts[place], 1);
 }
@@ -259,16 +262,16 @@ fn say_number(n: u64) {
 
 // Names a line that is neither a heading nor has our answer, by the place where it is counted.
 fn say_line(line: u64, place: usize) {
-    if place < 17 || place == 34 {
+    if place < 18 || place == 36 {
         return;
     }
     say(b"line ");
     say_number(line);
-    if place < 34 {
+    if place < 36 {
         say(b" differs\n");
         return;
     }
-    if place < 36 {
+    if place < 38 {
         say(b" has a wrong count of words\n");
         return;
     }
@@ -276,7 +279,7 @@ fn say_line(line: u64, place: usize) {
 }
 
 // Hands back how many lines there are.
-fn replay_list(list: &[u8], bytes: &mut [u8], counts: &mut [u64; 37]) -> u64 {
+fn replay_list(list: &[u8], bytes: &mut [u8], counts: &mut [u64; 39]) -> u64 {
     let mut lines: u64 = 0;
     let mut at: usize = 0;
     while at < list.len() {
@@ -290,10 +293,10 @@ fn replay_list(list: &[u8], bytes: &mut [u8], counts: &mut [u64; 37]) -> u64 {
     lines
 }
 
-fn say_kind(name: &[u8], counts: &[u64; 37], kind: usize)
-    requires { ⌜ kind < 17 ⌝ }
+fn say_kind(name: &[u8], counts: &[u64; 39], kind: usize)
+    requires { ⌜ kind < 18 ⌝ }
 {
-    let differ = counts[kind + 17];
+    let differ = counts[kind + 18];
     say(name);
     say_number(wrapping_add_u64(counts[kind], differ));
     say(b" answers, ");
@@ -301,7 +304,7 @@ fn say_kind(name: &[u8], counts: &[u64; 37], kind: usize)
     say(b" differ\n");
 }
 
-fn say_codes(counts: &[u64; 37]) {
+fn say_codes(counts: &[u64; 39]) {
     say_kind(b"code read: ", counts, 0);
     say_kind(b"code written: ", counts, 1);
     say_kind(b"instruction read: ", counts, 2);
@@ -309,35 +312,36 @@ fn say_codes(counts: &[u64; 37]) {
     say_kind(b"bit reader: ", counts, 4);
 }
 
-fn say_maps(counts: &[u64; 37]) {
+fn say_maps(counts: &[u64; 39]) {
     say_kind(b"check: ", counts, 5);
-    say_kind(b"walk: ", counts, 6);
-    say_kind(b"unpack: ", counts, 7);
-    say_kind(b"pack: ", counts, 8);
+    say_kind(b"where a check stops: ", counts, 6);
+    say_kind(b"walk: ", counts, 7);
+    say_kind(b"unpack: ", counts, 8);
+    say_kind(b"pack: ", counts, 9);
 }
 
-fn say_peers(counts: &[u64; 37]) {
-    say_kind(b"group by prefix: ", counts, 9);
-    say_kind(b"group: ", counts, 10);
-    say_kind(b"group, map unchecked: ", counts, 11);
-    say_kind(b"pick: ", counts, 12);
-    say_kind(b"pick, map unchecked: ", counts, 13);
+fn say_peers(counts: &[u64; 39]) {
+    say_kind(b"group by prefix: ", counts, 10);
+    say_kind(b"group: ", counts, 11);
+    say_kind(b"group, map unchecked: ", counts, 12);
+    say_kind(b"pick: ", counts, 13);
+    say_kind(b"pick, map unchecked: ", counts, 14);
 }
 
-fn say_addresses(counts: &[u64; 37]) {
-    say_kind(b"IPv4-mapped address: ", counts, 14);
-    say_kind(b"unroutable: ", counts, 15);
-    say_kind(b"relay skip: ", counts, 16);
+fn say_addresses(counts: &[u64; 39]) {
+    say_kind(b"IPv4-mapped address: ", counts, 15);
+    say_kind(b"unroutable: ", counts, 16);
+    say_kind(b"relay skip: ", counts, 17);
 }
 
-fn say_lines(lines: u64, counts: &[u64; 37]) {
+fn say_lines(lines: u64, counts: &[u64; 39]) {
     say_number(lines);
     say(b" lines, ");
-    say_number(counts[34]);
-    say(b" of them headings, ");
-    say_number(counts[35]);
-    say(b" with a wrong count of words, ");
     say_number(counts[36]);
+    say(b" of them headings, ");
+    say_number(counts[37]);
+    say(b" with a wrong count of words, ");
+    say_number(counts[38]);
     say(b" not read\n");
 }
 
@@ -345,7 +349,7 @@ fn main() {
     let mut list = list_room();
     let mut bytes = word_room();
     let n = io::read_full(STDIN_FILENO, &mut list);
-    let mut counts = [0u64; 37];
+    let mut counts = [0u64; 39];
     let lines = replay_list(&list[..n], &mut bytes, &mut counts);
     say_codes(&counts);
     say_maps(&counts);

@@ -1,4 +1,5 @@
 // The check, the walk, unpack and pack.
+use asmap_check::Stopped;
 use asmap_program::Kind;
 use asmap_program::Verdict;
 use asmap_records::Answer;
@@ -20,6 +21,18 @@ pub fn check(bytes: &[u8], words: Words) -> Seen {
         Verdict::Refused(reason) => compared(refused(reason), answer),
         Verdict::Accepted(count, depth) => compared(
             done().number(count as u64, 4).byte(depth),
+            answer,
+        ),
+    }
+}
+
+pub fn check_stop(bytes: &[u8], words: Words) -> Seen {
+    let stopped = asmap_check::sanity_check_stop(word(bytes, words, 0));
+    let answer = word(bytes, words, 1);
+    match stopped {
+        Stopped::Refused(reason) => compared(refused(reason), answer),
+        Stopped::At(reason, place) => compared(
+            done().byte(reason).number(place as u64, 8),
             answer,
         ),
     }
@@ -58,9 +71,9 @@ fn wrote(got: Answer) -> Out {
     }
 }
 
-// Unpack is kind 7, and pack 8.
+// Unpack is kind 8, and pack 9.
 fn write_into(kind: usize, input: &[u8], out: &mut [u8]) -> Answer {
-    if kind == 7 {
+    if kind == 8 {
         return asmap_unpack::unpack(input, out);
     }
     asmap_pack::pack(input, out)

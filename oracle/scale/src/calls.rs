@@ -41,6 +41,12 @@ pub fn sanity_check(map: &[u8]) -> (u8, u32, u8) {
     (answer, count, depth)
 }
 
+pub fn sanity_check_stop(map: &[u8]) -> (u8, u8, usize) {
+    let (mut reason, mut place) = (BEFORE, BEFORE_SIZE);
+    let answer = unsafe { sys::corbastrigo_sanity_check_stop(map.as_ptr(), map.len(), &mut reason, &mut place) };
+    (answer, reason, place)
+}
+
 pub fn interpret(map: &[u8], address: &[u8]) -> (u8, u8, u32, u32, u8) {
     let (mut kind, mut number, mut count, mut bits) = (BEFORE, BEFORE32, BEFORE32, BEFORE);
     let answer = unsafe {

@@ -29,6 +29,7 @@ fn one_too_many(tally: &mut Tally, map: &[u8]) {
     }
     tally.same("instruction", &HUGE, calls::decode_instruction(map, 0), (1, BEFORE32, BEFORE32, BEFORE_SIZE));
     tally.same("check", &HUGE, calls::sanity_check(map), (1, BEFORE32, BEFORE));
+    tally.same("where it stops", &HUGE, calls::sanity_check_stop(map), (1, BEFORE, BEFORE_SIZE));
     tally.same("walk", &HUGE, calls::interpret(map, &[0; 16]), (1, BEFORE, BEFORE32, BEFORE32, BEFORE));
     tally.same("walk", &HUGE, calls::interpret(map, &[0; 15]), (11, BEFORE, BEFORE32, BEFORE32, BEFORE));
     tally.same("unpack", &HUGE, calls::unpack(map, 64), (1, BEFORE_SIZE, vec![BEFORE; 64]));

@@ -29,7 +29,7 @@ fn past_its_check(map: &[u8]) -> AsMap {
 
 /// Checks a map within the limit, and holds document 01's verdict to the original's.
 pub fn known<'a>(tally: &mut Tally, map: &'a [u8]) -> Known<'a> {
-    let verdict = document::check(map);
+    let (verdict, place) = document::check_stop(map);
     let (expected, accepted) = match verdict {
         Verdict::Accepted { count, depth } => ((0, count, depth as u8), true),
         Verdict::Refused(reason) => ((number(reason), BEFORE32, BEFORE), false),
@@ -37,6 +37,7 @@ pub fn known<'a>(tally: &mut Tally, map: &'a [u8]) -> Known<'a> {
     assert_eq!(asmap::sanity_check(map), accepted, "document 01 and the original differ on {map:02x?}");
     *(if accepted { &mut tally.accepted } else { &mut tally.refused }) += 1;
     tally.same("check", &map, calls::sanity_check(map), expected);
+    tally.same("where it stops", &map, calls::sanity_check_stop(map), (0, expected.0, place));
     Known { map, verdict, original: past_its_check(map) }
 }
 

@@ -56,6 +56,7 @@ extern "C" {
     pub fn corbastrigo_encode_jump(value: u32, bits: *mut u64, len: *mut usize) -> u8;
     pub fn corbastrigo_encode_instruction(opcode: u32, operand: u32, bits: *mut u64, len: *mut usize) -> u8;
     pub fn corbastrigo_sanity_check(map: *const u8, map_len: usize, count: *mut u32, depth: *mut u8) -> u8;
+    pub fn corbastrigo_sanity_check_stop(map: *const u8, map_len: usize, reason: *mut u8, place: *mut usize) -> u8;
     pub fn corbastrigo_interpret(
         map: *const u8,
         map_len: usize,

@@ -18,6 +18,7 @@ mod records;
 mod refusal;
 
 pub use map::{interpret, ip16_for_lookup, sanity_check, AsMap, Check, End, Walk};
+pub use map::{sanity_check_stop, Stop};
 pub use netaddr::{addrv2_skip_relay, clearnet_unroutable};
 pub use netgroup::{netgroup, pick, prefix_group, select_diverse, Candidate, Pick};
 pub use records::{instructions, pack, pack_into, unpack, unpack_into, Instruction, RECORD_BYTES};

@@ -22,6 +22,25 @@ pub fn sanity_check(map: &[u8]) -> Result<Check, Refusal> {
     Ok(check)
 }
 
+/// Where the check of a map stops.
+#[derive(Clone, Copy, Debug, PartialEq, Eq)]
+#[non_exhaustive]
+pub struct Stop {
+    /// Why the check refuses the map, 2 to 10; none where it accepts.
+    pub reason: Option<Refusal>,
+    /// The bit of the map at which the check stops: the first of the instruction at which it accepts or refuses, or the number of the map's
+    /// bits where the map ends before one. Its byte is `place / 8`, and in it the bits run from the lowest upward.
+    pub place: usize,
+}
+
+/// Where the check of a map stops, and why: for whoever has to say where in a map the fault was met. Refusal 1.
+pub fn sanity_check_stop(map: &[u8]) -> Result<Stop, Refusal> {
+    let (mut reason, mut place) = (0, 0);
+    let answer = unsafe { sys::corbastrigo_sanity_check_stop(map.as_ptr(), map.len(), &mut reason, &mut place) };
+    Refusal::check(answer)?;
+    Ok(Stop { reason: Refusal::check(reason).err(), place })
+}
+
 /// How a walk ended.
 #[derive(Clone, Copy, Debug, PartialEq, Eq)]
 pub enum End {

@@ -61,6 +61,25 @@ fn a_refused_map_is_none_and_says_why() {
 }
 
 #[test]
+fn the_place_of_a_refusal_is_told() {
+    for (bytes, reason, place) in [
+        (&[][..], 2, 0),
+        (&[0x01], 2, 8),
+        (&[0x01, 0xfb, 0x03, 0x00], 3, 26),
+        (&[0x07, 0, 0], 5, 19),
+        (&[0xfd, 0x71, 0x3a, 0, 0], 7, 22),
+        (&[0x63, 0, 0, 0], 10, 5),
+        (&TWO_PREFIXES[..34], 4, 256),
+    ] {
+        let stop = sanity_check_stop(bytes).expect("within the limit");
+        assert_eq!((stop.reason.map(Refusal::number), stop.place), (Some(reason), place));
+    }
+    let stop = sanity_check_stop(&TWO_PREFIXES).expect("within the limit");
+    assert_eq!((stop.reason, stop.place), (None, 256));
+    assert_eq!(number(sanity_check_stop(&vec![0; MAX_MAP_BYTES + 1])), 1);
+}
+
+#[test]
 fn an_abort_has_the_number_0_and_is_told() {
     let walk = interpret(&[1], &[0; 16]).expect("any map is walked");
     assert_eq!(walk, Walk { end: End::Aborted, number: 0, count: 1, bits: 1 });

@@ -10,13 +10,14 @@ use std::net::{IpAddr, Ipv4Addr, Ipv6Addr};
 use std::panic;
 
 /// The calls in the order in which the program counts them: letter and name.
-pub const CALLS: [(char, &str); 17] = [
+pub const CALLS: [(char, &str); 18] = [
     ('d', "code read"),
     ('e', "code written"),
     ('i', "instruction read"),
     ('j', "instruction written"),
     ('b', "bit reader"),
     ('c', "check"),
+    ('k', "where a check stops"),
     ('w', "walk"),
     ('u', "unpack"),
     ('p', "pack"),
@@ -137,15 +138,18 @@ impl List {
 
     // ---- maps
 
-    pub fn check(&mut self, map: &[u8]) -> Verdict {
-        let verdict = document::check(map);
+    /// Two lines: the check's, and that of where it stops.
+    pub fn check(&mut self, map: &[u8]) -> (Verdict, usize) {
+        let (verdict, place) = document::check_stop(map);
         let answer = match verdict {
             Verdict::Accepted { count, depth } => Ok([&count.to_le_bytes()[..], &[depth as u8]].concat()),
             Verdict::Refused(reason) => Err(reason),
         };
         assert_eq!(answer.is_ok(), asmap::sanity_check(map), "the original's verdict on {map:?}");
         self.add('c', &[map, &answered(&answer)]);
-        verdict
+        let reason = answer.err().unwrap_or(0) as u8;
+        self.add('k', &[map, &answered(&Ok([&[reason][..], &place.to_le_bytes()].concat()))]);
+        (verdict, place)
     }
 
     /// None where the address has not 16 bytes.

@@ -113,8 +113,8 @@ fn both_ways(list: &mut List, map: &[u8]) {
 fn map(list: &mut List, tables: &mut Tables, name: &str, text: &str, map: &[u8]) {
     list.heading(name);
     let verdict = match list.check(map) {
-        Verdict::Accepted { count, depth } => format!("accepted, {count} instructions, depth {depth}"),
-        Verdict::Refused(reason) => format!("refused {reason}"),
+        (Verdict::Accepted { count, depth }, _) => format!("accepted, {count} instructions, depth {depth}"),
+        (Verdict::Refused(reason), place) => format!("refused {reason} at bit {place}"),
     };
     let text = if text.is_empty() { String::new() } else { format!(" ({text})") };
     tables.row("check", format!("{name}{text}: {} bytes, {verdict}", map.len()));
