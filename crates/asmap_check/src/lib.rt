@@ -36,11 +36,14 @@ struct Judged {
 // The arrays are never full: an open jump has used a bit and saved those left after it, so depth and bits left together are at most 128.
 // A target fits a u32: a map has at most 134,217,728 bits and a JUMP skips at most 2,147,483,632, together less than 2 to the 32. Saved
 // bits fit a u8: they are at most 128.
+//
+// The bits stand between the arrays and the depth: straight behind the arrays the depth is cleared with them, in one piece, and the first
+// turn waits for that before it can read it. The check of a map of three bytes then takes half as long again.
 struct CheckState {
     targets: [u32; 128],
     saved: [u8; 128],
-    depth: usize,
     bits: u8,
+    depth: usize,
 }
 
 impl CheckState {
@@ -50,8 +53,8 @@ impl CheckState {
         CheckState {
             targets: [0; 128],
             saved: [0; 128],
-            depth: 0,
             bits: bits,
+            depth: 0,
         }
     }
 
@@ -114,6 +117,15 @@ fn innermost(targets: &[u32; 128], depth: usize) -> u32
     targets[depth - 1]
 }
 
+fn judge(verdict: Verdict, place: usize) -> Judged
+    ensures { λ r. ⌜ r ≡ record { verdict = verdict; place = place } ⌝ }
+{
+    Judged {
+        verdict: verdict,
+        place: place,
+    }
+}
+
 // The check of a map within the limit over a number of address bits, which the public calls fix: the arrays hold as many jumps as there
 // are bits.
 fn sanity_check_bits(map: &[u8], bits: u8) -> Judged
@@ -161,23 +173,14 @@ fn sanity_check_bits(map: &[u8], bits: u8) -> Judged
             }
             Act::Accepts => {
                 let greatest = deepest as u8;
-                return Judged {
-                    verdict: Verdict::Accepted(count, greatest),
-                    place: pos,
-                };
+                return judge(Verdict::Accepted(count, greatest), pos);
             }
             Act::Refuses(reason) => {
-                return Judged {
-                    verdict: Verdict::Refused(reason),
-                    place: pos,
-                };
+                return judge(Verdict::Refused(reason), pos);
             }
         }
     }
-    Judged {
-        verdict: Verdict::Refused(2),
-        place: pos,
-    }
+    judge(Verdict::Refused(2), pos)
 }
 
 // A map over the limit, of which nothing is read.

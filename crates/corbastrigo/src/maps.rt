@@ -24,7 +24,11 @@ pub extern "C" fn corbastrigo_sanity_check(map: &[u8], count: &mut u32, depth: &
 // Says where the check of a map stops, and why: the reason, 0 where the check accepts and else 2 to 10, and the place, the bit of the map at
 // which it stops. 0 says that both are written, also of a map that the check refuses. Refusal 1.
 #[no_mangle]
-pub extern "C" fn corbastrigo_sanity_check_stop(map: &[u8], reason: &mut u8, place: &mut usize) -> u8
+pub extern "C" fn corbastrigo_sanity_check_stop(
+    map: &[u8],
+    reason: &mut u8,
+    place: &mut usize,
+) -> u8
     ensures { λ r. ⌜ Hands (checkStopped (stoppedOf (now (map .entry)) 128)) r (now (reason .entry) ∷ now (place .entry) ∷ []) (now (reason .exit) ∷ now (place .exit) ∷ []) ⌝ }
 {
     hand_stop(asmap_check::sanity_check_stop(map), reason, place)

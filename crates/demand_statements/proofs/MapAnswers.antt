@@ -1,21 +1,26 @@
 -- The numbers of check, walk, unpack and pack.
 -- Assumes nothing.
 use Prim.Native.Nat.{ℕ, _%_, _≤_, _<_}
-use mathlib.Core.Path.{_≡_, _∙_, refl, sym, ap}
+use mathlib.Core.Path.{_≡_, _∙_, refl, sym, ap, subst}
 use mathlib.Core.Bool.{Bool, true, false, not}
 use mathlib.Core.Logic.{_⊎_, inl, inr, _≢_}
 use mathlib.Core.List.{List, [], _∷_}
 use native.Mathlib.Omega.{arith}
 use native.Mathlib.Decide.{decLe}
-use borrow.Author.Tests.{lt-ltb, le-ltb, eq-eqb, ne-eqb}
+use borrow.Author.Tests.{lt-ltb, le-ltb, ltb-false, eq-eqb, ne-eqb}
 use lib.Dec.{ltb, eqb}
 use lib.ListN.{length}
-use Rattle.asmap_program.specs.declared.Verdict.the-variants.{Refused}
+use Rattle.asmap_program.specs.declared.Verdict.{Verdict}
+use Rattle.asmap_program.specs.declared.Verdict.the-variants.{Accepted, Refused}
 use Rattle.asmap_program.specs.Map.{limit}
 use Rattle.asmap_program.specs.Walk.{Walked}
-use Rattle.asmap_program.specs.Check.{check}
+use Rattle.asmap_program.specs.Check.{check, StopsAt, stopOf}
+use Rattle.asmap_program.proofs.Stop.{stops-at, stop-inside}
 use Rattle.asmap_codes.specs.Instruction.{mapOf}
-use Rattle.asmap_check.specs.Check.{unlessLong, checkOf}
+use Rattle.asmap_codes.proofs.MapLaws.{laws, map-bits}
+use Rattle.asmap_check.specs.declared.Stopped.the-variants.{At}
+use Rattle.asmap_check.specs.Check.{unlessLong, checkOf, reasonOf, stopsUnlessLong, stoppedOf}
+use Rattle.asmap_check.proofs.Standing.{checked}
 use Rattle.asmap_walk.specs.declared.Ending.{Ending}
 use Rattle.asmap_walk.specs.declared.Interpreted.{Interpreted}
 use Rattle.asmap_walk.specs.declared.Interpreted.the-variants.{Ended}
@@ -25,9 +30,9 @@ use Rattle.asmap_records.specs.Unpack.{unpackOf}
 use Rattle.asmap_records.specs.Pack.{packBits, packOf}
 use Rattle.asmap_records.proofs.OutputLaws.{made-same}
 use Rattle.answers.specs.Outcome.{handed, IsDone, Hands}
-use Rattle.answers.specs.Maps.{mapChecked, kindNumber, endNumbers, walkMade, bytesWritten, Writes}
+use Rattle.answers.specs.Maps.{mapChecked, checkStopped, kindNumber, endNumbers, walkMade, bytesWritten, Writes}
 use Rattle.answers.proofs.NeverZeroMaps.{check-numbers, map-numbers, unpack-numbers, pack-numbers}
-use Rattle.demand_statements.specs.AnyInput.{Checks, Told, Walks, Unpacks, Packs}
+use Rattle.demand_statements.specs.AnyInput.{Checks, Stops, Told, Walks, Unpacks, Packs}
 use Rattle.demand_statements.proofs.AnswerLaws.{kept, numbered, refused-as, done-as, handed-out, refused-by}
 use Rattle.demand_statements.proofs.TripLaws.{wrote, no-room, left-alone, unpack-made, unpack-size, unpack-answers}
 
@@ -64,6 +69,52 @@ module _ (m : List ℕ) {r : ℕ} {entry exit : List ℕ} where
     only-then = long-only h;
     untouched = kept _ h;
   }
+
+-- ---- where it stops
+
+-- an answer of 0 hands out the reason and the place, by the call's test; and the map is within the limit
+stop-numbers : (m : List ℕ) (long : Bool) → ltb limit (length m) ≡ long → (why at : ℕ) {r reason place : ℕ} {entry : List ℕ}
+    → Hands (checkStopped (stopsUnlessLong long (At why at))) r entry (reason ∷ place ∷ []) → r ≡ 0
+    → (length m ≤ 16777216) × ((reason ≡ why) × (place ≡ at))
+unfolding handed IsDone checkStopped
+stop-numbers m true q why at h z = absurd (h .zero-is-done z)
+stop-numbers m false q why at h z = let k = h .numbers in (ltb-false limit (length m) q, (cc, cc))
+
+module _ (m : List ℕ) {r reason place : ℕ} {entry : List ℕ} (h : Hands (checkStopped (stoppedOf m 128)) r entry (reason ∷ place ∷ [])) where
+  found : r ≡ 0 → (length m ≤ 16777216) × ((reason ≡ reasonOf (check (mapOf m) 128)) × (place ≡ stopOf (mapOf m) 128))
+  found z = stop-numbers m (ltb limit (length m)) refl (reasonOf (check (mapOf m) 128)) (stopOf (mapOf m) 128) h z
+
+  -- the reason is the one in the verdict
+  same-reason : r ≡ 0 → (v : Verdict) → checkOf m 128 ≡ v → reason ≡ reasonOf v
+  same-reason z v e = let f = found z in f .1 .0 ∙ ap reasonOf (checked m 128 (f .0) ∙ e)
+
+  by-test : (b : Bool) → ltb limit (length m) ≡ b → checkStopped (stoppedOf m 128) ≡ checkStopped (stopsUnlessLong b (At (reasonOf (check (mapOf m) 128)) (stopOf (mapOf m) 128)))
+  by-test b e = ap (λ (x : Bool). checkStopped (stopsUnlessLong x (At (reasonOf (check (mapOf m) 128)) (stopOf (mapOf m) 128)))) e
+
+  pub stops : Stops m r entry reason place
+  unfolding checkStopped
+  stops = record {
+    too-long = λ l. refused-as _ (by-test true (lt-ltb limit (length m) l)) h;
+    answered = λ l. done-as _ (by-test false (le-ltb limit (length m) l)) h;
+    accepted = λ c d z e. same-reason z (Accepted c d) e;
+    refused = λ n z e. same-reason z (Refused n) e;
+    exact = λ z. found z .1 .1;
+    stands = λ z.
+        let f = found z in
+        subst (StopsAt (mapOf m) 128 (checkOf m 128)) (sym (f .1 .1))
+        (subst (λ (v : Verdict). StopsAt (mapOf m) 128 v (stopOf (mapOf m) 128)) (checked m 128 (f .0)) (stops-at (mapOf m) (laws m) 128));
+    inside = λ z. omega (arith, found z .1 .1, stop-inside (mapOf m) (laws m) 128, map-bits m);
+    untouched = kept _ h;
+  }
+
+-- where it stops, and what the check says
+pub stops-as-checked : (m : List ℕ) {a r : ℕ} {reason place : ℕ} {entry before after : List ℕ}
+    → Stops m a entry reason place → a ≡ 0 → Checks m r before after → reason ≡ r
+stops-as-checked m {r} {reason} s z k = by (checkOf m 128) refl
+  where
+    by : (v : Verdict) → checkOf m 128 ≡ v → reason ≡ r
+    by (Accepted c d) e = s .accepted c d z e ∙ sym (k .accepted c d e .0)
+    by (Refused n) e = s .refused n z e ∙ sym (k .refused n e)
 
 -- ---- the walk
 

@@ -8,7 +8,9 @@ use mathlib.Core.List.{List, [], _∷_}
 use lib.ListN.{length, take, drop, getD}
 use Rattle.asmap_program.specs.declared.Kind.the-variants.{Returned, Differed, Aborted}
 use Rattle.asmap_program.specs.declared.Verdict.the-variants.{Accepted, Refused}
+use Rattle.asmap_program.specs.Check.{StopsAt, stopOf}
 use Rattle.asmap_program.specs.Walk.{Walked}
+use Rattle.asmap_codes.specs.Instruction.{mapOf}
 use Rattle.asmap_check.specs.Check.{checkOf}
 use Rattle.asmap_walk.specs.Interpret.{walkOf}
 
@@ -61,6 +63,19 @@ pub record Checks (m : List ℕ) (r : ℕ) (entry exit : List ℕ) : Type 0 wher
   pub too-long : 16777216 < length m → r ≡ 1
   pub only-then : r ≡ 1 → 16777216 < length m
   pub untouched : Untouched r entry exit
+
+-- Where the check stops: 1 exactly for a map that is too long, else 0, with the reason, which is 0 where the defined check accepts and its
+-- number where it refuses, and with the place. There the check stands in a state that it comes to from the map's start, and its next
+-- step gives its verdict; so the place is in the map, or its end.
+pub record Stops (m : List ℕ) (r : ℕ) (entry : List ℕ) (reason place : ℕ) : Type 0 where
+  pub too-long : 16777216 < length m → r ≡ 1
+  pub answered : length m ≤ 16777216 → r ≡ 0
+  pub accepted : (c d : ℕ) → r ≡ 0 → checkOf m 128 ≡ Accepted c d → reason ≡ 0
+  pub refused : (n : ℕ) → r ≡ 0 → checkOf m 128 ≡ Refused n → reason ≡ n
+  pub exact : r ≡ 0 → place ≡ stopOf (mapOf m) 128
+  pub stands : r ≡ 0 → StopsAt (mapOf m) 128 (checkOf m 128) place
+  pub inside : r ≡ 0 → place ≤ 8 * length m
+  pub untouched : Untouched r entry (reason ∷ place ∷ [])
 
 -- The numbers of a walk w: 1 for a RETURN, 2 for a difference, 3 for an abort; its number, the instructions read, the address bits read.
 pub record Told (w : Walked) (kind number count bits : ℕ) : Type 0 where

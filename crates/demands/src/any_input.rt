@@ -1,9 +1,12 @@
 // Demand 1: whatever is passed, the answer is 0 or a number of document 01, and a refused call writes nothing. The contracts are in
 // `demand_statements/specs/AnyInput`; groups and picks have theirs in `picks`. A code that is read is also what Core reads (demand 2, ensures core).
+ghost use mathlib.Core.Path.{_≡_};
 ghost use mathlib.Core.List.{_∷_, []};
+ghost use Prim.Native.Nat.{_≤_};
+ghost use lib.ListN.{length};
 ghost use Rattle.asmap_codes.specs.Core.{fileOf};
 ghost use Rattle.demand_statements.specs.Same.{CoreReads};
-ghost use Rattle.demand_statements.specs.AnyInput.{Reads, Writes, WritesInstruction, Checks, Walks, Unpacks, Packs, Filters, Relays};
+ghost use Rattle.demand_statements.specs.AnyInput.{Reads, Writes, WritesInstruction, Checks, Stops, Walks, Unpacks, Packs, Filters, Relays};
 use corbastrigo::codes::corbastrigo_decode_asn;
 use corbastrigo::codes::corbastrigo_decode_instruction;
 use corbastrigo::codes::corbastrigo_decode_jump;
@@ -19,6 +22,7 @@ use corbastrigo::filters::corbastrigo_clearnet_unroutable;
 use corbastrigo::maps::corbastrigo_interpret;
 use corbastrigo::maps::corbastrigo_pack;
 use corbastrigo::maps::corbastrigo_sanity_check;
+use corbastrigo::maps::corbastrigo_sanity_check_stop;
 use corbastrigo::maps::corbastrigo_unpack;
 
 // ---- a code or an instruction is read at any bit of any map
@@ -111,6 +115,30 @@ pub fn instruction_written(opcode: u32, operand: u32, bits: &mut u64, len: &mut 
 pub fn checked(map: &[u8], count: &mut u32, depth: &mut u8) -> u8
     ensures { λ r. ⌜ Checks (now (map .entry)) r (now (count .entry) ∷ now (depth .entry) ∷ []) (now (count .exit) ∷ now (depth .exit) ∷ []) ⌝ }
 {
+    corbastrigo_sanity_check(map, count, depth)
+}
+
+// Where the check stops, and why.
+pub fn stopped(map: &[u8], reason: &mut u8, place: &mut usize) -> u8
+    ensures { λ r. ⌜ Stops (now (map .entry)) r (now (reason .entry) ∷ now (place .entry) ∷ []) (now (reason .exit)) (now (place .exit)) ⌝ }
+{
+    corbastrigo_sanity_check_stop(map, reason, place)
+}
+
+// The reason is the number that the check itself answers; only a map that is too long has none.
+pub fn stopped_as_checked(
+    map: &[u8],
+    count: &mut u32,
+    depth: &mut u8,
+    reason: &mut u8,
+    place: &mut usize,
+) -> u8
+    ensures { λ r. ⌜ (length (now (map .entry)) ≤ 16777216 → now (reason .exit) ≡ r) ⌝ }
+{
+    let refused = corbastrigo_sanity_check_stop(map, reason, place);
+    if refused != 0 {
+        return refused;
+    }
     corbastrigo_sanity_check(map, count, depth)
 }
 

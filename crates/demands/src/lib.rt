@@ -1,11 +1,12 @@
 // What a caller can conclude: document 01's three demands, each said in plain numbers of functions that make the exported calls
 // (`corbastrigo_…`) as a user would. This is the page to read first for whoever doubts the rest.
 //
-// A contract here uses no definition of the project but the check (`checkOf`), the walk (`walkOf`), the unpacked list (`unpacked`), the
-// first pass (`firstPass`) and Core's functions (`coreCheck`, `coreInterpret`, its four decoders), with how these take bytes (`mapOf`,
-// `fileOf`, `addressBit`). All else is numbers, bytes and equations, in `demand_statements/specs`. Each is proved from the contracts of
-// the exported calls and from laws about those definitions (`demand_statements/proofs`); no code below them is looked at. So what a
-// contract there no longer says is refused here. All 21 exported calls have a caller.
+// A contract here uses no definition of the project but the check (`checkOf`), the place where it stops (`stopOf`, `StopsAt`), the walk
+// (`walkOf`), the unpacked list (`unpacked`), the first pass (`firstPass`) and Core's functions (`coreCheck`, `coreInterpret`, its four
+// decoders), with how these take bytes (`mapOf`, `fileOf`, `addressBit`). All else is numbers, bytes and equations, in
+// `demand_statements/specs`. Each is proved from the contracts of the exported calls and from laws about those definitions
+// (`demand_statements/proofs`); no code below them is looked at. So what a contract there no longer says is refused here. All 22 exported
+// calls have a caller.
 //
 // Demand 1, any input: `any_input`, and `refused` in `picks`. Maps, addresses, lists and lengths of every kind get an answer, 0, or one
 // of document 01's numbers for that call, said with when. Where the answer is not 0, every lent number and byte is what it was.

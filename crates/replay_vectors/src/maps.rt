@@ -31,10 +31,7 @@ pub fn check_stop(bytes: &[u8], words: Words) -> Seen {
     let answer = word(bytes, words, 1);
     match stopped {
         Stopped::Refused(reason) => compared(refused(reason), answer),
-        Stopped::At(reason, place) => compared(
-            done().byte(reason).number(place as u64, 8),
-            answer,
-        ),
+        Stopped::At(reason, place) => compared(done().byte(reason).number(place as u64, 8), answer),
     }
 }
 

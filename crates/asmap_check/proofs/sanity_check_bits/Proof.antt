@@ -157,17 +157,28 @@ enum-told c = search needs
 cast-greatest : tie.Need-cast-greatest Inv-loop μ-loop
 cast-greatest c = omega (arith, standing-room _ _ _ (c .before .before .before .before .before .before .before .loop .inv) .deep, c .before .before .before .before .before .before .before .before .before .before .pre .1)
 
+judge-requires : tie.Need-judge-requires Inv-loop μ-loop
+judge-requires c κs = tt
+
 returns : tie.Need-returns Inv-loop μ-loop
-returns c = turn-accepts (turn (c .before .before)) (c .enum-told .given .1)
+returns c = c .judge .ensures ∙ turn-accepts (turn (c .before .before .before)) (c .before .enum-told .given .1)
 
 enum-known-asked-5 : tie.Need-enum-known-asked-5 Inv-loop μ-loop
 enum-known-asked-5 c = search needs
 
+judge-requires-2 : tie.Need-judge-requires-2 Inv-loop μ-loop
+judge-requires-2 c κs = tt
+
 returns-2 : tie.Need-returns-2 Inv-loop μ-loop
-returns-2 c = turn-refuses (turn (c .before .before .before)) _ (c .before .asked5 .given .1)
+returns-2 c = c .judge2 .ensures ∙ turn-refuses (turn (c .before .before .before .before)) _ (c .before .before .asked5 .given .1)
+
+judge-requires-3 : tie.Need-judge-requires-3 Inv-loop μ-loop
+judge-requires-3 c κs = tt
 
 returns-3 : tie.Need-returns-3 Inv-loop μ-loop
-returns-3 c = turn-end _ _ (c .before .loop .state) _ _ _ _ (c .before .loop .inv) (c .loop-test .left)
+returns-3 c =
+    let l = c .before .before .loop in
+    c .judge3 .ensures ∙ turn-end _ _ (l .state) _ _ _ _ (l .inv) (c .before .loop-test .left)
 
 pub sanity-check-bits-spec : {M : Type 1} → statement M
 sanity-check-bits-spec =
@@ -206,7 +217,10 @@ sanity-check-bits-spec =
     loop-again-4
     enum-told
     cast-greatest
+    judge-requires
     returns
     enum-known-asked-5
+    judge-requires-2
     returns-2
+    judge-requires-3
     returns-3)
