@@ -9,7 +9,7 @@ corbastrigo-sanity-check-stop-requires : tie.Need-corbastrigo-sanity-check-stop-
 corbastrigo-sanity-check-stop-requires c κs = search needs
 
 returns : tie.Need-returns
-returns c = λ l. absurd (c .if1 .taken (stops _ (c .before .corbastrigo-sanity-check-stop .ensures) .answered l))
+returns c = λ l. absurd (c .if1 .taken (stops (c .before .before .before .before .before .args .map .now) (c .before .corbastrigo-sanity-check-stop .ensures) .answered l))
 
 corbastrigo-sanity-check-requires : tie.Need-corbastrigo-sanity-check-requires
 corbastrigo-sanity-check-requires c κs = search needs
