@@ -1,4 +1,4 @@
-// The check of a map (document 01, Check): which maps are sane, and the reason where one is not.
+// The check of a map (document 01, Check): which maps are sane, the reason where one is not, and where in the map the check stops.
 //
 // Two kinds of function. The arms (`asmap_check_act: sanity_act` and those it calls) read an instruction and answer an `Act`; they take
 // the map and numbers but never the state, which a call copies with both its arrays. The loop here (`sanity_check_bits`) carries the act
