@@ -1,49 +1,12 @@
 /* Every call of the header once done and once refused, from C. Exits with 1 where an answer differs from the one written here. The numbers
  * are chosen so that no two parameters of a call can be exchanged unseen (swaps.c). */
-#include "../include/corbastrigo.h"
-#include <stdio.h>
-#include <string.h>
+#include "cases.h"
 
-static int checks, failures;
-
-static void expect(uint64_t got, uint64_t wanted, const char *what, int line) {
-    checks++;
-    if (got != wanted) {
-        failures++;
-        printf("ctest/calls.c:%d: %s is %llu, not %llu\n", line, what, (unsigned long long)got, (unsigned long long)wanted);
-    }
-}
-
-#define IS(got, wanted) expect((uint64_t)(got), (uint64_t)(wanted), #got, __LINE__)
-
-/* What the n-th number or slice that is lent to a call holds before it: a refused call leaves it. */
-#define BEFORE(n) (70 + (n))
-
-/* 1.2.0.0/16 is sent to 1, 3.4.0.0/16 to 2. */
-static const uint8_t two_prefixes[35] = {0xfb, 0x03, 0xec, 0x0f, 0xb0, 0x3f, 0xc0, 0xfe, 0x00, 0xfb, 0x03, 0xec,
-                                         0x0f, 0xb0, 0x3f, 0xc0, 0xfe, 0x00, 0xfb, 0x03, 0xec, 0x0f, 0xb0, 0xff,
-                                         0xff, 0xfe, 0xff, 0xfb, 0x80, 0x00, 0x00, 0x00, 0x00, 0x00, 0x01};
-static const uint8_t lone_return[3] = {0, 0, 0};
-static const uint8_t lone_jump[1] = {1};
 static const uint8_t none[1] = {0};
 
 /* One byte over the limit. */
 static uint8_t too_long[CORBASTRIGO_MAX_MAP_BYTES + 1];
 
-static void mapped(uint8_t *address, uint8_t a, uint8_t b, uint8_t c, uint8_t d) {
-    const uint8_t bytes[16] = {0, 0, 0, 0, 0, 0, 0, 0, 0, 0, 0xff, 0xff, a, b, c, d};
-    memcpy(address, bytes, 16);
-}
-
-static void candidate(uint8_t *bytes, uint8_t a, uint8_t b, uint8_t c, uint8_t d) {
-    bytes[0] = 4;
-    bytes[1] = 0;
-    mapped(bytes + 2, a, b, c, d);
-    bytes[18] = 0x20;
-    bytes[19] = 0x8d;
-}
-
-typedef uint8_t decode(const uint8_t *, size_t, size_t, uint32_t *, size_t *);
 typedef uint8_t encode(uint32_t, uint64_t *, size_t *);
 
 /* A row: its least value is written, read again from the fourth bit on, read where it is cut, and a number below or above the row is
@@ -204,9 +167,6 @@ static void groups(void) {
     IS(corbastrigo_netgroup_unchecked(peer, 20, 255, two_prefixes, 35, &group), 0);
     IS(group, 2);
 }
-
-typedef uint8_t selection(const uint8_t *, size_t, const uint64_t *, size_t, size_t, uint8_t, const uint8_t *, size_t, uint16_t *,
-                          size_t, uint64_t *, size_t, size_t *, size_t *, size_t *, uint64_t *);
 
 /* Four peers, two of group 2, one of 1, one of 0; group 0 is occupied, so the last is a fill. By their prefixes none is occupied. */
 static void pick(selection *call, uint8_t of_a_refused_map) {

@@ -1,19 +1,50 @@
 /* Bitcoin's address map (asmap), peer groups and address filters: the calls of libcorbastrigo.a.
  *
- * Every call answers 0 when it is done, or the number of its refusal (below). A refused call has written nothing: every number and
- * every place that was lent holds what it held before. Any bytes, lengths and numbers may be handed over. No call keeps a pointer,
- * allocates, or waits.
+ * Every call answers 0 when it is done, or the number of its refusal (below; corbastrigo_reason says it in words). A refused call has
+ * written nothing: every number and every place that was lent holds what it held before. Any bytes, lengths and numbers may be handed
+ * over. No call keeps a pointer, allocates, or waits.
  *
- * A list is a pointer and a number of elements. A pointer must not be null, also where its list is empty, and must be aligned for its
- * elements. What a call writes to may overlap nothing else that is handed to the same call.
+ * Pointers. A list is a pointer and a number of elements. The pointer is aligned for its elements and has as many behind it; where the
+ * number is 0, nothing is read or written through it, and it may be NULL. A pointer to a single number is never NULL. What a call
+ * writes to may overlap nothing else that is handed to the same call.
+ *
+ * Lengths. A length that a call refuses is refused as a number: nothing behind its pointer is looked at. That is so of a map over the
+ * limit (1), of addresses (11, 17), of one candidate (13), of candidates that are no multiple of 20 bytes (13), of too many candidates
+ * or occupied groups (12), of records that are no multiple of 16 bytes (16) and of outputs that are too short (14). The number of
+ * records has no limit of its own: they are read up to the first that is wrong.
+ *
+ * Threads. Any number of threads may be in any calls at once: the archive has no variables. Calls at once may read the same lists; what
+ * one of them writes to is its own until it returns.
+ *
+ * Stack. A call takes less than CORBASTRIGO_STACK_BYTES, a pick less than CORBASTRIGO_PICK_STACK_BYTES. Not counted are memset's own, and
+ * the dynamic linker's where it looks memset up at its first call. No call recurses.
+ *
+ * Platform. x86-64 Linux: ELF, the System V calling convention, any x86-64 processor. The code is position-independent: the archive
+ * links into a program, position-independent or not, and into a shared object. Of the C library it wants memset and nothing else.
  *
  * Each call is proved to meet its contract for every input (docs/PROMISES.md). The promises stand on what this page asks of pointers.
+ * What it says of refused lengths, NULL, threads, stack and platform is not proved; it is tested (ctest/).
  */
 #ifndef CORBASTRIGO_H
 #define CORBASTRIGO_H
 
 #include <stddef.h>
 #include <stdint.h>
+
+/* The version of this header and of the archive that comes with it. */
+#define CORBASTRIGO_VERSION "0.1.0"
+#define CORBASTRIGO_VERSION_MAJOR 0
+#define CORBASTRIGO_VERSION_MINOR 1
+#define CORBASTRIGO_VERSION_PATCH 0
+
+/* C90 has no `inline`, but GNU C has a word for it there. Elsewhere the function is plainly static. */
+#if defined(__cplusplus) || (defined(__STDC_VERSION__) && __STDC_VERSION__ >= 199901L)
+#define CORBASTRIGO_INLINE static inline
+#elif defined(__GNUC__)
+#define CORBASTRIGO_INLINE static __inline__
+#else
+#define CORBASTRIGO_INLINE static
+#endif
 
 #ifdef __cplusplus
 extern "C" {
@@ -40,11 +71,41 @@ enum corbastrigo_refusal {
     CORBASTRIGO_RELAY_LENGTH = 17        /* an addrv2 address of a length that its network has not */
 };
 
+/* What a call's answer says, in English, with no full stop: text for a log or a person. It never is NULL. */
+CORBASTRIGO_INLINE const char *corbastrigo_reason(uint8_t answer) {
+    switch (answer) {
+    case 0: return "done";
+    case CORBASTRIGO_MAP_TOO_LONG: return "the map has more than 16,777,216 bytes";
+    case CORBASTRIGO_MAP_ENDS: return "the map ends where an instruction must start";
+    case CORBASTRIGO_PAST_TARGET: return "an instruction starts at or past the innermost open jump's target";
+    case CORBASTRIGO_CUT: return "a code is cut by the map's end";
+    case CORBASTRIGO_AFTER_DEFAULT: return "a RETURN or a DEFAULT comes straight after a DEFAULT";
+    case CORBASTRIGO_PADDING: return "more than 7 bits, or a bit that is 1, follow the last RETURN";
+    case CORBASTRIGO_NOT_AT_TARGET: return "a RETURN does not end at the innermost open jump's target";
+    case CORBASTRIGO_NO_BITS: return "an instruction uses more address bits than are left";
+    case CORBASTRIGO_TARGETS_CROSS: return "a jump's target lies at or past the innermost open jump's target";
+    case CORBASTRIGO_SHORT_MATCHES: return "a MATCH shorter than 8 comes straight after a MATCH shorter than 8";
+    case CORBASTRIGO_ADDRESS_LENGTH: return "the address does not have 16 bytes";
+    case CORBASTRIGO_TOO_MANY: return "more than 4,096 candidates or occupied groups";
+    case CORBASTRIGO_CANDIDATE: return "a candidate is not 20 bytes of a known form";
+    case CORBASTRIGO_OUTPUT_TOO_SHORT: return "the output is too short";
+    case CORBASTRIGO_OUT_OF_RANGE: return "the opcode or operand is out of its range";
+    case CORBASTRIGO_RECORD: return "a record's length, zeros, place or size is wrong";
+    case CORBASTRIGO_RELAY_LENGTH: return "the address has a length that its network does not have";
+    default: return "a reason that this version does not know";
+    }
+}
+#undef CORBASTRIGO_INLINE
+
 #define CORBASTRIGO_MAX_MAP_BYTES 16777216
 #define CORBASTRIGO_MAX_CANDIDATES 4096
 #define CORBASTRIGO_ADDRESS_BYTES 16
 #define CORBASTRIGO_CANDIDATE_BYTES 20
 #define CORBASTRIGO_RECORD_BYTES 16
+
+/* More stack than a call takes, and than a pick takes. */
+#define CORBASTRIGO_STACK_BYTES 2048
+#define CORBASTRIGO_PICK_STACK_BYTES 10240
 
 /* Opcodes. */
 #define CORBASTRIGO_RETURN 0
@@ -97,7 +158,8 @@ uint8_t corbastrigo_interpret(const uint8_t *map, size_t map_len, const uint8_t 
                               uint32_t *number, uint32_t *count, uint8_t *bits);
 
 /* Lists an accepted map's instructions as records of 16 bytes, little-endian: opcode (1 byte), three zeros, operand (4), place of the
- * first bit (4), length in bits (4). Writes the bytes written; those behind them remain. Refusals: the check's, then 14. */
+ * first bit (4), length in bits (4). `out` needs 16 bytes for each instruction that the check counts. Writes the bytes written; those
+ * behind them remain. Refusals: the check's, then 14. */
 uint8_t corbastrigo_unpack(const uint8_t *map, size_t map_len, uint8_t *out, size_t out_len, size_t *written);
 
 /* Writes the map that records list, with zeros to the end of its last byte; no records make no bytes. Runs no check. Writes the bytes
@@ -105,8 +167,8 @@ uint8_t corbastrigo_unpack(const uint8_t *map, size_t map_len, uint8_t *out, siz
 uint8_t corbastrigo_pack(const uint8_t *records, size_t records_len, uint8_t *out, size_t out_len, size_t *written);
 
 /* ---- Groups and picks. A candidate is 20 bytes: family 4 or 6, a zero, 16 address bytes (family 4: in the mapped form), the port
- * big-endian. `has_map` 0 is without a map: then `map` is not looked at, and a group is the prefix of the address. Any other number is
- * with it. */
+ * big-endian. `has_map` 0 is without a map: then `map` is not looked at (hand over NULL and 0), and a group is the prefix of the
+ * address. Any other number is with it. */
 
 /* The group without a map: 256 * a + b of an IPv4 address a.b.c.d, the first four bytes of an IPv6 address. Refusal 13. */
 uint8_t corbastrigo_prefix_group(const uint8_t *candidate, size_t candidate_len, uint64_t *group);
@@ -115,21 +177,24 @@ uint8_t corbastrigo_prefix_group(const uint8_t *candidate, size_t candidate_len,
 uint8_t corbastrigo_netgroup(const uint8_t *candidate, size_t candidate_len, uint8_t has_map, const uint8_t *map, size_t map_len,
                              uint64_t *group);
 
-/* The same for a map that was checked before: it is walked as it is. Refusals 13, then with a map 1. */
+/* The same for a map that was checked before: it is walked as it is. Of a map that the check refuses a walk may abort; its group is 0
+ * then, and nothing tells it from the 0 of a walk that differed before a DEFAULT. Refusals 13, then with a map 1. */
 uint8_t corbastrigo_netgroup_unchecked(const uint8_t *candidate, size_t candidate_len, uint8_t has_map, const uint8_t *map,
                                        size_t map_len, uint64_t *group);
 
 /* Picks up to `max` of the candidates, which are ranked: first, in order, each whose group is neither occupied nor taken; then, in
  * order, those unequal to every pick. `candidates_len` is in bytes, the other lengths in elements. Writes the places of the picks, the
  * groups of the first pass's picks, the number of picks, of first-pass picks, of candidates whose group was looked up, and the
- * instructions of their walks (0 without a map). `picks` and `groups` need min(max, candidates) places each. Refusals 13 for the
- * length, 12, 13, with a map the check's, 14. */
+ * instructions of their walks (0 without a map). `picks` and `groups` need min(max, candidates) places each; what lies past `*total` in
+ * `picks` and past `*first` in `groups` remains. Where no group is occupied, `occupied` may be NULL and its length 0. Refusals 13 for
+ * the length, 12, 13, with a map the check's, 14. */
 uint8_t corbastrigo_select_diverse(const uint8_t *candidates, size_t candidates_len, const uint64_t *occupied, size_t occupied_len,
                                    size_t max, uint8_t has_map, const uint8_t *map, size_t map_len, uint16_t *picks,
                                    size_t picks_len, uint64_t *groups, size_t groups_len, size_t *total, size_t *first,
                                    size_t *examined, uint64_t *instructions);
 
-/* The same for a map that was checked before: it is walked as it is, and with a map 1 stands in the place of the check's refusals. */
+/* The same for a map that was checked before: it is walked as it is, and with a map 1 stands in the place of the check's refusals. Of a
+ * map that the check refuses a walk may abort; its candidate has group 0 then. */
 uint8_t corbastrigo_select_diverse_unchecked(const uint8_t *candidates, size_t candidates_len, const uint64_t *occupied,
                                              size_t occupied_len, size_t max, uint8_t has_map, const uint8_t *map,
                                              size_t map_len, uint16_t *picks, size_t picks_len, uint64_t *groups,
