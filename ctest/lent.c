@@ -1,0 +1,172 @@
+/* What the header says of the memory that is lent to a call: a length that is refused is not followed, an empty list may be NULL, and what
+ * a call has no answer for remains. Exits with 1 where an answer differs from the one written here, and dies where barred memory is
+ * looked at. */
+#define _DEFAULT_SOURCE
+#include "cases.h"
+#include <sys/mman.h>
+
+/* In the middle of pages that can be neither read nor written. */
+static void *barred;
+
+static decode *const decoders[] = {corbastrigo_decode_type, corbastrigo_decode_asn, corbastrigo_decode_match, corbastrigo_decode_jump};
+static selection *const selections[] = {corbastrigo_select_diverse, corbastrigo_select_diverse_unchecked};
+
+/* Where calls leave what they found. */
+static uint8_t small, other;
+static uint16_t places[64];
+static uint32_t number, count, operand;
+static uint64_t group, taken[64], instructions;
+static size_t size, total, first, examined;
+
+static uint8_t address[16], peer[20], peers[80];
+
+static void make(void) {
+    mapped(address, 3, 4, 5, 6);
+    candidate(peer, 3, 4, 5, 6);
+    candidate(peers, 8, 8, 8, 8);
+    candidate(peers + 20, 3, 4, 0, 1);
+    candidate(peers + 40, 3, 4, 0, 2);
+    candidate(peers + 60, 1, 2, 0, 1);
+}
+
+/* Barred memory as a map of a length over the limit. */
+static void long_map(size_t len) {
+    for (size_t i = 0; i < 4; i++)
+        IS(decoders[i](barred, len, 0, &number, &size), CORBASTRIGO_MAP_TOO_LONG);
+    IS(corbastrigo_decode_instruction(barred, len, 0, &count, &operand, &size), CORBASTRIGO_MAP_TOO_LONG);
+    IS(corbastrigo_sanity_check(barred, len, &count, &small), CORBASTRIGO_MAP_TOO_LONG);
+    IS(corbastrigo_sanity_check_stop(barred, len, &small, &size), CORBASTRIGO_MAP_TOO_LONG);
+    IS(corbastrigo_interpret(barred, len, barred, 16, &small, &number, &count, &other), CORBASTRIGO_MAP_TOO_LONG);
+    IS(corbastrigo_unpack(barred, len, barred, 16, &size), CORBASTRIGO_MAP_TOO_LONG);
+    IS(corbastrigo_netgroup(peer, 20, 1, barred, len, &group), CORBASTRIGO_MAP_TOO_LONG);
+    IS(corbastrigo_netgroup_unchecked(peer, 20, 1, barred, len, &group), CORBASTRIGO_MAP_TOO_LONG);
+    for (size_t i = 0; i < 2; i++)
+        IS(selections[i](peers, 80, NULL, 0, 4, 1, barred, len, barred, 4, barred, 4, &total, &first, &examined, &instructions),
+           CORBASTRIGO_MAP_TOO_LONG);
+}
+
+/* Barred memory as an address, a candidate or records of a length that is refused. */
+static void wrong_length(size_t len) {
+    IS(corbastrigo_interpret(barred, 3, barred, len, &small, &number, &count, &other), CORBASTRIGO_ADDRESS_LENGTH);
+    IS(corbastrigo_clearnet_unroutable(barred, len, &small), CORBASTRIGO_ADDRESS_LENGTH);
+    for (unsigned id = 1; id <= 6; id++)
+        IS(corbastrigo_addrv2_skip_relay((uint8_t)id, barred, len, 8333, &small), CORBASTRIGO_RELAY_LENGTH);
+    IS(corbastrigo_prefix_group(barred, len, &group), CORBASTRIGO_CANDIDATE);
+    IS(corbastrigo_netgroup(barred, len, 1, barred, 3, &group), CORBASTRIGO_CANDIDATE);
+    IS(corbastrigo_netgroup_unchecked(barred, len, 1, barred, 3, &group), CORBASTRIGO_CANDIDATE);
+    IS(corbastrigo_pack(barred, len, barred, 16, &size), CORBASTRIGO_RECORD);
+}
+
+/* A pick with barred memory for the lists and outputs. */
+static void wrong_lists(selection *call) {
+#define PICK(candidates, bytes, groups, room, group_room)                                                                              \
+    call(candidates, bytes, barred, groups, 4, 0, barred, 3, barred, room, barred, group_room, &total, &first, &examined, &instructions)
+    IS(PICK(barred, 81, 1, 4, 4), CORBASTRIGO_CANDIDATE);
+    IS(PICK(barred, SIZE_MAX, 1, 4, 4), CORBASTRIGO_CANDIDATE);
+    IS(PICK(barred, 20 * (CORBASTRIGO_MAX_CANDIDATES + 1), 1, 4, 4), CORBASTRIGO_TOO_MANY);
+    IS(PICK(barred, SIZE_MAX - SIZE_MAX % 20, 1, 4, 4), CORBASTRIGO_TOO_MANY);
+    IS(PICK(barred, 80, CORBASTRIGO_MAX_CANDIDATES + 1, 4, 4), CORBASTRIGO_TOO_MANY);
+    IS(PICK(barred, 80, SIZE_MAX, 4, 4), CORBASTRIGO_TOO_MANY);
+    IS(PICK(peers, 80, 1, 3, 4), CORBASTRIGO_OUTPUT_TOO_SHORT);
+    IS(PICK(peers, 80, 1, 4, 3), CORBASTRIGO_OUTPUT_TOO_SHORT);
+#undef PICK
+}
+
+static void refused_lengths(void) {
+    uint8_t list[256];
+    long_map(CORBASTRIGO_MAX_MAP_BYTES + 1);
+    long_map(SIZE_MAX);
+    wrong_length(33);
+    wrong_length(SIZE_MAX);
+    wrong_lists(corbastrigo_select_diverse);
+    wrong_lists(corbastrigo_select_diverse_unchecked);
+    IS(corbastrigo_addrv2_skip_relay(7, barred, 513, 8333, &small), CORBASTRIGO_RELAY_LENGTH);
+    IS(corbastrigo_unpack(two_prefixes, 35, barred, 255, &size), CORBASTRIGO_OUTPUT_TOO_SHORT);
+    IS(corbastrigo_unpack(two_prefixes, 35, list, 256, &size), 0);
+    IS(corbastrigo_pack(list, 256, barred, 34, &size), CORBASTRIGO_OUTPUT_TOO_SHORT);
+}
+
+/* Without a map the map is not looked at. */
+static void no_map(uint8_t *map, size_t len) {
+    IS(corbastrigo_netgroup(peer, 20, 0, map, len, &group), 0);
+    IS(group, 772);
+    group = 0;
+    IS(corbastrigo_netgroup_unchecked(peer, 20, 0, map, len, &group), 0);
+    IS(group, 772);
+    for (size_t i = 0; i < 2; i++) {
+        IS(selections[i](peers, 80, NULL, 0, 4, 0, map, len, places, 4, taken, 4, &total, &first, &examined, &instructions), 0);
+        IS(first, 3);
+    }
+}
+
+static void empty_lists(void) {
+    for (size_t i = 0; i < 4; i++)
+        IS(decoders[i](NULL, 0, 0, &number, &size), CORBASTRIGO_CUT);
+    IS(corbastrigo_decode_instruction(NULL, 0, 0, &count, &operand, &size), CORBASTRIGO_CUT);
+    IS(corbastrigo_sanity_check(NULL, 0, &count, &small), CORBASTRIGO_MAP_ENDS);
+    IS(corbastrigo_sanity_check_stop(NULL, 0, &small, &size), 0);
+    IS(corbastrigo_interpret(two_prefixes, 35, NULL, 0, &small, &number, &count, &other), CORBASTRIGO_ADDRESS_LENGTH);
+    IS(corbastrigo_interpret(NULL, 0, address, 16, &small, &number, &count, &other), 0);
+    IS(small, CORBASTRIGO_ABORTED);
+    IS(corbastrigo_unpack(NULL, 0, NULL, 0, &size), CORBASTRIGO_MAP_ENDS);
+    IS(corbastrigo_unpack(two_prefixes, 35, NULL, 0, &size), CORBASTRIGO_OUTPUT_TOO_SHORT);
+    IS(corbastrigo_pack(NULL, 0, NULL, 0, &size), 0);
+    IS(size, 0);
+    IS(corbastrigo_prefix_group(NULL, 0, &group), CORBASTRIGO_CANDIDATE);
+    IS(corbastrigo_netgroup(NULL, 0, 0, NULL, 0, &group), CORBASTRIGO_CANDIDATE);
+    IS(corbastrigo_netgroup(peer, 20, 1, NULL, 0, &group), CORBASTRIGO_MAP_ENDS);
+    IS(corbastrigo_netgroup_unchecked(peer, 20, 1, NULL, 0, &group), 0);
+    IS(group, 0);
+    for (size_t i = 0; i < 2; i++) {
+        IS(selections[i](NULL, 0, NULL, 0, 4, 0, NULL, 0, NULL, 0, NULL, 0, &total, &first, &examined, &instructions), 0);
+        IS(total, 0);
+        IS(selections[i](peers, 80, NULL, 0, 0, 0, NULL, 0, NULL, 0, NULL, 0, &total, &first, &examined, &instructions), 0);
+        IS(total, 0);
+    }
+    IS(corbastrigo_clearnet_unroutable(NULL, 0, &small), CORBASTRIGO_ADDRESS_LENGTH);
+    IS(corbastrigo_addrv2_skip_relay(7, NULL, 0, 8333, &small), 0);
+    IS(small, 0);
+}
+
+/* Both outputs are longer than any answer, and hold other numbers before each call. */
+static void remains(selection *call, const uint8_t *map, size_t map_len, const uint64_t *occupied, size_t occupied_len, size_t wanted) {
+    for (size_t i = 0; i < 64; i++)
+        taken[i] = places[i] = BEFORE(1);
+    IS(call(peers, 80, occupied, occupied_len, 3, 1, map, map_len, places, 64, taken, 64, &total, &first, &examined, &instructions), 0);
+    IS(total, 3);
+    IS(first, wanted);
+    for (size_t i = 0; i < 64; i++) {
+        IS(places[i] == BEFORE(1), total <= i);
+        IS(taken[i] == BEFORE(1), first <= i);
+    }
+}
+
+/* Every walk of a lone JUMP aborts: all candidates have group 0, which is free once or not at all. */
+static void picks(void) {
+    const uint64_t zero[1] = {0};
+    for (size_t i = 0; i < 2; i++) {
+        remains(selections[i], two_prefixes, 35, NULL, 0, 3);
+        remains(selections[i], two_prefixes, 35, zero, 1, 2);
+    }
+    remains(corbastrigo_select_diverse_unchecked, lone_jump, 1, NULL, 0, 1);
+    IS(taken[0], 0);
+    remains(corbastrigo_select_diverse_unchecked, lone_jump, 1, zero, 1, 0);
+    group = BEFORE(1);
+    IS(corbastrigo_netgroup_unchecked(peer, 20, 1, lone_jump, 1, &group), 0);
+    IS(group, 0);
+}
+
+int main(void) {
+    char *pages = mmap(NULL, 3 << 16, PROT_NONE, MAP_PRIVATE | MAP_ANONYMOUS, -1, 0);
+    if (pages == MAP_FAILED)
+        return 2;
+    barred = pages + (1 << 16);
+    make();
+    refused_lengths();
+    no_map(barred, 3);
+    no_map(NULL, 0);
+    empty_lists();
+    picks();
+    printf("memory lent to calls: %d answers, %d wrong\n", checks, failures);
+    return failures != 0;
+}
