@@ -3,10 +3,12 @@
 //!
 //! # Safety
 //!
-//! A slice is a pointer that is not null, aligned for its numbers, also where the length is 0, and a length in elements. Each must
-//! point to that many elements that may be read, and, behind `*mut`, written for the time of the call. What is written may overlap
-//! nothing else that is handed over. No call keeps a pointer. Every number, length and byte is allowed.
+//! A slice is a pointer that is aligned for its numbers, and a length in elements. It must point to that many elements that may be
+//! read, and, behind `*mut`, written for the time of the call; where the length is 0 it may be null. A pointer to a single number never
+//! is. What is written may overlap nothing else that is handed over. No call keeps a pointer. Every number, length and byte is allowed.
 #![no_std]
+#![deny(missing_docs)]
+#![deny(clippy::undocumented_unsafe_blocks)]
 
 /// A code read at a bit of a map.
 pub type Decode = unsafe extern "C" fn(*const u8, usize, usize, *mut u32, *mut usize) -> u8;
@@ -38,10 +40,15 @@ pub type SelectDiverse = unsafe extern "C" fn(
 ) -> u8;
 
 extern "C" {
+    /// Reads an opcode at a bit.
     pub fn corbastrigo_decode_type(map: *const u8, map_len: usize, at: usize, value: *mut u32, next: *mut usize) -> u8;
+    /// Reads an AS number at a bit.
     pub fn corbastrigo_decode_asn(map: *const u8, map_len: usize, at: usize, value: *mut u32, next: *mut usize) -> u8;
+    /// Reads a MATCH operand at a bit.
     pub fn corbastrigo_decode_match(map: *const u8, map_len: usize, at: usize, value: *mut u32, next: *mut usize) -> u8;
+    /// Reads a JUMP operand at a bit.
     pub fn corbastrigo_decode_jump(map: *const u8, map_len: usize, at: usize, value: *mut u32, next: *mut usize) -> u8;
+    /// Reads the instruction that starts at a bit: opcode, operand and length in bits.
     pub fn corbastrigo_decode_instruction(
         map: *const u8,
         map_len: usize,
@@ -50,13 +57,21 @@ extern "C" {
         operand: *mut u32,
         size: *mut usize,
     ) -> u8;
+    /// Writes an opcode as bits.
     pub fn corbastrigo_encode_type(value: u32, bits: *mut u64, len: *mut usize) -> u8;
+    /// Writes an AS number as bits.
     pub fn corbastrigo_encode_asn(value: u32, bits: *mut u64, len: *mut usize) -> u8;
+    /// Writes a MATCH operand as bits.
     pub fn corbastrigo_encode_match(value: u32, bits: *mut u64, len: *mut usize) -> u8;
+    /// Writes a JUMP operand as bits.
     pub fn corbastrigo_encode_jump(value: u32, bits: *mut u64, len: *mut usize) -> u8;
+    /// Writes an instruction as bits, at most 57.
     pub fn corbastrigo_encode_instruction(opcode: u32, operand: u32, bits: *mut u64, len: *mut usize) -> u8;
+    /// Checks a map: accepted with its instructions and the most jumps open at a time, or the reason.
     pub fn corbastrigo_sanity_check(map: *const u8, map_len: usize, count: *mut u32, depth: *mut u8) -> u8;
+    /// Says where the check of a map stops, and why: the reason, 0 where it accepts, and the bit.
     pub fn corbastrigo_sanity_check_stop(map: *const u8, map_len: usize, reason: *mut u8, place: *mut usize) -> u8;
+    /// Walks any map by 16 address bytes: the kind of end, the number, the instructions read whole, the address bits read.
     pub fn corbastrigo_interpret(
         map: *const u8,
         map_len: usize,
@@ -67,9 +82,13 @@ extern "C" {
         count: *mut u32,
         bits: *mut u8,
     ) -> u8;
+    /// Lists an accepted map's instructions as records of 16 bytes.
     pub fn corbastrigo_unpack(map: *const u8, map_len: usize, out: *mut u8, out_len: usize, written: *mut usize) -> u8;
+    /// Writes the map that records list. Runs no check.
     pub fn corbastrigo_pack(records: *const u8, records_len: usize, out: *mut u8, out_len: usize, written: *mut usize) -> u8;
+    /// The group of a candidate without a map.
     pub fn corbastrigo_prefix_group(candidate: *const u8, candidate_len: usize, group: *mut u64) -> u8;
+    /// The group of a candidate; a map is checked first.
     pub fn corbastrigo_netgroup(
         candidate: *const u8,
         candidate_len: usize,
@@ -78,6 +97,7 @@ extern "C" {
         map_len: usize,
         group: *mut u64,
     ) -> u8;
+    /// The group of a candidate; a map is walked as it is.
     pub fn corbastrigo_netgroup_unchecked(
         candidate: *const u8,
         candidate_len: usize,
@@ -86,6 +106,7 @@ extern "C" {
         map_len: usize,
         group: *mut u64,
     ) -> u8;
+    /// Picks candidates spread over groups; a map is checked first.
     pub fn corbastrigo_select_diverse(
         candidates: *const u8,
         candidates_len: usize,
@@ -104,6 +125,7 @@ extern "C" {
         examined: *mut usize,
         instructions: *mut u64,
     ) -> u8;
+    /// Picks candidates spread over groups; a map is walked as it is.
     pub fn corbastrigo_select_diverse_unchecked(
         candidates: *const u8,
         candidates_len: usize,
@@ -122,6 +144,8 @@ extern "C" {
         examined: *mut usize,
         instructions: *mut u64,
     ) -> u8;
+    /// Whether an address can be no peer on the open Internet.
     pub fn corbastrigo_clearnet_unroutable(address: *const u8, address_len: usize, unroutable: *mut u8) -> u8;
+    /// Whether an addrv2 entry must not be relayed.
     pub fn corbastrigo_addrv2_skip_relay(id: u8, address: *const u8, address_len: usize, port: u16, skips: *mut u8) -> u8;
 }
