@@ -3,24 +3,45 @@
 //!
 //! The names that a node calls are those of rbitcoin: [`AsMap`], [`netgroup()`], [`select_diverse`], [`prefix_group`],
 //! [`clearnet_unroutable`], [`addrv2_skip_relay`]. Beside them stands what is new: [`sanity_check`] with its reason, count and depth,
-//! [`interpret`] with its kind of end and counts, [`unpack`], [`pack`] and the [`codes`].
+//! [`sanity_check_stop`] with the bit at which it stops, [`interpret`] with its kind of end and counts, [`unpack`], [`pack`] and the
+//! [`codes`].
 //!
-//! Nothing here panics or allocates more than a fixed multiple of what it is given.
+//! Nothing here panics or allocates more than a fixed multiple of what it is given. Every call answers, or refuses with a [`Refusal`]
+//! and has written nothing.
+//!
+//! ```
+//! use corbastrigo::{select_diverse, AsMap};
+//! use std::collections::HashSet;
+//!
+//! fn peers(path: &str) -> Result<Vec<std::net::SocketAddr>, Box<dyn std::error::Error>> {
+//!     let map = AsMap::open(path)?;
+//!     let ranked = ["1.2.3.4:8333".parse()?, "[2001:db8::1]:8333".parse()?];
+//!     Ok(select_diverse(&ranked, 8, &HashSet::new(), Some(&map))?)
+//! }
+//! # assert!(peers("/nowhere/node.asmap").is_err());
+//! ```
+//!
+//! The feature `digest`, which is on unless it is turned off, adds `AsMap::digest` and `AsMap::digest_hex8` with the crate `sha2`. Without
+//! it no crate of others is used.
 //!
 //! Two things to know before reading numbers. The number 0 is not "unmapped": a walk that aborts has it, and so has one that differs
 //! before it met a DEFAULT; [`Walk::end`] tells. And some addresses that come out right say nothing of a map: no map that
 //! [`sanity_check`] accepts can abort a walk, and nothing is promised of any other.
+#![deny(missing_docs)]
+#![deny(clippy::undocumented_unsafe_blocks)]
+
 pub mod codes;
 mod map;
 mod netaddr;
 mod netgroup;
+mod open;
 mod records;
 mod refusal;
 
-pub use map::{interpret, ip16_for_lookup, sanity_check, AsMap, Check, End, Walk};
-pub use map::{sanity_check_stop, Stop};
+pub use map::{interpret, ip16_for_lookup, sanity_check, sanity_check_stop, AsMap, Check, End, Stop, Walk};
 pub use netaddr::{addrv2_skip_relay, clearnet_unroutable};
 pub use netgroup::{netgroup, pick, prefix_group, select_diverse, Candidate, Pick};
+pub use open::OpenError;
 pub use records::{instructions, pack, pack_into, unpack, unpack_into, Instruction, RECORD_BYTES};
 pub use refusal::Refusal;
 
@@ -29,3 +50,8 @@ pub const MAX_MAP_BYTES: usize = 16_777_216;
 
 /// The most candidates of a pick, and the most occupied groups; one more is refused, 12.
 pub const MAX_CANDIDATES: usize = 4_096;
+
+/// The page's code, as a test.
+#[cfg(all(doctest, feature = "digest"))]
+#[doc = include_str!("../../../docs/SWITCHING.md")]
+struct Switching;

@@ -24,25 +24,47 @@ fn map_or_none(asmap: Option<&AsMap>) -> (u8, &[u8]) {
 
 /// The group of an address: with a map the number that it is sent to, without one its prefix. An [`AsMap`] was checked when it was made
 /// and is not checked again.
+///
+/// ```
+/// use corbastrigo::{netgroup, AsMap, Refusal};
+/// use std::net::{Ipv4Addr, SocketAddr};
+///
+/// let peer = SocketAddr::from((Ipv4Addr::new(3, 4, 5, 6), 8333));
+/// let map = AsMap::checked(vec![0, 0, 0])?;
+/// assert_eq!((netgroup(peer, Some(&map)), netgroup(peer, None)), (1, 3 * 256 + 4));
+/// # Ok::<(), Refusal>(())
+/// ```
 pub fn netgroup(addr: SocketAddr, asmap: Option<&AsMap>) -> u64 {
     let bytes = candidate(addr);
     let (has_map, map) = map_or_none(asmap);
     let mut group = 0;
     // The candidate is well formed and the map within the limit, so nothing is left to refuse.
+    // SAFETY: candidate and map give their own pointers and lengths; the number is borrowed for the call and is nobody else's.
     unsafe { sys::corbastrigo_netgroup_unchecked(bytes.as_ptr(), bytes.len(), has_map, map.as_ptr(), map.len(), &mut group) };
     group
 }
 
 /// The group without a map: the first two bytes of an IPv4 address, the first four of an IPv6 address.
+///
+/// ```
+/// use corbastrigo::prefix_group;
+/// use std::net::{Ipv4Addr, Ipv6Addr};
+///
+/// assert_eq!(prefix_group(Ipv4Addr::new(3, 4, 5, 6).into()), 0x0304);
+/// assert_eq!(prefix_group(Ipv6Addr::new(0x2001, 0xdb8, 0, 0, 0, 0, 0, 1).into()), 0x2001_0db8);
+/// ```
 pub fn prefix_group(ip: IpAddr) -> u64 {
     let bytes = candidate(SocketAddr::new(ip, 0));
     let mut group = 0;
+    // The candidate is well formed, so nothing is left to refuse.
+    // SAFETY: the candidate gives its own pointer and length; the number is borrowed for the call and is nobody else's.
     unsafe { sys::corbastrigo_prefix_group(bytes.as_ptr(), bytes.len(), &mut group) };
     group
 }
 
 /// A pick of peers.
 #[derive(Clone, Debug, PartialEq, Eq)]
+#[non_exhaustive]
 pub struct Pick {
     /// The places of the picks in the ranked list, in the order in which they were taken.
     pub places: Vec<u16>,
@@ -54,8 +76,37 @@ pub struct Pick {
     pub instructions: u64,
 }
 
+impl Pick {
+    /// The places that the first pass took, each for a group that was neither occupied nor taken: that at the same place of `groups`.
+    pub fn first_pass(&self) -> &[u16] {
+        self.passes().0
+    }
+
+    /// The places that the second pass filled up with, whatever their groups.
+    pub fn second_pass(&self) -> &[u16] {
+        self.passes().1
+    }
+
+    fn passes(&self) -> (&[u16], &[u16]) {
+        // The fields can be changed from outside, so the one may be longer than the other.
+        self.places.split_at(self.groups.len().min(self.places.len()))
+    }
+}
+
 /// Picks up to `max` places of a ranked list: first, in order, each whose group is neither occupied nor taken; then, in order, those
 /// unequal to every pick. Refusal 12 over 4,096 candidates or occupied groups.
+///
+/// ```
+/// use corbastrigo::{pick, Refusal};
+/// use std::collections::HashSet;
+///
+/// let ranked = ["3.4.0.1:8333", "3.4.0.2:8333", "1.2.0.1:8333"].map(|peer| peer.parse().unwrap());
+/// let picked = pick(&ranked, 3, &HashSet::new(), None)?;
+/// // The second has the group of the first, so it is taken last, to fill up.
+/// assert_eq!((picked.first_pass(), picked.second_pass()), (&[0, 2][..], &[1][..]));
+/// assert_eq!(picked.groups, [0x0304, 0x0102]);
+/// # Ok::<(), Refusal>(())
+/// ```
 pub fn pick(ranked: &[SocketAddr], max: usize, occupied_groups: &HashSet<u64>, asmap: Option<&AsMap>) -> Result<Pick, Refusal> {
     // One past the limit is enough for the refusal.
     let candidates: Vec<u8> = ranked.iter().take(MAX_CANDIDATES + 1).flat_map(|&addr| candidate(addr)).collect();
@@ -64,6 +115,8 @@ pub fn pick(ranked: &[SocketAddr], max: usize, occupied_groups: &HashSet<u64>, a
     let room = max.min(ranked.len()).min(MAX_CANDIDATES);
     let (mut places, mut groups) = (vec![0; room], vec![0; room]);
     let (mut total, mut first, mut examined, mut instructions) = (0, 0, 0, 0);
+    // SAFETY: every slice gives its own pointer and length; the two outputs and the four numbers are borrowed for the call and overlap
+    // nothing.
     let answer = unsafe {
         sys::corbastrigo_select_diverse_unchecked(
             candidates.as_ptr(),
@@ -91,6 +144,15 @@ pub fn pick(ranked: &[SocketAddr], max: usize, occupied_groups: &HashSet<u64>, a
 }
 
 /// The picked addresses of [`pick`], by the map's groups or, without a map, by prefixes.
+///
+/// ```
+/// use corbastrigo::{select_diverse, Refusal};
+/// use std::collections::HashSet;
+///
+/// let ranked = ["3.4.0.1:8333", "3.4.0.2:8333", "1.2.0.1:8333"].map(|peer| peer.parse().unwrap());
+/// assert_eq!(select_diverse(&ranked, 2, &HashSet::new(), None)?, [ranked[0], ranked[2]]);
+/// # Ok::<(), Refusal>(())
+/// ```
 pub fn select_diverse(
     ranked: &[SocketAddr],
     max: usize,

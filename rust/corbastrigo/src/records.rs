@@ -10,12 +10,25 @@ const MOST_BITS: usize = 57;
 /// An instruction of a map.
 #[derive(Clone, Copy, Debug, PartialEq, Eq)]
 pub struct Instruction {
+    /// RETURN 0, JUMP 1, MATCH 2, DEFAULT 3.
     pub opcode: u32,
+    /// Its AS number, skipped bits or pattern.
     pub operand: u32,
     /// The bit of the map at which it starts.
     pub place: u32,
     /// Its length in bits.
     pub size: u32,
+}
+
+impl Instruction {
+    /// The record of an instruction, as [`pack`] takes it.
+    pub fn record(self) -> [u8; RECORD_BYTES] {
+        let mut record = [0; RECORD_BYTES];
+        for (place, number) in record.chunks_exact_mut(4).zip([self.opcode, self.operand, self.place, self.size]) {
+            place.copy_from_slice(&number.to_le_bytes());
+        }
+        record
+    }
 }
 
 /// The instructions that records list, whole records only.
@@ -33,6 +46,7 @@ pub fn instructions(records: &[u8]) -> impl Iterator<Item = Instruction> + '_ {
 /// written remain.
 pub fn unpack_into(map: &[u8], out: &mut [u8]) -> Result<usize, Refusal> {
     let mut written = 0;
+    // SAFETY: the slices give their own pointers and lengths; `out` is borrowed alone, and the number is nobody else's.
     let answer = unsafe { sys::corbastrigo_unpack(map.as_ptr(), map.len(), out.as_mut_ptr(), out.len(), &mut written) };
     Refusal::check(answer)?;
     Ok(written)
@@ -41,6 +55,7 @@ pub fn unpack_into(map: &[u8], out: &mut [u8]) -> Result<usize, Refusal> {
 /// Packs records into a map's bytes. The bytes written, or 16, 15, 1, 14. No check is run. Bytes past what is written remain.
 pub fn pack_into(records: &[u8], out: &mut [u8]) -> Result<usize, Refusal> {
     let mut written = 0;
+    // SAFETY: the slices give their own pointers and lengths; `out` is borrowed alone, and the number is nobody else's.
     let answer = unsafe { sys::corbastrigo_pack(records.as_ptr(), records.len(), out.as_mut_ptr(), out.len(), &mut written) };
     Refusal::check(answer)?;
     Ok(written)
@@ -49,12 +64,22 @@ pub fn pack_into(records: &[u8], out: &mut [u8]) -> Result<usize, Refusal> {
 /// An output of so many bytes; 14 where there is no memory for it.
 fn room(bytes: usize) -> Result<Vec<u8>, Refusal> {
     let mut out = Vec::new();
-    out.try_reserve_exact(bytes).map_err(|_| Refusal::OUTPUT_TOO_SHORT)?;
+    out.try_reserve_exact(bytes).map_err(|_| Refusal::OutputTooShort)?;
     out.resize(bytes, 0);
     Ok(out)
 }
 
 /// The records of an accepted map, or the check's reason. A map of n bytes has at most 8n / 5 instructions.
+///
+/// ```
+/// use corbastrigo::{instructions, pack, unpack, Instruction, Refusal};
+///
+/// let records = unpack(&[0, 0, 0])?;
+/// let lone = Instruction { opcode: 0, operand: 1, place: 0, size: 17 };
+/// assert_eq!(instructions(&records).collect::<Vec<_>>(), [lone]);
+/// assert_eq!(pack(&records)?, [0, 0, 0]);
+/// # Ok::<(), Refusal>(())
+/// ```
 pub fn unpack(map: &[u8]) -> Result<Vec<u8>, Refusal> {
     let check = sanity_check(map)?;
     let mut out = room(check.count as usize * RECORD_BYTES)?;
@@ -63,7 +88,16 @@ pub fn unpack(map: &[u8]) -> Result<Vec<u8>, Refusal> {
     Ok(out)
 }
 
-/// The bytes of a map that records make, or 16, 15, 1.
+/// The bytes of a map that records make, or 16, 15, 1. No check is run.
+///
+/// ```
+/// use corbastrigo::{pack, Instruction, Refusal};
+///
+/// let jump = Instruction { opcode: 1, operand: 17, place: 0, size: 8 };
+/// assert_eq!(pack(&jump.record())?, [1]);
+/// assert_eq!(pack(&jump.record()[1..]), Err(Refusal::Record));
+/// # Ok::<(), Refusal>(())
+/// ```
 pub fn pack(records: &[u8]) -> Result<Vec<u8>, Refusal> {
     let most = (records.len() / RECORD_BYTES).saturating_mul(MOST_BITS).div_ceil(8);
     let mut out = room(most.min(MAX_MAP_BYTES))?;

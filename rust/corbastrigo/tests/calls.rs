@@ -1,7 +1,10 @@
 //! Every public function of the safe crate, with answers from document 01.
 use corbastrigo::*;
 use std::collections::HashSet;
+use std::error::Error;
+use std::io;
 use std::net::{IpAddr, SocketAddr};
+use std::path::{Path, PathBuf};
 
 /// 1.2.0.0/16 is sent to 1, 3.4.0.0/16 to 2.
 const TWO_PREFIXES: [u8; 35] = [
@@ -21,6 +24,11 @@ fn peers(texts: &[&str]) -> Vec<SocketAddr> {
     texts.iter().map(|text| SocketAddr::new(ip(text), 8333)).collect()
 }
 
+/// A walk's end, number, count and bits.
+fn parts(walk: Walk) -> (End, u32, u32, u8) {
+    (walk.end, walk.number, walk.count, walk.bits)
+}
+
 fn number<T: std::fmt::Debug>(refused: Result<T, Refusal>) -> u8 {
     refused.expect_err("refused").number()
 }
@@ -32,32 +40,30 @@ fn a_checked_map_is_walked() {
     assert_eq!(map.as_bytes(), TWO_PREFIXES);
     assert_eq!((map.mapped_as(ip("1.2.0.0")), map.mapped_as(ip("3.4.0.0")), map.mapped_as(ip("8.8.8.8"))), (1, 2, 0));
     assert_eq!(map.interpret_ip16(&ip16_for_lookup(ip("3.4.5.6"))), 2);
-    let walk = map.walk(&ip16_for_lookup(ip("3.4.0.0")));
-    assert_eq!(walk, Walk { end: End::Returned, number: 2, count: 15, bits: 103 });
-    let walk = map.walk(&ip16_for_lookup(ip("8.8.8.8")));
-    assert_eq!(walk, Walk { end: End::Differed, number: 0, count: 13, bits: 101 });
+    assert_eq!(parts(map.walk(&ip16_for_lookup(ip("3.4.0.0")))), (End::Returned, 2, 15, 103));
+    assert_eq!(parts(map.walk(&ip16_for_lookup(ip("8.8.8.8")))), (End::Differed, 0, 13, 101));
 }
 
 #[test]
 fn a_refused_map_is_none_and_says_why() {
     assert_eq!(AsMap::from_bytes(TWO_PREFIXES[..34].to_vec()), None);
-    let refusal = AsMap::checked(TWO_PREFIXES[..34].to_vec()).expect_err("cut");
-    assert_eq!(refusal.number(), 4);
-    assert_eq!(refusal.to_string(), "refused, 4: a code is cut by the map's end");
-    assert_eq!(sanity_check(&[0, 0, 0]), Ok(Check { count: 1, depth: 0 }));
+    assert_eq!(AsMap::checked(TWO_PREFIXES[..34].to_vec()), Err(Refusal::Cut));
+    let check = sanity_check(&[0, 0, 0]).expect("accepted");
+    assert_eq!((check.count, check.depth), (1, 0));
     for (bytes, reason) in [
-        (&[][..], 2),
-        (&[0x01, 0xfb, 0x03, 0x00], 3),
-        (&[0xfb], 4),
-        (&[0x07, 0, 0], 5),
-        (&[0, 0, 2], 6),
-        (&[0xfd, 0x71, 0x3a, 0, 0], 7),
-        (&[1, 1], 9),
-        (&[0x63, 0, 0, 0], 10),
+        (&vec![0; MAX_MAP_BYTES + 1][..], Refusal::MapTooLong),
+        (&[], Refusal::MapEnds),
+        (&[0x01, 0xfb, 0x03, 0x00], Refusal::PastTarget),
+        (&[0xfb], Refusal::Cut),
+        (&[0x07, 0, 0], Refusal::AfterDefault),
+        (&[0, 0, 2], Refusal::Padding),
+        (&[0xfd, 0x71, 0x3a, 0, 0], Refusal::NotAtTarget),
+        (&sixteen_bytes_and_one_bit(), Refusal::NoBits),
+        (&[1, 1], Refusal::TargetsCross),
+        (&[0x63, 0, 0, 0], Refusal::ShortMatches),
     ] {
-        assert_eq!(number(sanity_check(bytes)), reason);
+        assert_eq!(sanity_check(bytes), Err(reason));
     }
-    assert_eq!(number(sanity_check(&vec![0; MAX_MAP_BYTES + 1])), 1);
 }
 
 #[test]
@@ -82,20 +88,71 @@ fn the_place_of_a_refusal_is_told() {
 #[test]
 fn an_abort_has_the_number_0_and_is_told() {
     let walk = interpret(&[1], &[0; 16]).expect("any map is walked");
-    assert_eq!(walk, Walk { end: End::Aborted, number: 0, count: 1, bits: 1 });
+    assert_eq!(parts(walk), (End::Aborted, 0, 1, 1));
     assert_eq!(number(interpret(&[1], &[0; 15])), 11);
     assert_eq!(number(interpret(&vec![0; MAX_MAP_BYTES + 1], &[0; 16])), 1);
 }
 
+/// A file that is gone when the test is done with it.
+struct Scratch(PathBuf);
+
+impl Scratch {
+    fn new(name: &str, bytes: &[u8]) -> Scratch {
+        let path = std::env::temp_dir().join(format!("corbastrigo-{name}-{}", std::process::id()));
+        std::fs::write(&path, bytes).expect("a file can be written");
+        Scratch(path)
+    }
+}
+
+impl Drop for Scratch {
+    fn drop(&mut self) {
+        // Where the test removed it itself there is nothing to do.
+        let _ = std::fs::remove_file(&self.0);
+    }
+}
+
 #[test]
 fn a_map_is_read_from_a_file() {
-    let path = std::env::temp_dir().join(format!("corbastrigo-test-{}", std::process::id()));
-    std::fs::write(&path, TWO_PREFIXES).expect("a file can be written");
-    assert_eq!(AsMap::from_path(&path).expect("readable"), Some(map()));
-    std::fs::write(&path, &TWO_PREFIXES[..34]).expect("a file can be written");
-    assert_eq!(AsMap::from_path(&path).expect("readable"), None);
-    std::fs::remove_file(&path).expect("the file is there");
-    assert!(AsMap::from_path(&path).is_err());
+    let file = Scratch::new("whole", &TWO_PREFIXES);
+    assert_eq!(AsMap::from_path(&file.0).expect("readable"), Some(map()));
+    assert_eq!(AsMap::open(&file.0).expect("accepted"), map());
+    let file = Scratch::new("cut", &TWO_PREFIXES[..34]);
+    assert_eq!(AsMap::from_path(&file.0).expect("readable"), None);
+    std::fs::remove_file(&file.0).expect("the file is there");
+    assert!(AsMap::from_path(&file.0).is_err());
+}
+
+#[test]
+fn a_file_that_holds_no_map_is_named_with_the_reason() {
+    let file = Scratch::new("refused", &TWO_PREFIXES[..34]);
+    let error = AsMap::open(&file.0).expect_err("cut");
+    assert_eq!((error.path(), error.refusal()), (&*file.0, Some(Refusal::Cut)));
+    assert_eq!(error.to_string(), format!("{} is no sane map", file.0.display()));
+    assert_eq!(error.source().expect("a reason").to_string(), Refusal::Cut.to_string());
+    std::fs::remove_file(&file.0).expect("the file is there");
+    let error = AsMap::open(&file.0).expect_err("gone");
+    assert_eq!((error.path(), error.refusal()), (&*file.0, None));
+    assert_eq!(error.to_string(), format!("{} cannot be read", file.0.display()));
+    let system = error.source().expect("a reason").downcast_ref::<io::Error>().expect("the system's");
+    assert_eq!(system.kind(), io::ErrorKind::NotFound);
+    let folder = AsMap::open(std::env::temp_dir()).expect_err("a folder");
+    assert!(matches!(folder, OpenError::Unreadable { .. }), "{folder:?}");
+}
+
+#[test]
+fn a_file_without_end_is_read_to_the_limit_only() {
+    assert_eq!(AsMap::open("/dev/zero").expect_err("too long").refusal(), Some(Refusal::MapTooLong));
+    assert_eq!(AsMap::from_path(Path::new("/dev/zero")).expect("readable"), None);
+}
+
+#[test]
+#[cfg(feature = "digest")]
+fn a_map_has_its_digest() {
+    let lone = AsMap::from_bytes(vec![0, 0, 0]).expect("accepted");
+    assert_eq!(lone.digest_hex8(), "709e80c8");
+    let whole: String = map().digest().iter().map(|byte| format!("{byte:02x}")).collect();
+    assert_eq!(whole, "070965c431fe49f390669aed1379f190d55d09cb339d4a145e83f8308360d210");
+    assert_eq!(map().digest_hex8(), whole[..8]);
 }
 
 #[test]
@@ -105,6 +162,7 @@ fn instructions_there_and_back() {
     // Twelve MATCHes of 18 bits, one of 15, a JUMP of 8 and a RETURN of 17 stand before it.
     let last = Instruction { opcode: 0, operand: 2, place: 256, size: 17 };
     assert_eq!(instructions(&records).last(), Some(last));
+    assert_eq!(instructions(&records).flat_map(Instruction::record).collect::<Vec<u8>>(), records);
     assert_eq!(pack(&records), Ok(TWO_PREFIXES.to_vec()));
     assert_eq!(pack(&[]), Ok(vec![]));
     assert_eq!(number(pack(&records[1..])), 16);
@@ -145,7 +203,9 @@ fn peers_are_grouped_and_picked() {
     assert_eq!((prefix_group(ip("3.4.5.6")), prefix_group(ip("2001:db8::"))), (772, 0x2001_0db8));
     let occupied = HashSet::from([0]);
     let picked = pick(&ranked, 3, &occupied, Some(&map)).expect("few");
-    assert_eq!(picked, Pick { places: vec![1, 3, 0], groups: vec![2, 1], examined: 4, instructions: 58 });
+    assert_eq!((&picked.places[..], &picked.groups[..]), (&[1, 3, 0][..], &[2, 1][..]));
+    assert_eq!((picked.examined, picked.instructions), (4, 58));
+    assert_eq!((picked.first_pass(), picked.second_pass()), (&[1, 3][..], &[0][..]));
     assert_eq!(select_diverse(&ranked, 3, &occupied, Some(&map)), Ok(vec![ranked[1], ranked[3], ranked[0]]));
     assert_eq!(select_diverse(&ranked, 1, &occupied, None), Ok(vec![ranked[0]]));
     assert_eq!(select_diverse(&[], 3, &occupied, None), Ok(vec![]));
@@ -165,40 +225,60 @@ fn addresses_are_filtered() {
     assert_eq!(number(addrv2_skip_relay(3, &[0; 9], 1)), 17);
 }
 
-#[test]
-fn every_refusal_has_its_words() {
-    let reasons: HashSet<&str> = (1..=10).map(|n| reason(n)).collect();
-    assert_eq!(reasons.len(), 10);
+/// The refusals of the header: each name, in words, with its number.
+fn header() -> Vec<(String, u8)> {
+    let lines =
+        include_str!("../../../include/corbastrigo.h").lines().skip_while(|line| !line.starts_with("enum corbastrigo_refusal"));
+    let rows = lines.skip(1).take_while(|line| !line.starts_with("};"));
+    rows.map(|row| {
+        let (name, rest) = row.trim().trim_start_matches("CORBASTRIGO_").split_once(" = ").expect("a name and its number");
+        let digits: String = rest.chars().take_while(char::is_ascii_digit).collect();
+        (name.replace('_', "").to_lowercase(), digits.parse().expect("a number"))
+    })
+    .collect()
 }
 
-/// The words of a check's reason, by an input that it is given for.
-fn reason(n: u8) -> &'static str {
-    let over = vec![0; MAX_MAP_BYTES + 1];
-    let past_end: Vec<u8> = pack(&sixteen_bytes_and_one_bit()).expect("packs");
-    let inputs: [&[u8]; 10] = [
-        &over,
-        &[],
-        &[0x01, 0xfb, 0x03, 0x00],
-        &[0xfb],
-        &[0x07, 0, 0],
-        &[0, 0, 2],
-        &[0xfd, 0x71, 0x3a, 0, 0],
-        &past_end,
-        &[1, 1],
-        &[0x63, 0, 0, 0],
-    ];
-    let refusal = sanity_check(inputs[usize::from(n) - 1]).expect_err("refused");
-    assert_eq!(refusal.number(), n);
-    refusal.reason()
+#[test]
+fn every_refusal_has_the_headers_name_and_number() {
+    let named: Vec<(String, u8)> = Refusal::NAMED
+        .iter()
+        .map(|refusal| {
+            let shown = format!("{refusal:?}");
+            (shown.split(' ').next().expect("a name").to_lowercase(), refusal.number())
+        })
+        .collect();
+    assert_eq!(named, header());
+    assert_eq!(named.iter().map(|row| row.1).collect::<Vec<_>>(), (1..=17).collect::<Vec<u8>>());
+}
+
+#[test]
+fn a_number_makes_its_refusal_and_each_has_its_own_words() {
+    let words: HashSet<&str> = Refusal::NAMED.iter().map(|refusal| refusal.reason()).collect();
+    assert_eq!(words.len(), Refusal::NAMED.len());
+    for number in 1..=u8::MAX {
+        let refusal = Refusal::from_number(number).expect("a refusal");
+        assert_eq!(refusal.number(), number);
+        assert_eq!(Refusal::NAMED.contains(&refusal), refusal != Refusal::Other(number));
+    }
+    assert_eq!(Refusal::from_number(0), None);
+    assert_eq!(Refusal::from_number(18), Some(Refusal::Other(18)));
+}
+
+#[test]
+fn a_refusal_is_shown_in_words() {
+    assert_eq!(Refusal::Cut.to_string(), "a code is cut by the map's end (refusal 4)");
+    assert_eq!(format!("{:?}", Refusal::Cut), "Cut (refusal 4: a code is cut by the map's end)");
+    assert_eq!(Refusal::Other(99).to_string(), "a reason that this version does not know (refusal 99)");
+    assert_eq!(format!("{:?}", Refusal::Other(99)), "Other (refusal 99: a reason that this version does not know)");
 }
 
 /// Sixteen MATCHes of a byte, one of a bit, and a RETURN: one address bit too many.
 fn sixteen_bytes_and_one_bit() -> Vec<u8> {
     let mut place = 0u32;
     let mut records = Vec::new();
-    for (opcode, operand, size) in [(2, 256, 18u32); 16].into_iter().chain([(2, 2, 5), (0, 1, 17)]) {
-        records.extend([opcode, operand, place, size].iter().flat_map(|n: &u32| n.to_le_bytes()));
+    for (opcode, operand, size) in [(2, 256, 18); 16].into_iter().chain([(2, 2, 5), (0, 1, 17)]) {
+        records.extend(Instruction { opcode, operand, place, size }.record());
         place += size;
     }
-    records
+    pack(&records).expect("packs")
 }
