@@ -1,0 +1,178 @@
+//! The arguments, as clap takes them. The texts here are the help, the man page and the completions.
+use clap::{Args, Parser, Subcommand};
+use clap_complete::Shell;
+use std::path::PathBuf;
+
+const AFTER: &str = "\
+Reading the numbers:
+  0 is not \"unmapped\": a walk that was aborted has the number 0, and so has
+  one that differed before it met a DEFAULT.
+  A default holds until the walk meets another. No JUMP and no branch ends it.
+  Addresses that come out right say nothing of a map. The check does.
+
+Exit status:
+  0  done
+  1  the answer is no: a map or a record is refused, or what was compared differs
+  2  misuse, or a file that cannot be read or written
+
+Environment:
+  NO_COLOR  set to anything, it keeps colour out; there is none but on a terminal";
+
+/// Bitcoin's address maps (asmap): check them, walk them, see why an address ends where it does
+#[derive(Debug, Parser)]
+#[command(name = "asmap", version, after_help = AFTER, arg_required_else_help = true)]
+pub struct Arguments {
+    /// Print one JSON object a line, for scripts, instead of text
+    #[arg(long, global = true)]
+    pub json: bool,
+    #[command(subcommand)]
+    pub command: Command,
+}
+
+#[derive(Debug, Subcommand)]
+pub enum Command {
+    /// Say whether maps are sane, and where and why not
+    #[command(after_help = "Example:\n  asmap check before.asmap after.asmap")]
+    Check(Check),
+    /// Walk a map by addresses: the number that each is sent to, and how its walk ended
+    #[command(after_help = "Examples:\n  asmap walk node.asmap 1.2.3.4 2001:db8::1\n  asmap walk node.asmap - < addresses.txt")]
+    Walk(Walk),
+    /// Show one walk step by step
+    #[command(after_help = "Example:\n  asmap trace node.asmap 1.2.3.4")]
+    Trace(Trace),
+    /// List a map's instructions
+    ///
+    /// One instruction a line, in the map's order: RETURN and DEFAULT with an AS number, MATCH with the address bits that it compares, JUMP
+    /// with the number of map bits that an address bit of 1 skips. These stand indented below the JUMP, and behind them, no longer
+    /// indented, what the 1 goes to. Behind `#` is the map bit at which the instruction starts.
+    ///
+    /// The indentation shows open jumps, not how far a default holds: a walk keeps its default until it meets another.
+    #[command(after_help = "Examples:\n  asmap unpack node.asmap\n  asmap unpack --records -o node.records node.asmap")]
+    Unpack(Unpack),
+    /// Make a map from a list of instructions
+    ///
+    /// The list is what `asmap unpack` writes. Indentation is free, opcodes may be in any case, and blank lines and what is behind `#` are
+    /// left out. The map is checked, and standard error says what the check says. A map that it refuses is not written, and the exit status
+    /// is 1; with --unchecked it is written, and the exit status is 0.
+    #[command(after_help = "Example:\n  asmap unpack node.asmap | asmap pack -o copy.asmap -")]
+    Pack(Pack),
+    /// Say in which group addresses are
+    ///
+    /// With a map the group is the AS number that the address is sent to; without one it is the first two bytes of an IPv4 address, or the
+    /// first four of an IPv6 address, as a number. A group of 0 says why it is 0.
+    #[command(after_help = "Examples:\n  asmap group 1.2.3.4\n  asmap group --map node.asmap 1.2.3.4 2001:db8::1")]
+    Group(Group),
+    /// Pick peers from a ranked list, spread over groups
+    ///
+    /// First, in order, each candidate whose group is neither occupied nor taken; then, in order, what is still wanted of the others. In
+    /// both files blank lines and what is behind `#` are left out. At most 4,096 candidates and 4,096 occupied groups are taken.
+    #[command(after_help = "Example:\n  asmap pick --map node.asmap --max 8 --occupied groups.txt candidates.txt")]
+    Pick(Pick),
+    /// Say which addresses can be no peer on the open Internet, and by which range
+    ///
+    /// The exit status is 0 for routable and unroutable addresses alike.
+    #[command(after_help = "Example:\n  asmap filter 10.0.0.1 2001:db8::1")]
+    Filter(Filter),
+    /// Print the manual page
+    #[command(hide = true)]
+    Man,
+    /// Print completions for a shell
+    #[command(after_help = "Example:\n  asmap completions bash > asmap.bash")]
+    Completions(Completions),
+}
+
+#[derive(Args, Debug)]
+pub struct Check {
+    /// Files of maps
+    #[arg(required = true, value_name = "MAP")]
+    pub maps: Vec<PathBuf>,
+}
+
+#[derive(Args, Debug)]
+pub struct Walk {
+    /// The file of a map
+    pub map: PathBuf,
+    /// Addresses; `-` reads them from standard input, one a line
+    #[arg(required = true, value_name = "ADDRESS")]
+    pub addresses: Vec<String>,
+    /// Walk a map that the check refuses; every line then says so
+    #[arg(long)]
+    pub unchecked: bool,
+}
+
+#[derive(Args, Debug)]
+pub struct Trace {
+    /// The file of a map
+    pub map: PathBuf,
+    /// The address
+    pub address: String,
+    /// Trace a walk of a map that the check refuses; the output then says so
+    #[arg(long)]
+    pub unchecked: bool,
+}
+
+#[derive(Args, Debug)]
+pub struct Unpack {
+    /// The file of a map
+    pub map: PathBuf,
+    /// Write records of 16 bytes instead of text
+    #[arg(long)]
+    pub records: bool,
+    /// Write to this file instead of standard output
+    #[arg(short, long, value_name = "FILE")]
+    pub output: Option<PathBuf>,
+}
+
+#[derive(Args, Debug)]
+pub struct Pack {
+    /// The list of instructions as `asmap unpack` writes it; `-` reads standard input
+    #[arg(value_name = "LIST")]
+    pub list: PathBuf,
+    /// The list is records of 16 bytes instead of text
+    #[arg(long)]
+    pub records: bool,
+    /// Write the map to this file instead of standard output
+    #[arg(short, long, value_name = "FILE")]
+    pub output: Option<PathBuf>,
+    /// Write a map that the check refuses too, for tests and teaching
+    #[arg(long)]
+    pub unchecked: bool,
+}
+
+#[derive(Args, Debug)]
+pub struct Group {
+    /// Addresses; `-` reads them from standard input, one a line
+    #[arg(required = true, value_name = "ADDRESS")]
+    pub addresses: Vec<String>,
+    /// Group by this map; without one the prefix of the address is its group
+    #[arg(short, long, value_name = "MAP")]
+    pub map: Option<PathBuf>,
+}
+
+#[derive(Args, Debug)]
+pub struct Pick {
+    /// Candidates, the best first, one a line: 1.2.3.4:8333 or [2001:db8::1]:8333; `-` reads standard input
+    pub candidates: PathBuf,
+    /// How many peers are wanted at most
+    #[arg(long, value_name = "N")]
+    pub max: usize,
+    /// Group by this map; without one the prefix of the address is its group
+    #[arg(short, long, value_name = "MAP")]
+    pub map: Option<PathBuf>,
+    /// Groups that are occupied already, one a line, in decimal; `-` reads standard input
+    #[arg(long, value_name = "FILE")]
+    pub occupied: Option<PathBuf>,
+}
+
+#[derive(Args, Debug)]
+pub struct Filter {
+    /// Addresses; `-` reads them from standard input, one a line
+    #[arg(required = true, value_name = "ADDRESS")]
+    pub addresses: Vec<String>,
+}
+
+#[derive(Args, Debug)]
+pub struct Completions {
+    /// The shell
+    pub shell: Shell,
+}

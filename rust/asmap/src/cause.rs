@@ -1,0 +1,43 @@
+//! What usually causes each refusal of the check. `tests/damage.rs` damages maps in the ways that are named here and looks which refusals
+//! that leads to.
+use crate::files::MapFile;
+use corbastrigo::Refusal;
+
+/// What usually causes a refusal. Changed bytes are met at the first instruction that fits no longer: there, or anywhere behind them.
+pub fn usual_cause(refusal: Refusal, file: &MapFile) -> &'static str {
+    match refusal {
+        Refusal::MapTooLong => "it is no map, or several files in one: a map of the whole Internet has about 2 MB",
+        Refusal::MapEnds if file.size == 0 => "the file was created and never written",
+        Refusal::MapEnds => "the map lost its end, between two instructions: a copy broken off, or a last page not written",
+        Refusal::PastTarget => "bytes in the middle were lost or overwritten, so that a jump before this no longer fits",
+        Refusal::Cut => "the map lost its end: a copy broken off, or a last page not written",
+        Refusal::AfterDefault => {
+            "a page was overwritten with zeros, ones or other bytes; or it is no map but a program or an archive"
+        }
+        Refusal::Padding => {
+            "the file was filled up behind the map's end, or joined to another; or its beginning is lost, or it is no map but text"
+        }
+        Refusal::NotAtTarget => {
+            "a page in the middle was lost, doubled or filled with zeros, so that a jump before this no longer fits"
+        }
+        Refusal::NoBits => "the map was made by a program that counts address bits wrongly: damage hardly ever leads to this",
+        Refusal::TargetsCross => "a page in the middle was lost, doubled or exchanged, so that two jumps no longer fit",
+        Refusal::ShortMatches => {
+            "the map was made by a program that does not join short MATCHes, or bytes in the middle were changed"
+        }
+        _ => "this version knows no usual cause",
+    }
+}
+
+/// What whoever has the file can do.
+pub fn advice(refusal: Refusal) -> &'static str {
+    match refusal {
+        Refusal::MapTooLong | Refusal::AfterDefault | Refusal::Padding => {
+            "look whether this is the file that was meant; if it is, restore it from a whole copy"
+        }
+        Refusal::NoBits | Refusal::ShortMatches => {
+            "make it again, with another program or a newer one, or restore it from a whole copy"
+        }
+        _ => "restore it from a whole copy; both must then have the same digest",
+    }
+}

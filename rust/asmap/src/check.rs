@@ -1,0 +1,89 @@
+//! `asmap check`: the library's verdict on each map, with the place of a refusal and what usually causes it.
+use crate::args::Check;
+use crate::cause::{advice, usual_cause};
+use crate::failure::{self, Failure, Outcome, Status};
+use crate::files::{self, MapFile};
+use crate::out::{progress, Out, Style};
+use crate::words::counted;
+use corbastrigo::{sanity_check, sanity_check_stop, AsMap, Check as Verdict, Refusal};
+use serde_json::json;
+use std::path::Path;
+
+/// Checks every map. One that cannot be read does not keep the others from being checked.
+pub fn run(asked: &Check, out: &mut Out) -> Outcome {
+    let bar = progress(Some(asked.maps.len() as u64), "maps");
+    let mut status = Status::Done;
+    let mut unread = 0;
+    for path in &asked.maps {
+        match files::read_map(path) {
+            Ok(file) => status = status.and(report(path, file, out)?),
+            Err(Failure::Said(message)) if asked.maps.len() > 1 => {
+                bar.suspend(|| failure::say(&message));
+                unread += 1;
+            }
+            Err(other) => return Err(other),
+        }
+        bar.inc(1);
+    }
+    bar.finish_and_clear();
+    match unread {
+        0 => Ok(status),
+        _ => Err(Failure::new(format!("{} could not be checked", counted(unread, "map", "maps")))),
+    }
+}
+
+/// Says what the check says of a map.
+fn report(path: &Path, file: MapFile, out: &mut Out) -> Outcome {
+    let name = files::shown(path);
+    let status = match sanity_check(&file.bytes) {
+        Ok(check) => accepted(&name, file, check, out)?,
+        Err(refusal) => refused(&name, &file, refusal, out)?,
+    };
+    out.finish()?;
+    Ok(status)
+}
+
+fn accepted(name: &str, file: MapFile, check: Verdict, out: &mut Out) -> Outcome {
+    let map = AsMap::checked(file.bytes).map_err(|refusal| Failure::No(refusal.to_string()))?;
+    let digest: String = map.digest().iter().map(|byte| format!("{byte:02x}")).collect();
+    if out.is_json() {
+        out.object(&json!({
+            "map": name, "accepted": true, "bytes": map.len(), "digest": digest, "instructions": check.count, "depth": check.depth,
+            "refusal": null, "reason": null, "place": null, "usual_cause": null, "advice": null,
+        }))?;
+        return Ok(Status::Done);
+    }
+    let verdict = out.paint(Style::Good, "accepted");
+    let (bytes, count) = (counted(map.len() as u64, "byte", "bytes"), counted(check.count.into(), "instruction", "instructions"));
+    out.line(&format!("{name}: {verdict}, {bytes}, {count}, depth {}", check.depth))?;
+    out.line(&format!("  digest   {digest}"))?;
+    Ok(Status::Done)
+}
+
+/// Says why a map was refused, where, and what to do about it.
+fn refused(name: &str, file: &MapFile, refusal: Refusal, out: &mut Out) -> Outcome {
+    let (number, reason, place) = (refusal.number(), refusal.reason(), place(&file.bytes));
+    let (cause, advice) = (usual_cause(refusal, file), advice(refusal));
+    if out.is_json() {
+        out.object(&json!({
+            "map": name, "accepted": false, "bytes": file.size, "digest": null, "instructions": null, "depth": null,
+            "refusal": number, "reason": reason, "place": place, "usual_cause": cause, "advice": advice,
+        }))?;
+        return Ok(Status::No);
+    }
+    let verdict = out.paint(Style::Bad, &format!("refused {number}"));
+    out.line(&format!("{name}: {verdict}: {reason}"))?;
+    out.line(&format!("  size     {}", counted(file.size, "byte", "bytes")))?;
+    if let Some(bit) = place {
+        out.line(&format!("  at       bit {bit}: byte {}, bit {}", bit / 8, bit % 8))?;
+    }
+    out.line(&format!("  usually  {cause}"))?;
+    out.line(&format!("  advice   {advice}"))?;
+    Ok(Status::No)
+}
+
+/// The bit at which the check stopped: the first of the instruction that it refused, or the map's end where it wants another. None of a map
+/// over the limit, which is not looked into.
+fn place(map: &[u8]) -> Option<usize> {
+    sanity_check_stop(map).ok().map(|stop| stop.place)
+}

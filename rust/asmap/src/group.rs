@@ -1,0 +1,27 @@
+//! `asmap group`: in which group addresses are, and why.
+use crate::args::Group;
+use crate::failure::{Outcome, Status};
+use crate::files::checked_map;
+use crate::grouping::Grouped;
+use crate::out::{Out, Style};
+use crate::words;
+use serde_json::json;
+use std::net::SocketAddr;
+
+pub fn run(asked: &Group, out: &mut Out) -> Outcome {
+    let map = asked.map.as_deref().map(checked_map).transpose()?;
+    let width = words::width(&asked.addresses);
+    words::each_address(&asked.addresses, out, |address, out| {
+        // A group is that of the address: no port matters.
+        let grouped = Grouped::of(SocketAddr::new(address, 0), map.as_ref())?;
+        let address = address.to_string();
+        if out.is_json() {
+            let mut object = grouped.object();
+            object["address"] = json!(address);
+            return out.object(&object);
+        }
+        let group = out.paint(Style::Strong, &format!("{:>10}", grouped.group));
+        out.line(&format!("{address:<width$}  {group}  {}", grouped.source()))
+    })?;
+    Ok(Status::Done)
+}

@@ -1,0 +1,196 @@
+//! `asmap pick`: peers from a ranked list, spread over groups. The library picks; this says what each was picked for.
+use crate::args::Pick as Asked;
+use crate::failure::{Failure, Outcome, Status};
+use crate::files::{self, checked_map, input_name};
+use crate::grouping::Grouped;
+use crate::out::{Out, Style};
+use crate::words::{counted, grouped};
+use corbastrigo::{pick, AsMap, Pick, Refusal, MAX_CANDIDATES};
+use serde_json::json;
+use std::collections::HashSet;
+use std::net::SocketAddr;
+use std::path::Path;
+
+pub fn run(asked: &Asked, out: &mut Out) -> Outcome {
+    let standard = Path::new("-");
+    if asked.candidates == standard && asked.occupied.as_deref() == Some(standard) {
+        return Err(Failure::new("standard input can be the candidates or the occupied groups; give the other as a file"));
+    }
+    let map = asked.map.as_deref().map(checked_map).transpose()?;
+    let ranked = candidates(&asked.candidates)?;
+    let occupied = asked.occupied.as_deref().map(occupied_groups).transpose()?.unwrap_or_default();
+    let picked = pick(&ranked, asked.max, &occupied, map.as_ref()).map_err(|refusal| refused(asked, ranked.len(), refusal))?;
+    let rows = rows(&picked, &ranked, asked.max, map.as_ref())?;
+    if out.is_json() {
+        objects(asked, &picked, &rows, ranked.len(), out)?;
+    } else {
+        table(&rows, out)?;
+        out.line(&summary(asked, &picked, ranked.len()))?;
+    }
+    Ok(Status::Done)
+}
+
+/// What the lines of a file hold. Blank lines, and what stands behind `#`, are left out.
+fn entries<T>(
+    path: &Path,
+    parse: impl Fn(&str) -> Result<T, Failure>,
+) -> Result<impl Iterator<Item = Result<T, Failure>>, Failure> {
+    let mut lines = files::lines(path)?;
+    Ok(std::iter::from_fn(move || loop {
+        let line = match lines.next()? {
+            Ok(line) => line,
+            Err(failure) => return Some(Err(failure)),
+        };
+        let entry = line.split('#').next().unwrap_or_default().trim();
+        if !entry.is_empty() {
+            return Some(parse(entry).map_err(|failure| lines.at_line(failure)));
+        }
+    }))
+}
+
+/// The candidates of a file. One past the limit is enough for the library to refuse them.
+fn candidates(path: &Path) -> Result<Vec<SocketAddr>, Failure> {
+    entries(path, candidate)?.take(MAX_CANDIDATES + 1).collect()
+}
+
+fn candidate(word: &str) -> Result<SocketAddr, Failure> {
+    if word.contains('%') {
+        return Err(Failure::new(format!("{word:?} has a zone behind %, which holds on one machine only; leave it out")));
+    }
+    word.parse()
+        .map_err(|_| Failure::new(format!("{word:?} is no candidate; write 1.2.3.4:8333 or [2001:db8::1]:8333, with the port")))
+}
+
+/// The groups of a file, likewise.
+fn occupied_groups(path: &Path) -> Result<HashSet<u64>, Failure> {
+    let mut groups = HashSet::new();
+    for group in entries(path, group)? {
+        groups.insert(group?);
+        if groups.len() > MAX_CANDIDATES {
+            break;
+        }
+    }
+    Ok(groups)
+}
+
+fn group(word: &str) -> Result<u64, Failure> {
+    word.parse().map_err(|_| Failure::new(format!("{word:?} is no group; write its number in decimal, as `asmap group` shows it")))
+}
+
+/// The "no" to lists that are too long.
+fn refused(asked: &Asked, candidates: usize, refusal: Refusal) -> Failure {
+    let (list, hint) = match &asked.occupied {
+        Some(occupied) if candidates <= MAX_CANDIDATES => (occupied.as_path(), "are so many peers connected?"),
+        _ => (asked.candidates.as_path(), "give the best of them"),
+    };
+    Failure::No(format!("{} is refused, {}: {}; {hint}", input_name(list), refusal.number(), refusal.reason()))
+}
+
+/// A pick with what it was picked for.
+struct Row {
+    place: u16,
+    candidate: SocketAddr,
+    grouped: Grouped,
+    pass: Pass,
+}
+
+enum Pass {
+    First,
+    /// So many peers were wanted when this one was taken; the group had gone to a pick of the first pass, or was occupied.
+    Fill {
+        wanted: usize,
+        holder: Option<usize>,
+    },
+}
+
+fn rows(picked: &Pick, ranked: &[SocketAddr], max: usize, map: Option<&AsMap>) -> Result<Vec<Row>, Failure> {
+    let row = |(rank, &place): (usize, &u16)| {
+        let candidate = ranked[usize::from(place)];
+        let grouped = Grouped::of(candidate, map)?;
+        let pass = if rank < picked.groups.len() {
+            Pass::First
+        } else {
+            Pass::Fill { wanted: max - rank, holder: picked.groups.iter().position(|&group| group == grouped.group) }
+        };
+        Ok(Row { place, candidate, grouped, pass })
+    };
+    picked.places.iter().enumerate().map(row).collect()
+}
+
+/// What a pick was picked for, in words. Picks count from 1 here.
+fn reason(row: &Row) -> String {
+    let group = row.grouped.group;
+    let why = match row.pass {
+        Pass::First => format!("first pass: group {group} was free"),
+        Pass::Fill { wanted, holder } => {
+            let peers = if wanted == 1 { "1 peer was".to_string() } else { format!("{} peers were", grouped(wanted as u64)) };
+            let held = holder.map_or(String::from("was occupied"), |rank| format!("went to pick {}", rank + 1));
+            format!("fill: {peers} still wanted; group {group} {held}")
+        }
+    };
+    match &row.grouped.why_zero {
+        Some(zero) => format!("{why}; 0: {zero}"),
+        None => why,
+    }
+}
+
+fn table(rows: &[Row], out: &mut Out) -> Result<(), Failure> {
+    if rows.is_empty() {
+        return Ok(());
+    }
+    let shown: Vec<String> = rows.iter().map(|row| row.candidate.to_string()).collect();
+    let width = shown.iter().map(String::len).max().unwrap_or(0).max("candidate".len());
+    let head = format!("pick  place  {:<width$}  {:>10}  picked for", "candidate", "group");
+    out.line(&out.paint(Style::Faint, &head))?;
+    for (rank, (row, candidate)) in rows.iter().zip(shown).enumerate() {
+        let (pick, place) = (rank + 1, u32::from(row.place) + 1);
+        out.line(&format!("{pick:>4}  {place:>5}  {candidate:<width$}  {:>10}  {}", row.grouped.group, reason(row)))?;
+    }
+    Ok(())
+}
+
+/// The pick as a whole. A count of 0 says why.
+fn summary(asked: &Asked, picked: &Pick, candidates: usize) -> String {
+    let (total, first) = (picked.places.len(), picked.groups.len());
+    if asked.max == 0 {
+        return String::from("none picked, because at most 0 were asked for");
+    }
+    if total == 0 {
+        return String::from("none picked, because the list has no candidates");
+    }
+    let passes = match first {
+        0 => String::from("all to fill, because no candidate's group was free"),
+        _ if first == total => String::from("all in the first pass"),
+        _ => format!("{first} in the first pass, {} to fill", total - first),
+    };
+    let walks = match asked.map {
+        Some(_) => format!("by {} of the map", counted(picked.instructions, "instruction", "instructions")),
+        None => String::from("by prefixes"),
+    };
+    let examined = format!("{} of {}", picked.examined, counted(candidates as u64, "candidate", "candidates"));
+    let max = grouped(asked.max as u64);
+    format!("{total} picked of at most {max}: {passes}; {examined} examined, {walks}; places count from 1")
+}
+
+/// An object for each pick and one for the whole. Ranks and places count from 0, as the library's.
+fn objects(asked: &Asked, picked: &Pick, rows: &[Row], candidates: usize, out: &mut Out) -> Result<(), Failure> {
+    for (rank, row) in rows.iter().enumerate() {
+        let (pass, holder) = match row.pass {
+            Pass::First => ("first", None),
+            Pass::Fill { holder, .. } => ("fill", holder),
+        };
+        let mut object = row.grouped.object();
+        object["kind"] = json!("pick");
+        object["rank"] = json!(rank);
+        object["place"] = json!(row.place);
+        object["candidate"] = json!(row.candidate.to_string());
+        object["pass"] = json!(pass);
+        object["still_wanted"] = json!(asked.max - rank);
+        object["group_went_to"] = json!(holder);
+        out.object(&object)?;
+    }
+    out.object(&json!({
+        "kind": "summary", "by": if asked.map.is_some() { "map" } else { "prefix" }, "max": asked.max, "picked": picked.places.len(),
+        "first_pass": picked.groups.len(), "candidates": candidates, "examined": picked.examined, "instructions": picked.instructions,
+    }))
+}

@@ -1,0 +1,265 @@
+//! A walk once more, step by step, for display. What a walk comes to is what the library's proved `interpret` says; the replay reads each
+//! instruction with the library's decoder, and [`replay`] hands out none that does not come to the same.
+use crate::failure::Failure;
+use crate::words;
+use corbastrigo::{codes, End, Walk};
+
+/// The default in force: its number, and the bit of the map at which it was set.
+#[derive(Clone, Copy, Debug, PartialEq, Eq)]
+pub struct InForce {
+    pub number: u32,
+    pub place: usize,
+}
+
+/// An instruction that was read whole, as the walk met it.
+#[derive(Clone, Debug)]
+pub struct Step {
+    /// The bit of the map at which it starts.
+    pub place: usize,
+    pub opcode: u32,
+    pub operand: u32,
+    /// The first of the address bits that it looks at, and those bits, none for RETURN and DEFAULT.
+    pub first_bit: usize,
+    pub bits: String,
+    /// The default in force when it was met.
+    pub default: Option<InForce>,
+    pub next: Next,
+}
+
+/// What happens after a step, and for a JUMP or MATCH what would have happened otherwise.
+#[derive(Clone, Debug)]
+pub enum Next {
+    /// A RETURN ends the walk.
+    Returns,
+    /// A DEFAULT is set; the walk goes on at this bit.
+    Sets(usize),
+    /// A JUMP: the walk goes on at `place`; with the other address bit it would have gone on at `other`.
+    Jumps { place: usize, other: usize },
+    /// A MATCH: all bits are equal, and the walk goes on at this bit.
+    Equals(usize),
+    /// A MATCH: its last bit looked at differs. With equal bits the walk would have gone on at this bit.
+    Differs(usize),
+    /// The JUMP or MATCH needs more address bits than are left.
+    TooFewBits { needed: usize, left: usize },
+}
+
+/// A walk whose steps were seen.
+#[derive(Clone, Debug)]
+pub struct Replay {
+    /// What the library says of it.
+    pub walk: Walk,
+    /// Why its number is 0, where it is.
+    pub why_zero: Option<String>,
+    /// The bit of the map where no whole instruction could be read, if that ended it.
+    pub cut: Option<usize>,
+}
+
+/// Replays a walk that the library made, and hands out each step.
+pub fn replay(map: &[u8], address: &[u8; 16], walk: Walk, mut see: impl FnMut(Step)) -> Result<Replay, Failure> {
+    let mut state = State { map, address, place: 0, bit: 0, count: 0, default: None };
+    // Every step leads onward in the map, so that this ends.
+    let end = loop {
+        let Some(step) = state.step() else { break Ending::Cut(state.place) };
+        let ending = Ending::of(&step);
+        see(step);
+        if let Some(ending) = ending {
+            break ending;
+        }
+    };
+    let (kind, number) = end.answer();
+    let (count, bits) = (state.count, state.bit as u8);
+    if (kind, number, count, bits) != (walk.end, walk.number, walk.count, walk.bits) {
+        return Err(Failure::new(format!(
+            "the steps come to {kind:?}, number {number}, {count} instructions and {bits} bits, but the library's walk to {walk:?}; \
+             please report this with the map and the address"
+        )));
+    }
+    let cut = if let Ending::Cut(place) = end { Some(place) } else { None };
+    Ok(Replay { walk, why_zero: (number == 0).then(|| end.why_zero(map)), cut })
+}
+
+/// How the steps end.
+enum Ending {
+    Returned(u32),
+    Differed(Option<InForce>),
+    TooFewBits { opcode: u32, place: usize, needed: usize, left: usize },
+    Cut(usize),
+}
+
+impl Ending {
+    /// The end that a step makes, if it makes one.
+    fn of(step: &Step) -> Option<Ending> {
+        match step.next {
+            Next::Returns => Some(Ending::Returned(step.operand)),
+            Next::Differs(_) => Some(Ending::Differed(step.default)),
+            Next::TooFewBits { needed, left } => Some(Ending::TooFewBits { opcode: step.opcode, place: step.place, needed, left }),
+            Next::Sets(_) | Next::Jumps { .. } | Next::Equals(_) => None,
+        }
+    }
+
+    /// The kind of end and the number.
+    fn answer(&self) -> (End, u32) {
+        match self {
+            Ending::Returned(number) => (End::Returned, *number),
+            Ending::Differed(default) => (End::Differed, default.map_or(0, |default| default.number)),
+            Ending::TooFewBits { .. } | Ending::Cut(_) => (End::Aborted, 0),
+        }
+    }
+
+    /// What a number 0 comes from. It is none of a RETURN's or a DEFAULT's: those begin at 1.
+    fn why_zero(&self, map: &[u8]) -> String {
+        let end = map.len() * 8;
+        match self {
+            Ending::Returned(number) => format!("the map returns {number}"),
+            Ending::Differed(_) => String::from("the walk differed before any DEFAULT was met"),
+            Ending::TooFewBits { opcode, place, needed, left } => format!(
+                "the walk was aborted: the {} at bit {place} needs {needed} of the address bits, and {left} are left",
+                words::opcode(*opcode)
+            ),
+            Ending::Cut(place) if *place < end => {
+                format!("the walk was aborted: the map ends within the instruction at bit {place}")
+            }
+            Ending::Cut(place) => format!("the walk was aborted: it came to bit {place}, and the map ends at bit {end}"),
+        }
+    }
+}
+
+/// Where a walk stands.
+struct State<'a> {
+    map: &'a [u8],
+    address: &'a [u8; 16],
+    place: usize,
+    bit: usize,
+    count: u32,
+    default: Option<InForce>,
+}
+
+impl State<'_> {
+    /// The next step, or none where no whole instruction is left to read.
+    fn step(&mut self) -> Option<Step> {
+        let (place, first_bit, default) = (self.place, self.bit, self.default);
+        let (opcode, operand, size) = codes::decode_instruction(self.map, place).ok()?;
+        self.place += size;
+        self.count += 1;
+        let next = match opcode {
+            words::RETURN => Next::Returns,
+            words::JUMP => self.jump(operand),
+            words::MATCH => self.compare(&words::match_bits(operand)),
+            _ => {
+                self.default = Some(InForce { number: operand, place });
+                Next::Sets(self.place)
+            }
+        };
+        let bits = (first_bit..self.bit).map(|bit| self.address_bit(bit)).collect();
+        Some(Step { place, opcode, operand, first_bit, bits, default, next })
+    }
+
+    fn jump(&mut self, operand: u32) -> Next {
+        if self.bit == 128 {
+            return Next::TooFewBits { needed: 1, left: 0 };
+        }
+        let (zero, one) = (self.place, self.place + operand as usize);
+        let (place, other) = if self.address_bit(self.bit) == '1' { (one, zero) } else { (zero, one) };
+        self.bit += 1;
+        self.place = place;
+        Next::Jumps { place, other }
+    }
+
+    fn compare(&mut self, wanted: &str) -> Next {
+        let left = 128 - self.bit;
+        if wanted.len() > left {
+            return Next::TooFewBits { needed: wanted.len(), left };
+        }
+        for bit in wanted.chars() {
+            let found = self.address_bit(self.bit);
+            self.bit += 1;
+            if found != bit {
+                return Next::Differs(self.place);
+            }
+        }
+        Next::Equals(self.place)
+    }
+
+    /// An address bit, 0 to 127, the highest of the first byte first.
+    fn address_bit(&self, bit: usize) -> char {
+        if self.address[bit / 8] >> (7 - bit % 8) & 1 == 1 {
+            '1'
+        } else {
+            '0'
+        }
+    }
+}
+
+#[cfg(test)]
+mod tests {
+    use super::*;
+    use corbastrigo::interpret;
+    use proptest::collection::vec;
+    use proptest::prelude::any;
+    use proptest::strategy::{Strategy, ValueTree};
+    use proptest::test_runner::TestRunner;
+
+    /// A walk by the library, replayed.
+    fn walked(map: &[u8], address: &[u8; 16]) -> Replay {
+        replay(map, address, interpret(map, address).expect("walked"), drop).expect("the replay agrees")
+    }
+
+    #[test]
+    fn replays_agree_with_the_library_on_any_bytes() {
+        let mut runner = TestRunner::deterministic();
+        // Few ones make RETURNs likely, many ones MATCHes and DEFAULTs.
+        let bytes = (vec(any::<u8>(), 0..256), vec(any::<u8>(), 256), 0..3_usize);
+        let (mut returned, mut differed, mut aborted) = (0, 0, 0);
+        for _ in 0..10_000 {
+            let (a, b, kind) = bytes.new_tree(&mut runner).expect("bytes").current();
+            let map: Vec<u8> = a.iter().zip(b).map(|(a, b)| [a & b, *a, a | b][kind]).collect();
+            let replay = walked(&map, &any::<[u8; 16]>().new_tree(&mut runner).expect("an address").current());
+            match replay.walk.end {
+                End::Returned => returned += 1,
+                End::Differed => differed += 1,
+                _ => aborted += 1,
+            }
+            assert_eq!(replay.why_zero.is_some(), replay.walk.number == 0);
+        }
+        assert!(returned > 1_000 && differed > 1_000 && aborted > 100, "{returned} {differed} {aborted}");
+    }
+
+    #[test]
+    fn a_replay_that_differs_is_no_answer() {
+        let map = [0, 0, 0];
+        let walk = interpret(&map, &[0; 16]).expect("walked");
+        let edits: [fn(&mut Walk); 4] = [|w| w.number = 2, |w| w.count = 2, |w| w.bits = 1, |w| w.end = End::Differed];
+        for edit in edits {
+            let mut wrong = walk;
+            edit(&mut wrong);
+            let failure = replay(&map, &[0; 16], wrong, drop).expect_err("differs");
+            assert!(matches!(failure, Failure::Said(message) if message.contains("please report")));
+        }
+        assert_eq!(walked(&map, &[0; 16]).walk, walk);
+    }
+
+    #[test]
+    fn every_zero_says_why() {
+        let why = |map: &[u8]| walked(map, &[0xff; 16]).why_zero.expect("0");
+        // A MATCH of a 0, then RETURN 1.
+        assert_eq!(why(&[0x03, 0, 0]), "the walk differed before any DEFAULT was met");
+        assert_eq!(why(&[0xfb]), "the walk was aborted: the map ends within the instruction at bit 0");
+        assert_eq!(why(&[]), "the walk was aborted: it came to bit 0, and the map ends at bit 0");
+        // A JUMP of 17 bits past the end.
+        assert_eq!(why(&[1]), "the walk was aborted: it came to bit 25, and the map ends at bit 8");
+        // Sixteen MATCHes of eight ones, and one of one more.
+        let ones = codes::encode_instruction(2, 511).expect("an instruction");
+        let one = codes::encode_instruction(2, 3).expect("an instruction");
+        let past = packed(&[&[ones; 16][..], &[one]].concat());
+        assert_eq!(
+            why(&past),
+            format!("the walk was aborted: the MATCH at bit {} needs 1 of the address bits, and 0 are left", 16 * ones.len)
+        );
+    }
+
+    /// Codes as a map's bytes.
+    fn packed(words: &[codes::Bits]) -> Vec<u8> {
+        let bits: Vec<bool> = words.iter().flat_map(|word| (0..word.len).map(|bit| word.bits >> bit & 1 == 1)).collect();
+        bits.chunks(8).map(|byte| byte.iter().rev().fold(0, |sum, &bit| sum << 1 | u8::from(bit))).collect()
+    }
+}

@@ -1,0 +1,110 @@
+//! `asmap walk`: where addresses are sent, and how their walks ended.
+use crate::args::Walk as Asked;
+use crate::failure::{Failure, Outcome, Status};
+use crate::files;
+use crate::out::{progress, Out, Style};
+use crate::replay::replay;
+use crate::words::{self, counted};
+use corbastrigo::{interpret, ip16_for_lookup, sanity_check, End, Refusal, Walk};
+use indicatif::ProgressBar;
+use serde_json::{json, Value};
+use std::io::{self, IsTerminal};
+use std::net::IpAddr;
+use std::path::Path;
+
+/// A map that may be walked: one that the check accepts, or with `--unchecked` any.
+pub struct Walkable {
+    pub bytes: Vec<u8>,
+    /// The check's reason, where it refused.
+    pub refusal: Option<Refusal>,
+}
+
+impl Walkable {
+    pub fn read(path: &Path, unchecked: bool) -> Result<Walkable, Failure> {
+        let bytes = files::read_map(path)?.bytes;
+        match sanity_check(&bytes) {
+            Ok(_) => Ok(Walkable { bytes, refusal: None }),
+            Err(refusal) if unchecked => Ok(Walkable { bytes, refusal: Some(refusal) }),
+            Err(refusal) => Err(not_walked(path, refusal)),
+        }
+    }
+
+    /// The library's walk. It refuses a map over the limit, checked or not.
+    pub fn walk(&self, path: &Path, address: IpAddr) -> Result<Walk, Failure> {
+        interpret(&self.bytes, &ip16_for_lookup(address)).map_err(|refusal| files::refused(path, refusal))
+    }
+}
+
+/// The "no" to walks of a refused map. One over the limit is walked in no case.
+fn not_walked(path: &Path, refusal: Refusal) -> Failure {
+    match files::refused(path, refusal) {
+        Failure::No(words) if refusal != Refusal::MapTooLong => {
+            Failure::No(format!("{words}, and --unchecked walks it all the same"))
+        }
+        other => other,
+    }
+}
+
+/// A kind of end in a word.
+pub fn end(walk: &Walk) -> &'static str {
+    match walk.end {
+        End::Returned => "returned",
+        End::Differed => "differed",
+        _ => "aborted",
+    }
+}
+
+/// The most characters of a number that a map holds (33,521,664).
+const WIDEST_NUMBER: usize = 8;
+
+pub fn run(asked: &Asked, out: &mut Out) -> Outcome {
+    let map = Walkable::read(&asked.map, asked.unchecked)?;
+    // Where a person types the addresses, the answers are all the progress there is.
+    let typed = io::stdin().is_terminal() || !asked.addresses.iter().any(|word| word == "-");
+    let bar = if typed { ProgressBar::hidden() } else { progress(None, "addresses") };
+    let done = answer(asked, &map, &bar, out);
+    bar.finish_and_clear();
+    done.map(|()| Status::Done)
+}
+
+/// Answers each address in turn.
+fn answer(asked: &Asked, map: &Walkable, bar: &ProgressBar, out: &mut Out) -> Result<(), Failure> {
+    let width = words::width(&asked.addresses);
+    words::each_address(&asked.addresses, out, |address, out| {
+        let walk = map.walk(&asked.map, address)?;
+        let why = match walk.number {
+            0 => replay(&map.bytes, &ip16_for_lookup(address), walk, drop)?.why_zero,
+            _ => None,
+        };
+        if out.is_json() {
+            out.object(&object(map, address, &walk, why))?;
+        } else {
+            out.line(&line(map, address, &walk, why, width, out))?;
+        }
+        bar.inc(1);
+        Ok(())
+    })
+}
+
+/// A walk as a line of text.
+fn line(map: &Walkable, address: IpAddr, walk: &Walk, why: Option<String>, width: usize, out: &Out) -> String {
+    let number = out.paint(Style::Strong, &format!("{:>WIDEST_NUMBER$}", walk.number));
+    let (count, bits) = (counted(walk.count.into(), "instruction", "instructions"), counted(walk.bits.into(), "bit", "bits"));
+    let address = address.to_string();
+    let mut line = format!("{address:<width$}  {number}  {:<8}  {count:>16}  {bits:>8}", end(walk));
+    if let Some(refusal) = map.refusal {
+        line += &format!("  {}", out.paint(Style::Bad, &format!("unchecked (refused {})", refusal.number())));
+    }
+    if let Some(why) = why {
+        line += &format!("  0: {why}");
+    }
+    line
+}
+
+/// A walk as an object.
+pub fn object(map: &Walkable, address: IpAddr, walk: &Walk, why: Option<String>) -> Value {
+    json!({
+        "address": address.to_string(), "number": walk.number, "end": end(walk), "instructions": walk.count, "bits": walk.bits,
+        "why_zero": why, "checked": map.refusal.is_none(), "refusal": map.refusal.map(Refusal::number),
+    })
+}
