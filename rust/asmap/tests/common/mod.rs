@@ -1,0 +1,172 @@
+//! What the tests of the command share: a folder with maps in which it runs, and the stored outputs that it is held to.
+//!
+//! With ASMAP_WRITE=1 in the environment the stored outputs are written anew; `git diff` then shows what changed.
+#![allow(dead_code)] // No test file uses all of it.
+use assert_cmd::Command;
+use corbastrigo::codes;
+use std::fs::{self, File};
+use std::path::{Path, PathBuf};
+use std::process::Output;
+use tempfile::TempDir;
+
+/// 1.2.0.0/16 is sent to 1, 3.4.0.0/16 to 2. It has no DEFAULT (document 01: TWO_PREFIX_ASMAP).
+pub const TWO_PREFIXES: [u8; 35] = [
+    0xfb, 0x03, 0xec, 0x0f, 0xb0, 0x3f, 0xc0, 0xfe, 0x00, 0xfb, 0x03, 0xec, 0x0f, 0xb0, 0x3f, 0xc0, 0xfe, 0x00, 0xfb, 0x03, 0xec,
+    0x0f, 0xb0, 0xff, 0xff, 0xfe, 0xff, 0xfb, 0x80, 0x00, 0x00, 0x00, 0x00, 0x00, 0x01,
+];
+
+/// ::ffff:127.0.0.1 is sent to 1, .2 to 2, and everything else to its default, 9 (the original's LOOPBACK_ASMAP).
+pub const LOOPBACK: [u8; 45] = [
+    0x07, 0x80, 0x18, 0xfb, 0x03, 0xec, 0x0f, 0xb0, 0x3f, 0xc0, 0xfe, 0x00, 0xfb, 0x03, 0xec, 0x0f, 0xb0, 0x3f, 0xc0, 0xfe, 0x00,
+    0xfb, 0x03, 0xec, 0x07, 0xd8, 0xff, 0x7f, 0xff, 0xff, 0xfd, 0xfd, 0xf7, 0x07, 0xd8, 0x1f, 0x60, 0x1f, 0x10, 0x3a, 0x01, 0x00,
+    0x0c, 0x00, 0x80,
+];
+
+/// A folder of a test's own, in which the command runs. It goes when the test is over.
+pub struct Folder(TempDir);
+
+impl Folder {
+    /// With `two.asmap` (TWO_PREFIXES), `cut.asmap` (the same without its last byte) and `loopback.asmap` (LOOPBACK).
+    pub fn new() -> Folder {
+        let folder = Folder(tempfile::tempdir_in(env!("CARGO_TARGET_TMPDIR")).expect("a folder"));
+        folder.write("two.asmap", TWO_PREFIXES);
+        folder.write("cut.asmap", &TWO_PREFIXES[..34]);
+        folder.write("loopback.asmap", LOOPBACK);
+        folder
+    }
+
+    pub fn path(&self, name: &str) -> PathBuf {
+        self.0.path().join(name)
+    }
+
+    pub fn write(&self, name: &str, bytes: impl AsRef<[u8]>) {
+        fs::write(self.path(name), bytes).expect("a file can be written");
+    }
+
+    /// A file of so many bytes that takes no room.
+    pub fn write_sparse(&self, name: &str, bytes: u64) {
+        File::create(self.path(name)).and_then(|file| file.set_len(bytes)).expect("a sparse file can be made");
+    }
+
+    /// The command, in this folder.
+    pub fn asmap(&self) -> Command {
+        command_in(self.0.path())
+    }
+
+    /// What the command answers to these arguments, with this on its standard input.
+    pub fn output_of(&self, arguments: &[&str], input: impl AsRef<[u8]>) -> Output {
+        self.asmap().args(arguments).write_stdin(input.as_ref()).output().expect("the command runs")
+    }
+
+    /// What the command answers to these arguments.
+    pub fn output(&self, arguments: &[&str]) -> Output {
+        self.asmap().args(arguments).output().expect("the command runs")
+    }
+}
+
+fn command_in(folder: &Path) -> Command {
+    let mut command = Command::cargo_bin("asmap").expect("the command is built");
+    command.current_dir(folder).env_remove("NO_COLOR");
+    command
+}
+
+/// The command, in a folder without maps, for what needs no file of a test's own.
+pub fn asmap() -> Command {
+    command_in(Path::new(env!("CARGO_TARGET_TMPDIR")))
+}
+
+/// What was printed, as text.
+pub fn text(bytes: &[u8]) -> &str {
+    std::str::from_utf8(bytes).expect("the output is UTF-8")
+}
+
+/// Holds an output to `tests/stored/NAME.txt`, byte for byte: the exit status, standard output and standard error.
+pub fn stored(name: &str, output: &Output) {
+    let status = output.status.code().expect("the command ended by itself");
+    let found =
+        format!("exit status {status}\n--- standard output\n{}--- standard error\n{}", text(&output.stdout), text(&output.stderr));
+    let file = Path::new(env!("CARGO_MANIFEST_DIR")).join("tests/stored").join(format!("{name}.txt"));
+    if std::env::var_os("ASMAP_WRITE").is_some_and(|value| value == "1") {
+        fs::write(&file, &found).expect("a stored output can be written");
+        return;
+    }
+    let wanted = fs::read_to_string(&file).unwrap_or_else(|error| panic!("{}: {error}; ASMAP_WRITE=1 writes it", file.display()));
+    assert!(found == wanted, "{name} differs from its stored output\n--- found\n{found}\n--- stored\n{wanted}");
+}
+
+/// Draws that are the same in every run (splitmix).
+pub struct Draws(pub u64);
+
+impl Draws {
+    /// A number below another.
+    pub fn below(&mut self, most: u32) -> u32 {
+        self.0 = self.0.wrapping_add(0x9e37_79b9_7f4a_7c15);
+        let mixed = (self.0 ^ self.0 >> 30).wrapping_mul(0xbf58_476d_1ce4_e5b9);
+        let mixed = (mixed ^ mixed >> 27).wrapping_mul(0x94d0_49bb_1331_11eb);
+        ((mixed ^ mixed >> 31) % u64::from(most)) as u32
+    }
+}
+
+/// Instructions in order, each as opcode and operand, and how many bits they have.
+#[derive(Default)]
+struct Program {
+    instructions: Vec<(u32, u32)>,
+    bits: usize,
+}
+
+impl Program {
+    fn push(&mut self, opcode: u32, operand: u32) {
+        self.instructions.push((opcode, operand));
+        self.bits += codes::encode_instruction(opcode, operand).expect("an instruction").len;
+    }
+
+    fn append(&mut self, other: Program) {
+        self.instructions.extend(other.instructions);
+        self.bits += other.bits;
+    }
+
+    fn pack(&self) -> Vec<u8> {
+        let mut place = 0;
+        let record = |&(opcode, operand): &(u32, u32)| {
+            let size = codes::encode_instruction(opcode, operand).expect("an instruction").len as u32;
+            place += size;
+            [opcode, operand, place - size, size].map(u32::to_le_bytes).concat()
+        };
+        let records: Vec<u8> = self.instructions.iter().flat_map(record).collect();
+        corbastrigo::pack(&records).expect("the records pack")
+    }
+}
+
+/// The bytes of instructions, each given as opcode and operand, whether the check accepts them or not.
+pub fn packed(instructions: &[(u32, u32)]) -> Vec<u8> {
+    let mut program = Program::default();
+    instructions.iter().for_each(|&(opcode, operand)| program.push(opcode, operand));
+    program.pack()
+}
+
+/// A tree of JUMPs, some below a DEFAULT or a MATCH, with a RETURN at each leaf.
+fn tree(depth: u32, draws: &mut Draws) -> Program {
+    let mut program = Program::default();
+    if depth == 0 {
+        program.push(0, 1 + draws.below(400_000));
+        return program;
+    }
+    if draws.below(8) == 0 {
+        program.push(3, 1 + draws.below(400_000));
+    }
+    if draws.below(4) == 0 {
+        program.push(2, 2 + draws.below(510));
+    }
+    let zero = tree(depth - 1, draws);
+    program.push(1, zero.bits as u32);
+    program.append(zero);
+    program.append(tree(depth - 1, draws));
+    program
+}
+
+/// A map of the shape that real ones have, of 2 to the depth leaves. The check accepts it.
+pub fn large_map(depth: u32, seed: u64) -> Vec<u8> {
+    let map = tree(depth, &mut Draws(seed)).pack();
+    corbastrigo::sanity_check(&map).expect("the map is accepted");
+    map
+}

@@ -1,0 +1,124 @@
+//! The command as a whole: version, help, misuse, manual page, completions.
+mod common;
+use common::{asmap, stored, text, Folder};
+use std::process::{Command, Stdio};
+
+fn answer(arguments: &[&str]) -> std::process::Output {
+    asmap().args(arguments).output().expect("the command runs")
+}
+
+#[test]
+fn version_and_help() {
+    stored("version", &answer(&["--version"]));
+    stored("help", &answer(&["--help"]));
+    stored("help_without_arguments", &answer(&[]));
+    for subcommand in ["check", "walk", "trace", "completions"] {
+        stored(&format!("help_{subcommand}"), &answer(&[subcommand, "--help"]));
+    }
+}
+
+#[test]
+fn misuse_ends_with_2_and_says_what_to_do() {
+    stored("misuse_subcommand", &answer(&["chek", "two.asmap"]));
+    stored("misuse_check", &answer(&["check"]));
+    stored("misuse_walk", &answer(&["walk", "two.asmap"]));
+    stored("misuse_trace", &answer(&["trace", "two.asmap", "1.2.3.4", "5.6.7.8"]));
+    stored("misuse_option", &answer(&["walk", "--uncheked", "two.asmap", "1.2.3.4"]));
+    stored("misuse_shell", &answer(&["completions", "sh"]));
+}
+
+/// Every word of a help that names a subcommand's argument or option.
+fn options(help: &str) -> impl Iterator<Item = &str> {
+    help.split_whitespace()
+        .filter(|word| word.starts_with("--") || word.starts_with('<'))
+        .map(|word| word.trim_end_matches([',', ']']))
+}
+
+#[test]
+fn the_manual_page_has_what_the_help_has() {
+    let page = answer(&["man"]);
+    assert_eq!(page.status.code(), Some(0));
+    let page = text(&page.stdout).replace("\\-", "-");
+    for subcommand in ["check", "walk", "trace", "unpack", "pack", "group", "pick", "filter", "completions"] {
+        let help = answer(&[subcommand, "--help"]);
+        let help = text(&help.stdout);
+        assert!(page.contains(&format!(".SS \"asmap {subcommand} ")), "{subcommand} is missing");
+        assert!(options(help).count() >= 3, "{subcommand} has no arguments");
+        options(help).for_each(|option| assert!(page.contains(option), "{option} of {subcommand} is missing"));
+        let example = help.lines().last().expect("an example").trim();
+        assert!(example.contains("asmap ") && page.contains(example), "the example of {subcommand} is missing");
+    }
+}
+
+/// Whether a program is there. What needs one that is missing is named, and fails where CI is set.
+fn is_there(program: &str) -> bool {
+    let found = Command::new(program).arg("--version").stdout(Stdio::null()).stderr(Stdio::null()).status().is_ok();
+    assert!(found || std::env::var_os("CI").is_none(), "{program} is missing");
+    if !found {
+        eprintln!("skipped: {program} is missing");
+    }
+    found
+}
+
+#[test]
+fn groff_takes_the_manual_page_without_a_warning() {
+    if !is_there("groff") {
+        return;
+    }
+    let folder = Folder::new();
+    folder.write("asmap.1", answer(&["man"]).stdout);
+    let groff = Command::new("groff").args(["-man", "-Tutf8", "-ww"]).arg(folder.path("asmap.1")).output().expect("groff runs");
+    assert_eq!((groff.status.code(), text(&groff.stderr)), (Some(0), ""));
+    assert!(text(&groff.stdout).contains("the answer is no"));
+}
+
+#[test]
+fn completions_are_taken_by_their_shell() {
+    for shell in ["bash", "elvish", "fish", "powershell", "zsh"] {
+        let completions = answer(&["completions", shell]);
+        assert_eq!(completions.status.code(), Some(0), "{shell}");
+        assert!(text(&completions.stdout).contains("unchecked"), "{shell}");
+    }
+    let folder = Folder::new();
+    folder.write("asmap.bash", answer(&["completions", "bash"]).stdout);
+    let wanted = "source asmap.bash; COMP_WORDS=(asmap tr); COMP_CWORD=1; _asmap asmap tr asmap; echo \"${COMPREPLY[@]}\"";
+    let bash = Command::new("bash").args(["-c", wanted]).current_dir(folder.path(".")).output().expect("bash runs");
+    assert_eq!((text(&bash.stdout), text(&bash.stderr)), ("trace\n", ""));
+}
+
+/// What the command prints on a terminal, which `script` makes.
+fn on_a_terminal(folder: &Folder, command: &str, no_color: Option<&str>) -> String {
+    let mut script = Command::new("script");
+    script.args(["-qec", &format!("{} {command}", env!("CARGO_BIN_EXE_asmap")), "/dev/null"]).current_dir(folder.path("."));
+    script.env_remove("NO_COLOR").envs(no_color.map(|value| ("NO_COLOR", value))).stdin(Stdio::null());
+    String::from_utf8(script.output().expect("script runs").stdout).expect("UTF-8")
+}
+
+#[test]
+fn colour_is_for_terminals_and_not_where_no_color_is_set() {
+    if !is_there("script") {
+        return;
+    }
+    let folder = Folder::new();
+    for command in ["check two.asmap cut.asmap", "walk two.asmap 1.2.3.4", "trace two.asmap 1.2.3.4"] {
+        assert!(on_a_terminal(&folder, command, None).contains("\x1b["), "{command}");
+        assert!(on_a_terminal(&folder, command, Some("")).contains("\x1b["), "{command}: an empty NO_COLOR is none");
+        assert!(!on_a_terminal(&folder, command, Some("1")).contains('\x1b'), "{command}: NO_COLOR");
+        assert!(!on_a_terminal(&folder, &format!("--json {command}"), None).contains('\x1b'), "{command}: JSON");
+        let words: Vec<&str> = command.split(' ').collect();
+        assert!(!text(&folder.output(&words).stdout).contains('\x1b'), "{command}: a pipe is no terminal");
+    }
+}
+
+#[test]
+fn progress_is_shown_on_a_terminal_while_answers_go_elsewhere() {
+    if !is_there("script") {
+        return;
+    }
+    let folder = Folder::new();
+    let seen = on_a_terminal(&folder, "check two.asmap two.asmap two.asmap > answers", None);
+    assert!(seen.contains("of 3 maps"), "{seen:?}");
+    let answers = std::fs::read_to_string(folder.path("answers")).expect("the answers");
+    assert!(answers.lines().count() == 6 && !answers.contains('\x1b'));
+    assert_eq!(on_a_terminal(&folder, "check two.asmap two.asmap two.asmap 2> messages | cat > answers", None), "");
+}
