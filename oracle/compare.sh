@@ -37,4 +37,7 @@ compare crates/replay_vectors/stdout
 for table in $("$program" --tables); do
     compare "docs/tables/$table.txt" --table "$table"
 done
+# The map of the story that run.sh plays. It is ours alone, and made by the same code as the maps of the comparison.
+program=$CARGO_TARGET_DIR/debug/story
+compare docs/story/node.asmap
 exit "$failed"

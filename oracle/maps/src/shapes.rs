@@ -62,13 +62,38 @@ pub fn real(random: &mut Random, bytes: usize) -> Vec<u8> {
     // By trial a leaf takes about 5.5 bytes with the instructions above it.
     let leaves = (bytes as u64 * 2 / 11).max(4);
     let ipv4 = grow(&mut tree, random, leaves * 4 / 5, 32, Before::Other);
-    let mapped = behind(&mut tree, &[0, 0, 0, 0, 0, 0, 0, 0, 0xff, 0xff], ipv4);
+    let ipv6 = grow(&mut tree, random, leaves / 5, 61, Before::Other);
+    let root = families(&mut tree, ipv4, ipv6);
+    tree.bytes(root)
+}
+
+/// A tree of jumps down to `leaves` RETURNs, the larger part on either side.
+fn split(tree: &mut Tree, random: &mut Random, leaves: u64) -> usize {
+    if leaves <= 1 {
+        return tree.push(Node::Return(number(random)));
+    }
+    let part = (leaves * (40 + random.below(21)) / 100).max(1);
+    let zero = split(tree, random, part);
+    let one = split(tree, random, leaves - part);
+    tree.push(Node::Jump(zero, one))
+}
+
+/// ::ffff:0:0/96 in front of an IPv4 tree, 2000::/3 in front of an IPv6 tree, which stands behind the other.
+fn families(tree: &mut Tree, ipv4: usize, ipv6: usize) -> usize {
+    let mapped = behind(tree, &[0, 0, 0, 0, 0, 0, 0, 0, 0xff, 0xff], ipv4);
     // The first bits of ::ffff:0:0/96 after the three that tell it from 2000::/3.
     let rest = tree.push(Node::Match(256, mapped));
     let rest = tree.push(Node::Match(1 << 5, rest));
-    let ipv6 = grow(&mut tree, random, leaves / 5, 61, Before::Other);
     let third = tree.push(Node::Jump(rest, ipv6));
-    let root = tree.push(Node::Match(1 << 2, third));
+    tree.push(Node::Match(1 << 2, third))
+}
+
+/// The map of the story that the main job plays: every IPv4 address has a number, and nearly all of 2000::/3 stands in the last page.
+pub fn story(random: &mut Random) -> Vec<u8> {
+    let mut tree = Tree::default();
+    let ipv4 = split(&mut tree, random, 2_250);
+    let ipv6 = split(&mut tree, random, 700);
+    let root = families(&mut tree, ipv4, ipv6);
     tree.bytes(root)
 }
 
