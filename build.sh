@@ -25,7 +25,7 @@ build_library() {
     fi
     library_is_old || return 0
     command -v rt > /dev/null || { echo "build: there is no rt on the path (README.md says where it comes from)" >&2 && return 1; }
-    echo "build: the library: every crate is proved, about 5 minutes the first time" >&2
+    echo "build: the library: every crate is proved, about 4 minutes the first time" >&2
     mkdir -p target
     all=$(awk -F: '$1 == "corbastrigo" { print split($2, below, " ") + 1 }' crates.txt)
     rt staticlib corbastrigo > target/staticlib.log 2>&1 &

@@ -68,7 +68,7 @@ pub fn alone(folder: &Path) -> io::Result<File> {
 
 /// Has `rt` make the archive.
 fn made(repository: &Path) -> Result<(), String> {
-    say("rt proves the library and builds it: about ten minutes on two cores, half a minute where the proofs are there");
+    say("rt proves the library and builds it: about four minutes on two cores, half a minute where the proofs are there");
     let status = Command::new("rt")
         .args(["staticlib", "corbastrigo"])
         .current_dir(repository)
