@@ -82,8 +82,9 @@ fn refused(name: &str, file: &MapFile, refusal: Refusal, out: &mut Out) -> Outco
     Ok(Status::No)
 }
 
-/// The bit at which the check stopped: the first of the instruction that it refused, or the map's end where it wants another. None of a map
-/// over the limit, which is not looked into.
-fn place(map: &[u8]) -> Option<usize> {
-    sanity_check_stop(map).ok().map(|stop| stop.place)
+/// The bit at which the check refuses a map: the first of the instruction that it refuses, or the map's end where it wants another. None
+/// where it accepts, and none of a map over the limit, which is not looked into.
+pub fn place(map: &[u8]) -> Option<usize> {
+    let stop = sanity_check_stop(map).ok()?;
+    stop.reason.map(|_| stop.place)
 }

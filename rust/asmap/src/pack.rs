@@ -1,6 +1,7 @@
 //! `asmap pack`: a map from a list of instructions. What is in range, how long a code is and which bytes come out is the library's to say;
 //! this reads lines or records, and words a refusal with the line or the record that it is of.
 use crate::args::Pack;
+use crate::check;
 use crate::failure::{say, Failure, Outcome, Status};
 use crate::files;
 use crate::listing;
@@ -29,18 +30,19 @@ pub fn run(asked: &Pack, out: &mut Out) -> Outcome {
         sink.bytes(&map)?;
         sink.finish()?;
     }
-    report(asked, map.len(), verdict, out)?;
+    report(asked, &map, verdict, out)?;
     Ok(if written { Status::Done } else { Status::No })
 }
 
 /// Says what the check says of the map: on standard error, where it does not get into the map, or as an object.
-fn report(asked: &Pack, size: usize, verdict: Result<Check, Refusal>, out: &mut Out) -> Result<(), Failure> {
+fn report(asked: &Pack, map: &[u8], verdict: Result<Check, Refusal>, out: &mut Out) -> Result<(), Failure> {
+    let (size, place) = (map.len(), check::place(map));
     if out.is_json() {
         let (check, refusal) = (verdict.ok(), verdict.err());
         return out.object(&json!({
             "output": asked.output.as_deref().map(files::shown), "written": verdict.is_ok() || asked.unchecked, "bytes": size,
             "accepted": verdict.is_ok(), "instructions": check.map(|check| check.count), "depth": check.map(|check| check.depth),
-            "refusal": refusal.map(Refusal::number), "reason": refusal.map(Refusal::reason),
+            "refusal": refusal.map(Refusal::number), "reason": refusal.map(Refusal::reason), "place": place,
         }));
     }
     let bytes = match size {
@@ -51,30 +53,26 @@ fn report(asked: &Pack, size: usize, verdict: Result<Check, Refusal>, out: &mut 
         Ok(Check { count, depth, .. }) => {
             format!("the map is accepted: {bytes}, {}, depth {depth}", counted(count.into(), "instruction", "instructions"))
         }
-        Err(refusal) if asked.unchecked => format!("the map is written, but it is {} ({bytes})", reason(refusal)),
+        Err(refusal) if asked.unchecked => format!("the map is written, but it is {} ({bytes})", reason(refusal, place)),
         Err(refusal) => {
-            format!("the map would be {} ({bytes}); nothing is written (--unchecked writes it all the same)", reason(refusal))
+            format!(
+                "the map would be {} ({bytes}); nothing is written (--unchecked writes it all the same)",
+                reason(refusal, place)
+            )
         }
     });
     Ok(())
 }
 
-fn reason(refusal: Refusal) -> String {
-    format!("refused, {}: {}", refusal.number(), refusal.reason())
+/// A refusal in words, with the bit of the map at which it was met, where there is one.
+fn reason(refusal: Refusal, place: Option<usize>) -> String {
+    let met = place.map_or(String::new(), |bit| format!(" at bit {bit}"));
+    format!("refused, {}{met}: {}", refusal.number(), refusal.reason())
 }
 
 /// A "no" to a list: where it was met, and what to do.
 fn refused(list: &Path, place: &str, refusal: Refusal, hint: &str) -> Failure {
-    Failure::No(format!("{}: {place} is {}; {hint}", files::input_name(list), reason(refusal)))
-}
-
-fn record(instruction: Instruction) -> [u8; RECORD_BYTES] {
-    let Instruction { opcode, operand, place, size } = instruction;
-    let mut record = [0; RECORD_BYTES];
-    for (part, number) in record.chunks_exact_mut(4).zip([opcode, operand, place, size]) {
-        part.copy_from_slice(&number.to_le_bytes());
-    }
-    record
+    Failure::No(format!("{}: {place} is {}; {hint}", files::input_name(list), reason(refusal, None)))
 }
 
 /// The map of a list of text.
@@ -93,7 +91,7 @@ fn from_text(list: &Path) -> Result<Vec<u8>, Failure> {
         let code = codes::encode_instruction(opcode, operand)
             .map_err(|refusal| refused(list, &format!("line {last}, {:?},", line.trim()), refusal, listing::wanted(opcode)))?;
         let size = code.len as u32;
-        records.extend(record(Instruction { opcode, operand, place, size }));
+        records.extend(Instruction { opcode, operand, place, size }.record());
         place += size;
     }
     pack(&records).map_err(|refusal| refused(list, &format!("the list up to line {last}"), refusal, "give a shorter list"))
