@@ -1,8 +1,9 @@
 //! Of several faults a call names the one that document 01 puts first ("Order"), and a refused call leaves everything that was lent.
 //! Codes are in `codes`, the reasons of the check in `check`, unpack and pack in `packed`.
-use crate::calls::{self, Asked, BEFORE, BEFORE16, BEFORE32, BEFORE64};
+use crate::calls::{self, Asked, BEFORE, BEFORE16, BEFORE32, BEFORE64, BEFORE_SIZE};
 use crate::programs::programs;
 use crate::{holds, too_long};
+use corbastrigo::codes::decode_instruction;
 use corbastrigo::{ip16_for_lookup, sanity_check, Refusal, MAX_CANDIDATES};
 use corbastrigo_sys as sys;
 use proptest::prelude::*;
@@ -78,6 +79,26 @@ fn a_check_leaves_its_numbers_where_it_refuses() {
         prop_assert!(answer <= 10);
         prop_assert!(answer == 0 || (count, depth) == (BEFORE32, BEFORE));
         prop_assert_eq!(answer == 1, map.len() == too_long().len());
+        Ok(())
+    });
+}
+
+#[test]
+fn the_place_of_the_check_has_its_reason_and_is_where_an_instruction_starts() {
+    holds(1_500, any_maps(), |map| {
+        let (answer, reason, place) = calls::sanity_check_stop(&map);
+        let checked = calls::sanity_check(&map).0;
+        if checked == 1 {
+            prop_assert_eq!((answer, reason, place), (1, BEFORE, BEFORE_SIZE));
+            return Ok(());
+        }
+        prop_assert_eq!((answer, reason), (0, checked));
+        let mut at = 0;
+        while at < place {
+            let (_, _, size) = decode_instruction(&map, at).map_err(|refusal| TestCaseError::fail(refusal.to_string()))?;
+            at += size;
+        }
+        prop_assert_eq!(at, place);
         Ok(())
     });
 }
