@@ -1,4 +1,8 @@
 // Answers as the list has them, and what came of a line.
+ghost use mathlib.Core.Path.{_≡_};
+ghost use Prim.Native.Nat.{_%_};
+ghost use lib.ListN.{length};
+ghost use Rattle.replay_lines.specs.Answers.{withByte, withNumber, begunWith, seenAs, comparedTo, andLeft};
 
 // What came of a line: our answer is the list's, it is another, the line has more words or fewer than its call, or it cannot be read.
 pub enum Seen {
@@ -15,8 +19,17 @@ pub struct Out {
 }
 
 impl Out {
+    // How many bytes it has so far, and that there is room for 40.
+    fn taken(self) -> usize
+        ensures { λ r. ⌜ (r ≡ self .n) × (length (self .bytes) ≡ 40) ⌝ }
+    {
+        self.n
+    }
+
     // A byte more.
-    pub fn byte(mut self, x: u8) -> Out {
+    pub fn byte(mut self, x: u8) -> Out
+        ensures { λ r. ⌜ r ≡ withByte self x ⌝ }
+    {
         let n = self.n;
         if n < 40 {
             self.bytes[n] = x;
@@ -26,25 +39,31 @@ impl Out {
     }
 
     // A number more, little-endian, in so many bytes.
-    pub fn number(self, x: u64, size: usize) -> Out {
+    pub fn number(self, x: u64, size: usize) -> Out
+        ensures { λ r. ⌜ r ≡ withNumber size self x ⌝ }
+    {
         let mut out = self;
         let mut rest = x;
-        let mut i: usize = 0;
-        while i < size {
+        let mut left = size;
+        while 0 < left {
             out = out.byte(low(rest));
             rest = rest / 256;
-            i += 1;
+            left -= 1;
         }
         out
     }
 }
 
-fn low(x: u64) -> u8 {
+fn low(x: u64) -> u8
+    ensures { λ r. ⌜ r ≡ x % 256 ⌝ }
+{
     (x % 256) as u8
 }
 
 // A refusal is its number; a call that is done, 0 and its results.
-pub fn refused(reason: u8) -> Out {
+pub fn refused(reason: u8) -> Out
+    ensures { λ r. ⌜ r ≡ begunWith reason ⌝ }
+{
     let out = Out {
         bytes: [0; 40],
         n: 0,
@@ -52,30 +71,37 @@ pub fn refused(reason: u8) -> Out {
     out.byte(reason)
 }
 
-pub fn done() -> Out {
+pub fn done() -> Out
+    ensures { λ r. ⌜ r ≡ begunWith 0 ⌝ }
+{
     refused(0)
 }
 
-pub fn compared(out: Out, answer: &[u8]) -> Seen {
-    let n = out.n;
-    if n != answer.len() {
-        return Seen::Differs;
+fn seen_as(same: bool) -> Seen
+    ensures { λ r. ⌜ r ≡ seenAs same ⌝ }
+{
+    if same {
+        return Seen::Same;
     }
+    Seen::Differs
+}
+
+// Our answer beside the list's.
+pub fn compared(out: Out, answer: &[u8]) -> Seen
+    ensures { λ r. ⌜ r ≡ comparedTo out (now (answer .entry)) ⌝ }
+{
+    let n = out.taken();
+    let bytes = out.bytes;
     if 40 < n {
         return Seen::Differs;
     }
-    let mut i: usize = 0;
-    while i < n {
-        if out.bytes[i] != answer[i] {
-            return Seen::Differs;
-        }
-        i += 1;
-    }
-    Seen::Same
+    seen_as(peer_lists::same_bytes(&bytes[0..n], answer))
 }
 
 // What a call left in an output, beside what came of its answer.
-pub fn and_left(seen: Seen, left: bool) -> Seen {
+pub fn and_left(seen: Seen, left: bool) -> Seen
+    ensures { λ r. ⌜ r ≡ andLeft seen left ⌝ }
+{
     if left {
         return seen;
     }

@@ -1,6 +1,8 @@
 // The words of a line: from their text to their bytes.
-ghost use Prim.Native.Nat.{_+_, _≤_, _<_};
+ghost use mathlib.Core.Path.{_≡_};
+ghost use Prim.Native.Nat.{_+_, _%_, _≤_, _<_};
 ghost use lib.ListN.{length};
+ghost use Rattle.replay_lines.specs.Words.{below, numberOf, between, wordOf};
 
 // The place of a byte at or after `from`, or the end.
 pub fn find(text: &[u8], from: usize, byte: u8) -> usize
@@ -258,7 +260,9 @@ pub fn read_words(line: &[u8], bytes: &mut [u8]) -> Words {
 }
 
 // The bytes from one place to another; none where these are no such places.
-fn part(bytes: &[u8], from: usize, to: usize) -> &[u8] {
+fn part(bytes: &[u8], from: usize, to: usize) -> &[u8]
+    ensures { λ r. ⌜ now r ≡ between (now (bytes .entry)) from to ⌝ }
+{
     if bytes.len() < to {
         return &bytes[0..0];
     }
@@ -271,17 +275,22 @@ fn part(bytes: &[u8], from: usize, to: usize) -> &[u8] {
 // The bytes of a word, the first being number 0; none where the line has no such word.
 pub fn word(bytes: &[u8], words: Words, i: usize) -> &[u8]
     requires { ⌜ i < 9 ⌝ }
+    ensures { λ r. ⌜ now r ≡ wordOf (now (bytes .entry)) words i ⌝ }
 {
     part(bytes, words.ends[i], words.ends[i + 1])
 }
 
 // A number with a byte more below it.
-pub fn lengthened(x: u64, byte: u8) -> u64 {
-    (x << 8) | byte as u64
+pub fn lengthened(x: u64, byte: u8) -> u64
+    ensures { λ r. ⌜ r ≡ below x byte ⌝ }
+{
+    x % 72057594037927936 * 256 + byte as u64
 }
 
 // The number that bytes are, little-endian.
-pub fn number(bytes: &[u8]) -> u64 {
+pub fn number(bytes: &[u8]) -> u64
+    ensures { λ r. ⌜ r ≡ numberOf (now (bytes .entry)) ⌝ }
+{
     let mut x: u64 = 0;
     let mut i = bytes.len();
     while 0 < i {
@@ -294,24 +303,28 @@ pub fn number(bytes: &[u8]) -> u64 {
 // The number that a word is, as large as a call takes it.
 pub fn wide(bytes: &[u8], words: Words, i: usize) -> usize
     requires { ⌜ i < 9 ⌝ }
+    ensures { λ r. ⌜ r ≡ numberOf (wordOf (now (bytes .entry)) words i) ⌝ }
 {
     number(word(bytes, words, i)) as usize
 }
 
 pub fn value(bytes: &[u8], words: Words, i: usize) -> u32
     requires { ⌜ i < 9 ⌝ }
+    ensures { λ r. ⌜ r ≡ numberOf (wordOf (now (bytes .entry)) words i) % 4294967296 ⌝ }
 {
     (number(word(bytes, words, i)) % 4294967296) as u32
 }
 
 pub fn short(bytes: &[u8], words: Words, i: usize) -> u16
     requires { ⌜ i < 9 ⌝ }
+    ensures { λ r. ⌜ r ≡ numberOf (wordOf (now (bytes .entry)) words i) % 65536 ⌝ }
 {
     (number(word(bytes, words, i)) % 65536) as u16
 }
 
 pub fn byte(bytes: &[u8], words: Words, i: usize) -> u8
     requires { ⌜ i < 9 ⌝ }
+    ensures { λ r. ⌜ r ≡ numberOf (wordOf (now (bytes .entry)) words i) % 256 ⌝ }
 {
     (number(word(bytes, words, i)) % 256) as u8
 }

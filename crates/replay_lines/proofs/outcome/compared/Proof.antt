@@ -1,59 +1,53 @@
--- `compared` is safe and ends: the answer has as many bytes as ours.
+-- `compared` is `comparedTo`, by the equality of bytes.
 -- Assumes nothing.
 use borrow.Author.Needs.{needs}
-use Prim.Native.Nat.{_-_, _≤_}
+use borrow.Author.Tests.{lt-ltb, le-ltb}
+use native.Mathlib.Omega.{arith}
+use mathlib.Core.Path.{_≡_, refl, _∙_, ap}
+use Prim.Native.Nat.{ℕ, _-_}
+use lib.ListN.{take}
+use Rattle.peer_lists.specs.Candidate.{same}
+use Rattle.replay_lines.specs.Answers.{seenAs}
 use Rattle.replay_lines.proofs.outcome.compared.Statement.{statement}
 use Rattle.replay_lines.proofs.outcome.compared.Tie as tie
 
-abbrev Inv-loop : tie.InvT-loop
-Inv-loop answer out n i₀ i = i ≤ n
+taken-requires : tie.Need-taken-requires
+taken-requires c κs = search needs
 
-abbrev μ-loop : tie.MeasureT-loop
-μ-loop answer out n i₀ i = n - i
+returns : tie.Need-returns
+returns c = rw (lt-ltb 40 (c .before .before .before .before .args .out .n) (omega arith)) refl
 
-returns : tie.Need-returns Inv-loop μ-loop
-returns c = search needs
+sub-same-bytes : tie.Need-sub-same-bytes
+sub-same-bytes c = search needs
 
-returns-2 : tie.Need-returns-2 Inv-loop μ-loop
-returns-2 c = search needs
+part-same-bytes-start : tie.Need-part-same-bytes-start
+part-same-bytes-start c = search needs
 
-loop-holds : tie.Need-loop-holds Inv-loop μ-loop
-loop-holds c = search needs
+part-same-bytes-end : tie.Need-part-same-bytes-end
+part-same-bytes-end c = search needs
 
-element-copy-out-if3 : tie.Need-element-copy-out-if3 Inv-loop μ-loop
-element-copy-out-if3 c = search needs
+same-bytes-requires : tie.Need-same-bytes-requires
+same-bytes-requires c κs = search needs
 
-shared-slice-read-if3 : tie.Need-shared-slice-read-if3 Inv-loop μ-loop
-shared-slice-read-if3 c = search needs
+seen-as-requires : tie.Need-seen-as-requires
+seen-as-requires c κs = search needs
 
-returns-3 : tie.Need-returns-3 Inv-loop μ-loop
-returns-3 c = search needs
-
-add-i : tie.Need-add-i Inv-loop μ-loop
-add-i c = search needs
-
-loop-less : tie.Need-loop-less Inv-loop μ-loop
-loop-less c = search needs
-
-loop-again : tie.Need-loop-again Inv-loop μ-loop
-loop-again c = search needs
-
-returns-4 : tie.Need-returns-4 Inv-loop μ-loop
-returns-4 c = search needs
+returns-2 : tie.Need-returns-2
+returns-2 c =
+    let a = c .before .before .before .before .before .before .before .before .args in
+    let n : c .before .before .before .before .before .before .taken .result - 0 ≡ a .out .n = omega (arith, c .before .before .before .before .before .before .taken .ensures .0) in
+    rw (le-ltb 40 (a .out .n) (omega arith))
+    (c .seen-as .ensures ∙ ap seenAs (c .before .same-bytes .ensures ∙ ap (λ (k : ℕ). same (take k (a .out .bytes)) (a .answer .now)) n))
 
 pub compared-spec : {M : Type 1} → statement M
 compared-spec =
     tie.close
     (tie.spec
-    Inv-loop
-    μ-loop
+    taken-requires
     returns
-    returns-2
-    loop-holds
-    element-copy-out-if3
-    shared-slice-read-if3
-    returns-3
-    add-i
-    loop-less
-    loop-again
-    returns-4)
+    sub-same-bytes
+    part-same-bytes-start
+    part-same-bytes-end
+    same-bytes-requires
+    seen-as-requires
+    returns-2)
