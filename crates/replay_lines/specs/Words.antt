@@ -3,9 +3,14 @@
 use Prim.Native.Nat.{ℕ, _+_, _-_, _*_, _%_}
 use mathlib.Core.Bool.{cond}
 use mathlib.Core.List.{List, [], _∷_}
-use lib.Dec.{ltb}
+use lib.Dec.{ltb, eqb}
 use lib.ListN.{length, take, drop, getD}
 use Rattle.replay_lines.specs.declared.words.Words.{Words}
+
+-- The place of the first such byte in bytes that begin at a place; behind the last where there is none.
+unfoldable pub placeOf : ℕ → List ℕ → ℕ → ℕ
+placeOf at [] byte = at
+placeOf at (b ∷ bs) byte = cond (eqb b byte) at (placeOf (at + 1) bs byte)
 
 -- A number with a byte more below it, in 64 bits: what they cannot hold is lost at the top.
 abbrev pub below : ℕ → ℕ → ℕ

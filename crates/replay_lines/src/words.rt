@@ -1,13 +1,13 @@
 // The words of a line: from their text to their bytes.
 ghost use mathlib.Core.Path.{_≡_};
 ghost use Prim.Native.Nat.{_+_, _%_, _≤_, _<_};
-ghost use lib.ListN.{length};
-ghost use Rattle.replay_lines.specs.Words.{below, numberOf, between, wordOf};
+ghost use lib.ListN.{length, drop};
+ghost use Rattle.replay_lines.specs.Words.{placeOf, below, numberOf, between, wordOf};
 
 // The place of a byte at or after `from`, or the end.
 pub fn find(text: &[u8], from: usize, byte: u8) -> usize
     requires { ⌜ from ≤ length (now text) ⌝ }
-    ensures { λ r. ⌜ (from ≤ r) × (r ≤ length (now (text .entry))) ⌝ }
+    ensures { λ r. ⌜ (from ≤ r) × (r ≤ length (now (text .entry))) × (r ≡ placeOf from (drop from (now (text .entry))) byte) ⌝ }
 {
     let mut i = from;
     while i < text.len() {
@@ -312,19 +312,19 @@ pub fn value(bytes: &[u8], words: Words, i: usize) -> u32
     requires { ⌜ i < 9 ⌝ }
     ensures { λ r. ⌜ r ≡ numberOf (wordOf (now (bytes .entry)) words i) % 4294967296 ⌝ }
 {
-    (number(word(bytes, words, i)) % 4294967296) as u32
+    (wide(bytes, words, i) % 4294967296) as u32
 }
 
 pub fn short(bytes: &[u8], words: Words, i: usize) -> u16
     requires { ⌜ i < 9 ⌝ }
     ensures { λ r. ⌜ r ≡ numberOf (wordOf (now (bytes .entry)) words i) % 65536 ⌝ }
 {
-    (number(word(bytes, words, i)) % 65536) as u16
+    (wide(bytes, words, i) % 65536) as u16
 }
 
 pub fn byte(bytes: &[u8], words: Words, i: usize) -> u8
     requires { ⌜ i < 9 ⌝ }
     ensures { λ r. ⌜ r ≡ numberOf (wordOf (now (bytes .entry)) words i) % 256 ⌝ }
 {
-    (number(word(bytes, words, i)) % 256) as u8
+    (wide(bytes, words, i) % 256) as u8
 }
