@@ -13,7 +13,7 @@ use Rattle.asmap_program.specs.declared.Instruction.{Instruction}
 use Rattle.asmap_program.specs.declared.Verdict.{Verdict}
 use Rattle.asmap_program.specs.declared.Verdict.the-variants.{Accepted}
 use Rattle.asmap_program.specs.Map.{endOf, Fetched, Whole, CutOpcode, CutOperand, Map, Laws, lengthOf}
-use Rattle.asmap_program.specs.Check.{State, Outcome, Next, Done, Refuse, guard, step, after, run, start, check, stopping, stops, stopOf, unpacked}
+use Rattle.asmap_program.specs.Check.{State, Outcome, Next, Done, Refuse, guard, step, after, run, start, check, stopping, stops, stopOf, listed, reads, unpacked}
 use Rattle.asmap_program.specs.Walk.{Walked, Walker, Turn, Goes, Stops, Compared, Equal, Different, aborted, enough, meeting, compared, turnWhole, turnOn, push, goOn, walkFrom, walk}
 use Rattle.asmap_program.proofs.Tree.{Moves, closes, opened, matched, defaulted, View, view, Accepts, last, more, accepts}
 use Rattle.asmap_program.proofs.Depth.{carries}
@@ -57,62 +57,71 @@ module _ (m : Map) where
   unfolding step guard
   ended s h = rw (le-leb (m .bits) (s .at) h)
 
-  -- with f steps and with g the answer is one, and so is the place
+  -- with f steps and with g the answer is one, and so are the place and the instructions passed
   abbrev Alike : ℕ → ℕ → State → Type 0
-  Alike f g s = (run m f s ≡ run m g s) × (stops m f s ≡ stops m g s)
+  Alike f g s = (run m f s ≡ run m g s) × (stops m f s ≡ stops m g s) × (reads m f s ≡ reads m g s)
 
   module _ (law : Laws m) where
     -- both go on alike from every state that a step comes to
     after-alike : (s : State) (f g : ℕ) → m .bits ≤ s .at + suc f → m .bits ≤ s .at + suc g
         → ((s′ : State) → m .bits ≤ s′ .at + f → m .bits ≤ s′ .at + g → Alike f g s′)
-        → (o : Outcome) → View m s o → (after (run m f) o ≡ after (run m g) o) × (stopping (s .at) (stops m f) o ≡ stopping (s .at) (stops m g) o)
+        → (o : Outcome) → View m s o
+        → (after (run m f) o ≡ after (run m g) o) × (stopping (s .at) (stops m f) o ≡ stopping (s .at) (stops m g) o) × (listed (reads m f) o ≡ listed (reads m g) o)
     after-alike s f g h k ih (Next i s′) v =
         let a = law .stands _ _ (v .0) in
         let e = moved (v .1) in
-        ih s′ (omega arith) (omega arith)
-    after-alike s f g h k ih (Done i c d) v = (refl, refl)
-    after-alike s f g h k ih (Refuse n) v = (refl, refl)
+        let r = ih s′ (omega arith) (omega arith) in
+        (r .0, r .1, ap (λ (l : List Instruction). i ∷ l) (r .2))
+    after-alike s f g h k ih (Done i c d) v = (refl, refl, refl)
+    after-alike s f g h k ih (Refuse n) v = (refl, refl, refl)
 
     run-enough : (f g : ℕ) (s : State) → m .bits ≤ s .at + f → m .bits ≤ s .at + g → Alike f g s
-    unfolding run stops
-    run-enough zero zero s h k = (refl, refl)
-    run-enough zero (suc g) s h k = rw (ended s (omega arith)) (refl, refl)
-    run-enough (suc f) zero s h k = rw (ended s (omega arith)) (refl, refl)
+    unfolding run stops reads
+    run-enough zero zero s h k = (refl, refl, refl)
+    run-enough zero (suc g) s h k = rw (ended s (omega arith)) (refl, refl, refl)
+    run-enough (suc f) zero s h k = rw (ended s (omega arith)) (refl, refl, refl)
     run-enough (suc f) (suc g) s h k = after-alike s f g h k (λ s′ p q. run-enough f g s′ p q) (step m s) (view m s)
 
-  -- the answer from a state on, and the place at which the check stops from there
+  -- the answer from a state on, the place at which the check stops from there, and the instructions that it passes
   unfoldable pub result : State → Verdict
   result s = run m (m .bits - s .at) s
 
   unfoldable pub stop : State → ℕ
   stop s = stops m (m .bits - s .at) s
 
+  unfoldable pub passing : State → List Instruction
+  passing s = reads m (m .bits - s .at) s
+
   module _ (law : Laws m) where
     after-result : (s : State) (o : Outcome) → View m s o
-        → (after (run m (m .bits - s .at)) o ≡ after result o) × (stopping (s .at) (stops m (m .bits - s .at)) o ≡ stopping (s .at) stop o)
-    unfolding result stop
+        → (after (run m (m .bits - s .at)) o ≡ after result o) × (stopping (s .at) (stops m (m .bits - s .at)) o ≡ stopping (s .at) stop o) × (listed (reads m (m .bits - s .at)) o ≡ listed passing o)
+    unfolding result stop passing
     after-result s (Next i s′) v =
         let a = law .stands _ _ (v .0) in
         let e = moved (v .1) in
-        run-enough law (m .bits - s .at) (m .bits - s′ .at) s′ (omega arith) (omega arith)
-    after-result s (Done i c d) v = (refl, refl)
-    after-result s (Refuse n) v = (refl, refl)
+        let r = run-enough law (m .bits - s .at) (m .bits - s′ .at) s′ (omega arith) (omega arith) in
+        (r .0, r .1, ap (λ (l : List Instruction). i ∷ l) (r .2))
+    after-result s (Done i c d) v = (refl, refl, refl)
+    after-result s (Refuse n) v = (refl, refl, refl)
 
     -- the equations of the loop: one step, and on
-    both-step : (s : State) → (result s ≡ after result (step m s)) × (stop s ≡ stopping (s .at) stop (step m s))
-    unfolding result stop run stops
-    both-step s =
+    all-step : (s : State) → (result s ≡ after result (step m s)) × (stop s ≡ stopping (s .at) stop (step m s)) × (passing s ≡ listed passing (step m s))
+    unfolding result stop passing run stops reads
+    all-step s =
         let a = run-enough law (m .bits - s .at) (suc (m .bits - s .at)) s (omega arith) (omega arith) in
         let b = after-result s (step m s) (view m s) in
-        (a .0 ∙ b .0, a .1 ∙ b .1)
+        (a .0 ∙ b .0, a .1 ∙ b .1, a .2 ∙ b .2)
 
     pub result-step : (s : State) → result s ≡ after result (step m s)
-    result-step s = both-step s .0
+    result-step s = all-step s .0
 
     pub stop-step : (s : State) → stop s ≡ stopping (s .at) stop (step m s)
-    stop-step s = both-step s .1
+    stop-step s = all-step s .1
 
-    -- the check is the answer from its start on, and its place is the place from there
+    pub passing-step : (s : State) → passing s ≡ listed passing (step m s)
+    passing-step s = all-step s .2
+
+    -- the check is the answer from its start on; its place is the place from there, and what is unpacked is what is passed from there
     pub result-start : (w : ℕ) → check m w ≡ result (start w)
     unfolding check result
     result-start w = run-enough law (m .bits) (m .bits - 0) (start w) (omega arith) (omega arith) .0
@@ -120,6 +129,10 @@ module _ (m : Map) where
     pub stop-start : (w : ℕ) → stopOf m w ≡ stop (start w)
     unfolding stopOf stop
     stop-start w = run-enough law (m .bits) (m .bits - 0) (start w) (omega arith) (omega arith) .1
+
+    pub passing-start : (w : ℕ) → unpacked m w ≡ passing (start w)
+    unfolding unpacked passing
+    passing-start w = run-enough law (m .bits) (m .bits - 0) (start w) (omega arith) (omega arith) .2
 
 -- ---- the walk's loop
 

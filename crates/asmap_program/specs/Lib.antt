@@ -4,3 +4,4 @@ pub mod Tree
 pub mod Walk
 pub mod Demand
 pub mod Core
+pub mod models
