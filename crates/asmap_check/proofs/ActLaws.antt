@@ -1,4 +1,5 @@
--- The model of specs/Act.antt is the step of asmap_program's check on a map's bytes (`act-is`), and what it makes sure of (`sure`).
+-- The model of specs/Act.antt is the step of asmap_program's check on a map's bytes (`act-is`), what it makes sure of (`sure`), and how many
+-- pieces the instruction gives (`tells`).
 -- Assumes nothing.
 use Prim.Native.Nat.{ℕ, zero, suc, _+_, _-_, _*_, _≤_, _<_, max}
 use mathlib.Core.Bool.{Bool, true, false, not, _&&_}
@@ -13,6 +14,7 @@ use Rattle.asmap_program.specs.declared.Previous.{Previous}
 use Rattle.asmap_program.specs.declared.Previous.the-variants.{Other, Default}
 use Rattle.asmap_program.specs.Map.{CutOperand, lengthOf}
 use Rattle.asmap_program.specs.Check.{Open, State, isDefault, isShort, afterMatch, guard, Outcome, Next, Done, Refuse, closing, stepWhole, stepOn, step}
+use Rattle.asmap_program.specs.models.Pieces.{piecesOf}
 use Rattle.asmap_codes.specs.declared.Code.{Code}
 use Rattle.asmap_codes.specs.declared.Code.the-variants.{Value, Cut}
 use Rattle.asmap_codes.specs.Row.{typeRow, operandRow}
@@ -182,3 +184,42 @@ module _ (m : List ℕ) (p : Previous) (bits t : ℕ) where
 
   pub sure : (d place : ℕ) → Sure bits d (acts m p bits d t place)
   sure d place = sure-unless bits d (pastTop d t place) 3 (onOpcode m p bits d t (codeAt m place typeRow)) (λ _. sure-opcode d (codeAt m place typeRow))
+
+-- how many pieces the instruction of an act gives
+abbrev pub Tells : Instruction → Act → Type 0
+Tells i (Opens n t) = piecesOf i ≡ 0
+Tells i (Closes n) = piecesOf i ≡ 1
+Tells i (Uses n k) = piecesOf i ≡ k
+Tells i (Keeps n) = piecesOf i ≡ 0
+Tells i Accepts = piecesOf i ≡ 1
+Tells i (Refuses n) = Unit {0}
+
+tells-unless : (i : Instruction) (b : Bool) (n : ℕ) (a : Act) → Tells i a → Tells i (refusing b n a)
+unfolding refusing
+tells-unless i true n a h = tt
+tells-unless i false n a h = h
+
+module _ (m : List ℕ) (p : Previous) (bits t : ℕ) where
+  tells-returned : (d place : ℕ) (c : Code) → Tells (instruction place 0 c) (returned m d t c)
+  tells-returned d place Cut = tt
+  tells-returned zero place (Value v n) = tells-unless _ (not (paddedFrom m n)) 6 Accepts refl
+  tells-returned (suc d) place (Value v n) = rw (ne-eqb (suc d) 0 (omega arith)) (tells-unless _ (not (eqb n t)) 7 (Closes n) refl)
+
+  tells-on : (d op place : ℕ) (c : Code) → Tells (instruction place op c) (onOperand m p bits d t op c)
+  tells-on d zero place c = tells-unless _ (isDefault p) 5 (returned m d t c) (tells-returned d place c)
+  tells-on d (suc zero) place Cut = tt
+  tells-on d (suc zero) place (Value v n) =
+      tells-unless _ (eqb bits 0) 8 (refusing (pastTop d t (n + v)) 9 (Opens n (n + v))) (tells-unless _ (pastTop d t (n + v)) 9 (Opens n (n + v)) refl)
+  tells-on d (suc (suc zero)) place Cut = tt
+  tells-on d (suc (suc zero)) place (Value v n) =
+      tells-unless _ (ltb (lengthOf v) 8 && isShort p) 10 (refusing (ltb bits (lengthOf v)) 8 (Uses n (lengthOf v)))
+      (tells-unless _ (ltb bits (lengthOf v)) 8 (Uses n (lengthOf v)) refl)
+  tells-on d (suc (suc (suc op))) place Cut = tells-unless _ (isDefault p) 5 (kept Cut) tt
+  tells-on d (suc (suc (suc op))) place (Value v n) = tells-unless _ (isDefault p) 5 (kept (Value v n)) refl
+
+  tells-opcode : (d place : ℕ) (c : Code) → Tells (instructionAt m place c) (onOpcode m p bits d t c)
+  tells-opcode d place Cut = tt
+  tells-opcode d place (Value op n) = tells-on d op place (codeAt m n (operandRow op))
+
+  pub tells : (d place : ℕ) → Tells (here m place) (acts m p bits d t place)
+  tells d place = tells-unless _ (pastTop d t place) 3 (onOpcode m p bits d t (codeAt m place typeRow)) (tells-opcode d place (codeAt m place typeRow))

@@ -1,6 +1,7 @@
--- What the loop knows where it stands: a state that the check comes to, and that answer and place from here are the answer and the place.
+-- What the loop knows where it stands: a state that the check comes to, that answer and place from here are the answer and the place, and that
+-- the pieces counted and those from here are all.
 -- Assumes nothing.
-use Prim.Native.Nat.{ℕ, suc, _-_, _*_, _≤_, _<_}
+use Prim.Native.Nat.{ℕ, suc, _+_, _-_, _*_, _≤_, _<_}
 use mathlib.Core.Path.{_≡_, refl, sym, ap, subst, _∙_}
 use mathlib.Core.Bool.{Bool, true, false}
 use mathlib.Core.List.{List}
@@ -10,15 +11,18 @@ use lib.Dec.{ltb}
 use lib.ListN.{length}
 use Rattle.asmap_program.specs.declared.Instruction.{Instruction}
 use Rattle.asmap_program.specs.declared.Verdict.the-variants.{Accepted, Refused}
-use Rattle.asmap_program.specs.Check.{State, start, Outcome, Next, Done, Refuse, step, after, check, stopping, stopOf}
+use Rattle.asmap_program.specs.Check.{State, start, Outcome, Next, Done, Refuse, step, after, check, stopping, stopOf, listed, unpacked}
+use Rattle.asmap_program.specs.models.Pieces.{piecesOf, countPieces}
 use Rattle.asmap_program.proofs.Tree.{View, view}
 use Rattle.asmap_program.proofs.Depth.{one-more, Room, Reached, begins, goes, room}
-use Rattle.asmap_program.proofs.Loop.{moved, result, result-step, result-start, stop, stop-step, stop-start}
+use Rattle.asmap_program.proofs.Loop.{moved, result, result-step, result-start, stop, stop-step, stop-start, passing, passing-step, passing-start}
 use Rattle.asmap_codes.specs.Instruction.{mapOf}
 use Rattle.asmap_check.specs.declared.Judged.{Judged}
 use Rattle.asmap_check.specs.declared.Stopped.the-variants as stopped
 use Rattle.asmap_check.specs.Check.{unlessLong, checkOf, reasonOf, stoppedOf}
+use Rattle.asmap_check.specs.declared.Counted.the-variants as counted
 use Rattle.asmap_check.specs.models.State.{judged}
+use Rattle.asmap_check.specs.models.Counted.{countedAs, countedOf}
 use Rattle.asmap_codes.proofs.MapLaws.{laws, map-bits}
 
 module _ (m : List ℕ) (w : ℕ) where
@@ -39,11 +43,40 @@ module _ (m : List ℕ) (w : ℕ) where
   pub standing-on : (s : State) → Standing s → (i : Instruction) (s′ : State) → step (mapOf m) s ≡ Next i s′ → Standing s′
   standing-on s h i s′ e = record { reached = goes (h .reached) e; same = answer s h (Next i s′) e; place = placed s h (Next i s′) e }
 
-  pub standing-done : (s : State) → Standing s → (i : Instruction) (c d : ℕ) → step (mapOf m) s ≡ Done i c d → record { verdict = Accepted c d; place = s .at } ≡ judged m w
-  standing-done s h i c d e = λ j. record { verdict = sym (answer s h (Done i c d) e) j; place = sym (placed s h (Done i c d) e) j }
+  -- n pieces are counted where the loop stands at s: with those of what it passes from here on they are all. An instruction gives at most 128,
+  -- so that they are few.
+  pub record Counting (s : State) (n : ℕ) : Type 0 where
+    pub counted : countPieces (unpacked (mapOf m) w) ≡ n + countPieces (passing (mapOf m) s)
+    pub few : n ≤ 128 * s .count
 
-  pub standing-refused : (s : State) → Standing s → (n : ℕ) → step (mapOf m) s ≡ Refuse n → record { verdict = Refused n; place = s .at } ≡ judged m w
-  standing-refused s h n e = λ j. record { verdict = sym (answer s h (Refuse n) e) j; place = sym (placed s h (Refuse n) e) j }
+  pub counting-start : Counting (start w) 0
+  counting-start = record { counted = omega (arith, ap countPieces (passing-start (mapOf m) (laws m) w)); few = omega arith }
+
+  -- the pieces of what is passed, by what the step comes to
+  counting : (s : State) (n : ℕ) → Counting s n → (o : Outcome) → step (mapOf m) s ≡ o
+      → countPieces (unpacked (mapOf m) w) ≡ n + countPieces (listed (passing (mapOf m)) o)
+  counting s n h o e =
+      h .counted ∙ ap (λ (l : List Instruction). n + countPieces l) (passing-step (mapOf m) (laws m) s ∙ ap (listed (passing (mapOf m))) e)
+
+  pub counting-on : (s : State) (n k n′ : ℕ) → Counting s n → (i : Instruction) (s′ : State) → step (mapOf m) s ≡ Next i s′
+      → piecesOf i ≡ k → k ≤ 128 → n′ ≡ n + k → s′ .count ≡ suc (s .count) → Counting s′ n′
+  unfolding countPieces
+  counting-on s n k n′ h i s′ e p l q c =
+      record { counted = counting s n h (Next i s′) e ∙ omega (arith, p, q); few = omega (arith, h .few, q, c) }
+
+  pub standing-done : (s : State) → Standing s → (n : ℕ) → Counting s n → (i : Instruction) (c d : ℕ) → step (mapOf m) s ≡ Done i c d
+      → piecesOf i ≡ 1 → record { verdict = Accepted c d; place = s .at; pieces = n + 1 } ≡ judged m w
+  unfolding countPieces
+  standing-done s h n k i c d e p =
+      let q : n + 1 ≡ countPieces (unpacked (mapOf m) w) = sym (counting s n k (Done i c d) e ∙ omega (arith, p)) in
+      λ j. record { verdict = sym (answer s h (Done i c d) e) j; place = sym (placed s h (Done i c d) e) j; pieces = q j }
+
+  pub standing-refused : (s : State) → Standing s → (n : ℕ) → Counting s n → (r : ℕ) → step (mapOf m) s ≡ Refuse r
+      → record { verdict = Refused r; place = s .at; pieces = n } ≡ judged m w
+  unfolding countPieces
+  standing-refused s h n k r e =
+      let q : n ≡ countPieces (unpacked (mapOf m) w) = sym (counting s n k (Refuse r) e ∙ omega arith) in
+      λ j. record { verdict = sym (answer s h (Refuse r) e) j; place = sym (placed s h (Refuse r) e) j; pieces = q j }
 
   -- a step goes forward, inside the map, and counts one
   pub record Onward (s s′ : State) : Type 0 where
@@ -70,6 +103,10 @@ module _ (m : List ℕ) (w : ℕ) where
   pub count-few : (s : State) → Standing s → (s .count ≤ s .at) × (s .at ≤ 8 * length m)
   count-few s h = few (h .reached)
 
+  -- so the pieces are far from what a usize holds
+  pub pieces-few : (s : State) (n : ℕ) → Standing s → Counting s n → length m ≤ 16777216 → n ≤ 17179869184
+  pieces-few s n h c l = omega (arith, c .few, few (h .reached))
+
   -- open jumps and bits left are at most w
   pub standing-room : (s : State) → Standing s → Room w s
   standing-room s h = room (mapOf m) w (h .reached)
@@ -86,6 +123,12 @@ module _ (m : List ℕ) (w : ℕ) where
 
   pub stopped-at : length m ≤ 16777216 → (j : Judged) → j ≡ judged m w → stopped.At (reasonOf (j .verdict)) (j .place) ≡ stoppedOf m w
   stopped-at h j e = rw (e, le-ltb 16777216 (length m) h)
+
+  pub counted-long : 16777216 < length m → counted.Refused 1 ≡ countedOf m w
+  counted-long h = rw (lt-ltb 16777216 (length m) h)
+
+  pub counted-at : length m ≤ 16777216 → (j : Judged) → j ≡ judged m w → countedAs (j .pieces) (j .verdict) ≡ countedOf m w
+  counted-at h j e = rw (e, le-ltb 16777216 (length m) h)
 
   -- an accepted map is within the limit
   pub accepted-within : (c d : ℕ) → checkOf m w ≡ Accepted c d → (length m ≤ 16777216) × (check (mapOf m) w ≡ Accepted c d)

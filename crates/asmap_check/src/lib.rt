@@ -1,4 +1,5 @@
-// The check of a map (document 01, Check): which maps are sane, the reason where one is not, and where in the map the check stops.
+// The check of a map (document 01, Check): which maps are sane, the reason where one is not, where in the map the check stops, and how many
+// prefixes the map tells apart, which is counted on the way.
 //
 // Two kinds of function. The arms (`asmap_check_act: sanity_act` and those it calls) read an instruction and answer an `Act`; they take
 // the map and numbers but never the state, which a call copies with both its arrays. The loop here (`sanity_check_bits`) carries the act
@@ -11,6 +12,7 @@ ghost use lib.ListN.{length};
 ghost use Rattle.asmap_program.specs.Map.{limit};
 ghost use Rattle.asmap_program.specs.Check.{afterMatch};
 ghost use Rattle.asmap_check.specs.models.State.{Arrays, top, judged};
+ghost use Rattle.asmap_check.specs.models.Counted.{countedAs, countedOf, most, Few};
 ghost use Rattle.asmap_check.specs.Check.{checkOf, LikeCore, reasonOf, stoppedOf};
 use asmap_check_act::Act;
 use asmap_program::ADDRESS_BITS;
@@ -25,10 +27,17 @@ pub enum Stopped {
     Refused(u8),
 }
 
-// What the loop comes to, for both calls: the verdict, and the place at which it stopped.
+// How many prefixes an accepted map tells apart (document 02, CR 1), or the number of the refusal.
+pub enum Counted {
+    Pieces(usize),
+    Refused(u8),
+}
+
+// What the loop comes to, for all calls: the verdict, the place at which it stopped, and the prefixes told apart up to there.
 struct Judged {
     verdict: Verdict,
     place: usize,
+    pieces: usize,
 }
 
 // The open jumps, innermost last, and the address bits left.
@@ -117,20 +126,21 @@ fn innermost(targets: &[u32; 128], depth: usize) -> u32
     targets[depth - 1]
 }
 
-fn judge(verdict: Verdict, place: usize) -> Judged
-    ensures { λ r. ⌜ r ≡ record { verdict = verdict; place = place } ⌝ }
+fn judge(verdict: Verdict, place: usize, pieces: usize) -> Judged
+    ensures { λ r. ⌜ r ≡ record { verdict = verdict; place = place; pieces = pieces } ⌝ }
 {
     Judged {
         verdict: verdict,
         place: place,
+        pieces: pieces,
     }
 }
 
 // The check of a map within the limit over a number of address bits, which the public calls fix: the arrays hold as many jumps as there
-// are bits.
+// are bits. A RETURN gives one piece, a MATCH one for each of its bits: counted here, a listing needs no pass of its own to know its length.
 fn sanity_check_bits(map: &[u8], bits: u8) -> Judged
     requires { ⌜ (length (now map) ≤ limit) × (bits ≤ 128) ⌝ }
-    ensures { λ r. ⌜ r ≡ judged (now (map .entry)) bits ⌝ }
+    ensures { λ r. ⌜ (r ≡ judged (now (map .entry)) bits) × (r .pieces ≤ most) ⌝ }
 {
     let end = 8 * map.len();
     let mut state = CheckState::new(bits);
@@ -138,6 +148,7 @@ fn sanity_check_bits(map: &[u8], bits: u8) -> Judged
     let mut previous = Previous::Other;
     let mut count: u32 = 0;
     let mut deepest: usize = 0;
+    let mut pieces: usize = 0;
     while pos < end {
         let depth = state.depth;
         let top = innermost(&state.targets, depth);
@@ -160,11 +171,13 @@ fn sanity_check_bits(map: &[u8], bits: u8) -> Judged
                 let saved = state.saved[depth - 1];
                 state = state.close_jump(saved);
                 previous = Previous::Other;
+                pieces += 1;
                 pos = next;
             }
             Act::Uses(next, length) => {
                 state = state.use_bits(length);
                 previous = after_match(length);
+                pieces += length as usize;
                 pos = next;
             }
             Act::Keeps(next) => {
@@ -173,14 +186,14 @@ fn sanity_check_bits(map: &[u8], bits: u8) -> Judged
             }
             Act::Accepts => {
                 let greatest = deepest as u8;
-                return judge(Verdict::Accepted(count, greatest), pos);
+                return judge(Verdict::Accepted(count, greatest), pos, pieces + 1);
             }
             Act::Refuses(reason) => {
-                return judge(Verdict::Refused(reason), pos);
+                return judge(Verdict::Refused(reason), pos, pieces);
             }
         }
     }
-    judge(Verdict::Refused(2), pos)
+    judge(Verdict::Refused(2), pos, pieces)
 }
 
 // A map over the limit, of which nothing is read.
@@ -222,4 +235,27 @@ pub fn sanity_check_stop(map: &[u8]) -> Stopped
     let judged = sanity_check_bits(map, ADDRESS_BITS);
     let verdict = judged.verdict;
     Stopped::At(reason_of(verdict), judged.place)
+}
+
+// An acceptance with the pieces counted, or the refusal.
+fn with_pieces(verdict: Verdict, pieces: usize) -> Counted
+    ensures { λ r. ⌜ r ≡ countedAs pieces verdict ⌝ }
+{
+    match verdict {
+        Verdict::Accepted(count, depth) => Counted::Pieces(pieces),
+        Verdict::Refused(reason) => Counted::Refused(reason),
+    }
+}
+
+// The check, with the prefixes that the map tells apart counted: for whoever has to know how long a listing is before it is written. Refused
+// as the check does, 1 to 10.
+pub fn sanity_check_pieces(map: &[u8]) -> Counted
+    ensures { λ r. ⌜ (r ≡ countedOf (now (map .entry)) 128) × Few r ⌝ }
+{
+    if too_long(map) {
+        return Counted::Refused(1);
+    }
+    let judged = sanity_check_bits(map, ADDRESS_BITS);
+    let verdict = judged.verdict;
+    with_pieces(verdict, judged.pieces)
 }

@@ -24,7 +24,7 @@ sanity-check-bits-requires c κs = (ltb-false limit _ (sym (c .before .too-long 
 
 returns-2 : tie.Need-returns-2
 returns-2 c =
-    let e = ap (λ (j : Judged). j .verdict) (c .sanity-check-bits .ensures) ∙ checked _ 128 (ltb-false limit _ (sym (c .before .before .too-long .ensures) ∙ c .before .if1 .left)) in
+    let e = ap (λ (j : Judged). j .verdict) (c .sanity-check-bits .ensures .0) ∙ checked _ 128 (ltb-false limit _ (sym (c .before .before .too-long .ensures) ∙ c .before .if1 .left)) in
     (e, like-core _ 128 _ e)
 
 pub sanity-check-spec : {M : Type 1} → statement M

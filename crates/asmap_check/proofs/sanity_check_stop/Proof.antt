@@ -27,7 +27,7 @@ returns-2 : tie.Need-returns-2
 returns-2 c =
     let j = c .before .sanity-check-bits .result in
     ap (λ (n : ℕ). At n (j .place)) (c .reason-of .ensures)
-    ∙ stopped-at _ 128 (ltb-false limit _ (sym (c .before .before .before .too-long .ensures) ∙ c .before .before .if1 .left)) j (c .before .sanity-check-bits .ensures)
+    ∙ stopped-at _ 128 (ltb-false limit _ (sym (c .before .before .before .too-long .ensures) ∙ c .before .before .if1 .left)) j (c .before .sanity-check-bits .ensures .0)
 
 pub sanity-check-stop-spec : {M : Type 1} → statement M
 sanity-check-stop-spec =

@@ -5,7 +5,8 @@ use mathlib.Core.Path.{_≡_}
 use mathlib.Core.List.{List, [], _∷_}
 use lib.ListN.{length, getD}
 use Rattle.asmap_program.specs.declared.Previous.{Previous}
-use Rattle.asmap_program.specs.Check.{Open, State, check, stopOf}
+use Rattle.asmap_program.specs.Check.{Open, State, check, stopOf, unpacked}
+use Rattle.asmap_program.specs.models.Pieces.{countPieces}
 use Rattle.asmap_codes.specs.Instruction.{mapOf}
 use Rattle.asmap_check.specs.declared.CheckState.{CheckState}
 use Rattle.asmap_check.specs.declared.Judged.{Judged}
@@ -30,6 +31,6 @@ top ts d = getD ts (d - 1) 0
 abbrev pub stateOf : CheckState → ℕ → Previous → ℕ → ℕ → State
 stateOf s at before count deepest = record { at = at; left = s .bits; before = before; opens = opens s; count = count; deepest = deepest }
 
--- what the loop comes to over w address bits: the check's verdict, and the place at which it stops
+-- what the loop comes to over w address bits: the check's verdict, the place at which it stops, and the pieces of what it passes up to there
 abbrev pub judged : List ℕ → ℕ → Judged
-judged m w = record { verdict = check (mapOf m) w; place = stopOf (mapOf m) w }
+judged m w = record { verdict = check (mapOf m) w; place = stopOf (mapOf m) w; pieces = countPieces (unpacked (mapOf m) w) }
