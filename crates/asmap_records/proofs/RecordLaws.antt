@@ -1,4 +1,4 @@
--- Laws of records: bytes written after bytes, and the numbers that a record's bytes are. Assumes nothing.
+-- Laws of records: a buffer's front, and the numbers that a record's bytes are. Assumes nothing.
 use mathlib.Core.Path.{_≡_, _∙_, refl, sym, ap}
 use mathlib.Core.Bool.{Bool, true, false, _&&_}
 use mathlib.Core.List.{List, [], _∷_, _++_}
@@ -11,17 +11,10 @@ use lib.Seq.{sets, sets-eq}
 use Rattle.asmap_program.specs.declared.Instruction.{Instruction}
 use Rattle.byte_numbers.specs.Numbers.{bytes4, number4}
 use Rattle.byte_numbers.proofs.NumberLaws.{small-bytes}
+use Rattle.byte_numbers.proofs.Buffers.{sets-append-at}
 use Rattle.asmap_records.specs.Record.{zeros3, recordOf, recordsOf}
 
 -- ---- bytes in a buffer
-
--- bytes written after bytes
-pub sets-append : (o : List ℕ) (k : ℕ) (a b : List ℕ) → sets o k (a ++ b) ≡ sets (sets o k a) (k + length a) b
-sets-append o k [] b = let e : k + 0 ≡ k = omega arith in rw e
-sets-append o k (x ∷ xs) b = let e : k + suc (length xs) ≡ suc k + length xs = omega arith in rw e (sets-append (set o k x) (suc k) xs b)
-
-sets-append-at : (o : List ℕ) (k j : ℕ) (a b : List ℕ) → k + length a ≡ j → sets o k (a ++ b) ≡ sets (sets o k a) j b
-sets-append-at o k j a b e = sets-append o k a b ∙ ap (λ (i : ℕ). sets (sets o k a) i b) e
 
 -- all of a buffer's front
 pub sets-front : (o b : List ℕ) → length b ≤ length o → sets o 0 b ≡ b ++ drop (length b) o

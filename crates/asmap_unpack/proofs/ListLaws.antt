@@ -12,7 +12,7 @@ use Rattle.asmap_codes.specs.Instruction.{mapOf, readInstruction}
 use Rattle.asmap_codes.specs.declared.DecodedInstruction.the-variants.{Found, Refused}
 use Rattle.asmap_codes.proofs.MapLaws.{instruction-at, laws, map-bits}
 use Rattle.asmap_records.specs.Record.{recordOf, recordsOf}
-use Rattle.asmap_records.proofs.RecordLaws.{sets-append}
+use Rattle.byte_numbers.proofs.Buffers.{sets-append}
 
 -- ---- what is listed, by what stands at a place
 

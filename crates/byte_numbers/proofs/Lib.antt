@@ -1,2 +1,3 @@
+pub mod Buffers
 pub mod Words
 pub mod NumberLaws

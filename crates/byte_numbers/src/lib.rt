@@ -1,11 +1,11 @@
-// Numbers in bytes, the lowest byte first: of four bytes, as the fields of records have them, read and written at a place; and
-// several bytes looked at as one number, which compiles to one load.
+// Numbers in bytes: of four bytes, the lowest first, as the fields of records have them, read and written at a place; of eight bytes, the
+// highest first, as addresses have them, written; and several bytes looked at as one number, which compiles to one load.
 ghost use mathlib.Core.Path.{_≡_};
 ghost use mathlib.Core.List.{[], _∷_};
 ghost use Prim.Native.Nat.{_+_, _*_, _≤_};
 ghost use lib.ListN.{length, take, drop};
 ghost use lib.Seq.{sets};
-ghost use Rattle.byte_numbers.specs.Numbers.{bytes4, number4};
+ghost use Rattle.byte_numbers.specs.Numbers.{big8, bytes4, number4};
 ghost use Rattle.byte_numbers.specs.models.Word.{Word};
 
 // ---- numbers of four bytes
@@ -34,6 +34,23 @@ pub fn put_number(out: &mut [u8], at: usize, x: u32)
     out[at + 1] = (x / 256 % 256) as u8;
     out[at + 2] = (x / 65536 % 256) as u8;
     out[at + 3] = (x / 16777216 % 256) as u8;
+}
+
+// ---- numbers of eight bytes
+
+// A number put into the eight bytes from a place on, the highest byte first.
+pub fn put_big(out: &mut [u8], at: usize, x: u64)
+    requires { ⌜ at + 8 ≤ length (now out) ⌝ }
+    ensures { λ r. ⌜ now (out .exit) ≡ sets (now (out .entry)) at (big8 x) ⌝ }
+{
+    out[at] = (x / 72057594037927936 % 256) as u8;
+    out[at + 1] = (x / 281474976710656 % 256) as u8;
+    out[at + 2] = (x / 1099511627776 % 256) as u8;
+    out[at + 3] = (x / 4294967296 % 256) as u8;
+    out[at + 4] = (x / 16777216 % 256) as u8;
+    out[at + 5] = (x / 65536 % 256) as u8;
+    out[at + 6] = (x / 256 % 256) as u8;
+    out[at + 7] = (x % 256) as u8;
 }
 
 // ---- several bytes as one number
