@@ -1,0 +1,3 @@
+pub mod TilingLaws
+pub mod RecordLaws
+pub mod CursorLaws

@@ -1,0 +1,3 @@
+pub mod Tiling
+pub mod Record
+pub mod models
