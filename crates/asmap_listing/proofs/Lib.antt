@@ -1,0 +1,4 @@
+pub mod ListingLaws
+pub mod AddressLaws
+pub mod CountLaws
+pub mod ScanLaws
