@@ -1,0 +1,3 @@
+pub mod List
+pub mod Promise
+pub mod models
