@@ -1,4 +1,4 @@
--- Which numbers check, walk, unpack and pack refuse with; none of them is 0.
+-- Which numbers check, walk, unpack, pack and the listing refuse with; none of them is 0.
 -- Assumes nothing.
 use Prim.Native.Nat.{ℕ, zero, suc, _+_, _/_, _≤_, _<_}
 use mathlib.Core.Bool.{Bool, true, false, not}
@@ -21,7 +21,8 @@ use Rattle.asmap_walk.specs.Interpret.{refusedIf, summary, walkOf, interpretOf}
 use Rattle.asmap_records.specs.Output.{Result, Made, No, refuse, on, within, answerOf}
 use Rattle.asmap_records.specs.Unpack.{unpackAs, unpackOf}
 use Rattle.asmap_records.specs.Pack.{fieldBits, recordBits, recordsBits, packBits, packOf}
-use Rattle.answers.specs.Maps.{mapChecked, checkStopped, walkMade, bytesWritten}
+use Rattle.asmap_list.specs.List.{listAs, listOf, bytesOf, neededOf}
+use Rattle.answers.specs.Maps.{mapChecked, checkStopped, walkMade, bytesWritten, bytesNeeded}
 use Rattle.answers.proofs.Handing.{Counted, Refuses, counted}
 
 -- ---- the check: a step that refuses does so with a number from 2 to 10. P: what is shown of it
@@ -135,6 +136,25 @@ module _ (P : ℕ → Type 0) where
   unpack-as m w (Accepted c d) h = tt
   unpack-as m w (Refused n) h = h
 
+  list-as : (m : List ℕ) (v : Verdict) → Refuses P (mapChecked v) → Makes (listAs m v)
+  unfolding Refuses mapChecked
+  list-as m (Accepted c d) h = tt
+  list-as m (Refused n) h = h
+
+  numbered-length : (r : Result) → Makes r → Refuses P (bytesNeeded (bytesOf r))
+  unfolding Refuses bytesNeeded
+  numbered-length (Made l) h = tt
+  numbered-length (No n) h = h
+
+  -- the check's; where it is written, then 14
+  pub list-numbers : (k : ℕ) (m : List ℕ) (w : ℕ) → P 14 → Refuses P (mapChecked (checkOf m w)) → Refuses P (bytesWritten (answerOf (within k (listOf m w))))
+  unfolding listOf
+  list-numbers k m w short h = bytes-numbers k (listOf m w) short (list-as m (checkOf m w) h)
+
+  pub length-numbers : (m : List ℕ) (w : ℕ) → Refuses P (mapChecked (checkOf m w)) → Refuses P (bytesNeeded (neededOf m w))
+  unfolding listOf
+  length-numbers m w h = numbered-length (listOf m w) (list-as m (checkOf m w) h)
+
   -- the check's, then 14
   pub unpack-numbers : (k : ℕ) (m : List ℕ) (w : ℕ) → P 14 → Refuses P (mapChecked (checkOf m w)) → Refuses P (bytesWritten (answerOf (within k (unpackOf m w))))
   unfolding unpackOf
@@ -159,6 +179,13 @@ module _ (P : ℕ → Type 0) where
 pub unpack-written : (k : ℕ) (m : List ℕ) (w : ℕ) → Counted (bytesWritten (answerOf (within k (unpackOf m w))))
 unpack-written k m w =
     counted _ (unpack-numbers (λ n. 0 < n) k m w (omega arith) (map-numbers (λ n. 0 < n) (λ n l h. omega arith) m w (omega arith)))
+
+pub list-written : (k : ℕ) (m : List ℕ) (w : ℕ) → Counted (bytesWritten (answerOf (within k (listOf m w))))
+list-written k m w =
+    counted _ (list-numbers (λ n. 0 < n) k m w (omega arith) (map-numbers (λ n. 0 < n) (λ n l h. omega arith) m w (omega arith)))
+
+pub list-needed : (m : List ℕ) (w : ℕ) → Counted (bytesNeeded (neededOf m w))
+list-needed m w = counted _ (length-numbers (λ n. 0 < n) m w (map-numbers (λ n. 0 < n) (λ n l h. omega arith) m w (omega arith)))
 
 pub pack-written : (k : ℕ) (rs : List ℕ) → Counted (bytesWritten (answerOf (within k (packOf rs))))
 pack-written k rs = counted _ (pack-numbers (λ n. 0 < n) (omega arith) (omega arith) (omega arith) k rs (omega arith))

@@ -1,4 +1,4 @@
--- The numbers that check, walk, unpack and pack hand out (document 01, Check, Walk, Unpack and pack).
+-- The numbers that check, walk, unpack and pack hand out (document 01, Check, Walk, Unpack and pack), and the listing (document 02, CR 1).
 -- Assumes nothing.
 use Prim.Native.Nat.{ℕ}
 use mathlib.Core.Path.{_≡_}
@@ -16,6 +16,8 @@ use Rattle.asmap_walk.specs.declared.Interpreted.the-variants as walk
 use Rattle.asmap_records.specs.declared.Answer.{Answer}
 use Rattle.asmap_records.specs.declared.Answer.the-variants as records
 use Rattle.asmap_records.specs.Output.{Result, within, answerOf, leaves}
+use Rattle.asmap_list.specs.declared.Needed.{Needed}
+use Rattle.asmap_list.specs.declared.Needed.the-variants as needed
 use Rattle.answers.specs.Outcome.{Outcome, Done, No, Hands}
 
 -- A map that was checked: the count of its instructions, and the greatest number of jumps open at once.
@@ -47,6 +49,11 @@ walkMade (walk.Refused n) = No n
 unfoldable pub bytesWritten : Answer → Outcome
 bytesWritten (records.Wrote n) = Done (n ∷ [])
 bytesWritten (records.Refused n) = No n
+
+-- A listing whose length was asked for: how many bytes it needs.
+unfoldable pub bytesNeeded : Needed → Outcome
+bytesNeeded (needed.Bytes n) = Done (n ∷ [])
+bytesNeeded (needed.Refused n) = No n
 
 -- A call that writes bytes to a lent output, which holds o at entry and o′ at exit. made: what the call makes, before it is known
 -- whether the output has room for it.

@@ -1,9 +1,10 @@
-// What check, walk, unpack and pack came to (document 01, Check, Walk, Unpack and pack), as numbers.
+// What check, walk, unpack and pack came to (document 01, Check, Walk, Unpack and pack), and the listing (document 02, CR 1), as numbers.
 ghost use mathlib.Core.Path.{_≡_};
 ghost use mathlib.Core.List.{_∷_, []};
 ghost use Rattle.answers.specs.Outcome.{handed};
-ghost use Rattle.answers.specs.Maps.{mapChecked, checkStopped, kindNumber, walkMade, bytesWritten};
+ghost use Rattle.answers.specs.Maps.{mapChecked, checkStopped, kindNumber, walkMade, bytesWritten, bytesNeeded};
 use asmap_check::Stopped;
+use asmap_list::Needed;
 use asmap_program::Kind;
 use asmap_program::Verdict;
 use asmap_records::Answer;
@@ -71,7 +72,7 @@ pub fn hand_walk(
     }
 }
 
-// What unpack or pack came to.
+// What unpack, pack or a listing came to.
 pub fn hand_bytes(got: Answer, written: &mut usize) -> u8
     ensures { λ r. ⌜ r ∷ now (written .exit) ∷ [] ≡ handed (bytesWritten got) (now (written .entry) ∷ []) ⌝ }
 {
@@ -81,5 +82,18 @@ pub fn hand_bytes(got: Answer, written: &mut usize) -> u8
             0
         }
         Answer::Refused(reason) => reason,
+    }
+}
+
+// What asking for a listing's length came to.
+pub fn hand_needed(got: Needed, bytes: &mut usize) -> u8
+    ensures { λ r. ⌜ r ∷ now (bytes .exit) ∷ [] ≡ handed (bytesNeeded got) (now (bytes .entry) ∷ []) ⌝ }
+{
+    match got {
+        Needed::Bytes(wanted) => {
+            *bytes = wanted;
+            0
+        }
+        Needed::Refused(reason) => reason,
     }
 }

@@ -1,13 +1,16 @@
-// Check, walk, unpack and pack (document 01, Check, Walk, Unpack and pack).
+// Check, walk, unpack and pack (document 01, Check, Walk, Unpack and pack); the listing (document 02, CR 1).
 ghost use mathlib.Core.List.{_∷_, []};
 ghost use Rattle.asmap_check.specs.Check.{checkOf, stoppedOf};
 ghost use Rattle.asmap_walk.specs.Interpret.{interpretOf};
 ghost use Rattle.asmap_records.specs.Unpack.{unpackOf};
 ghost use Rattle.asmap_records.specs.Pack.{packOf};
+ghost use Rattle.asmap_list.specs.List.{listOf, neededOf};
+ghost use Rattle.asmap_list.specs.Promise.{Covers};
 ghost use Rattle.answers.specs.Outcome.{Hands};
-ghost use Rattle.answers.specs.Maps.{mapChecked, checkStopped, walkMade, Writes};
+ghost use Rattle.answers.specs.Maps.{mapChecked, checkStopped, walkMade, bytesNeeded, Writes};
 ghost use Rattle.answers.specs.Promise.{Demand3, CoreVerdict, CoreNumber};
 use answers::maps::hand_bytes;
+use answers::maps::hand_needed;
 use answers::maps::hand_stop;
 use answers::maps::hand_verdict;
 use answers::maps::hand_walk;
@@ -72,4 +75,22 @@ pub extern "C" fn corbastrigo_pack(records: &[u8], out: &mut [u8], written: &mut
     ensures { λ r. ⌜ Writes (packOf (now (records .entry))) (now (out .entry)) (now (out .exit)) r (now (written .entry) ∷ []) (now (written .exit) ∷ []) ⌝ }
 {
     hand_bytes(asmap_pack::pack(records, out), written)
+}
+
+// Lists every prefix that a map tells apart, as records of 24 bytes, of a map that the check accepts. Every address lies in just one of them, and
+// that one has the number of its walk. Refusals: the check's, 1 to 10, then 14.
+#[no_mangle]
+pub extern "C" fn corbastrigo_list(map: &[u8], out: &mut [u8], written: &mut usize) -> u8
+    ensures { λ r. ⌜ Writes (listOf (now (map .entry)) 128) (now (out .entry)) (now (out .exit)) r (now (written .entry) ∷ []) (now (written .exit) ∷ []) ⌝ }
+    ensures covers { λ r. ⌜ Covers (now (map .entry)) 128 ⌝ }
+{
+    hand_bytes(asmap_list::list(map, out), written)
+}
+
+// Says how many bytes the listing of a map needs. Refusals: the check's, 1 to 10.
+#[no_mangle]
+pub extern "C" fn corbastrigo_list_bytes(map: &[u8], bytes: &mut usize) -> u8
+    ensures { λ r. ⌜ Hands (bytesNeeded (neededOf (now (map .entry)) 128)) r (now (bytes .entry) ∷ []) (now (bytes .exit) ∷ []) ⌝ }
+{
+    hand_needed(asmap_list::list_bytes(map), bytes)
 }
