@@ -1,3 +1,4 @@
 pub mod TilingLaws
+pub mod PlaceLaws
 pub mod RecordLaws
 pub mod CursorLaws
