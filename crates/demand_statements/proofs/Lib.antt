@@ -4,6 +4,8 @@ pub mod TripLaws
 pub mod MapAnswers
 pub mod WalkLaws
 pub mod RecordAnswers
+pub mod ListBytes
+pub mod ListAnswers
 pub mod CandidateLaws
 pub mod PickLaws
 pub mod PickAnswers

@@ -38,7 +38,7 @@ use Rattle.demand_statements.proofs.TripLaws.{wrote, no-room, left-alon
 
 -- ---- the check
 
-at-most-10 : {r : ℕ} → (r ≡ 0) ⊎ (r ≤ 10) → r ≤ 10
+pub at-most-10 : {r : ℕ} → (r ≡ 0) ⊎ (r ≤ 10) → r ≤ 10
 at-most-10 (inl z) = omega arith
 at-most-10 (inr l) = l
 
@@ -150,7 +150,7 @@ walks m a h =
 
 -- ---- unpack and pack
 
-check-or-14 : {r : ℕ} → (r ≡ 0) ⊎ ((r ≤ 10) ⊎ (r ≡ 14)) → (r ≤ 10) ⊎ (r ≡ 14)
+pub check-or-14 : {r : ℕ} → (r ≡ 0) ⊎ ((r ≤ 10) ⊎ (r ≡ 14)) → (r ≤ 10) ⊎ (r ≡ 14)
 check-or-14 (inl z) = inl (omega arith)
 check-or-14 (inr k) = k
 

@@ -53,7 +53,7 @@ pub record WritesInstruction (opcode operand r : ℕ) (entry exit : List ℕ) : 
   pub out-of-range : (operand < leastOperand opcode) ⊎ (greatestOperand opcode < operand) → r ≡ 15
   pub untouched : Untouched r entry exit
 
--- ---- check, walk, unpack, pack
+-- ---- check, walk, unpack, listing, pack
 
 -- The check: 0 to 10, as the defined check says, with its count and depth where it accepts; and 1 exactly for a map that is too long.
 pub record Checks (m : List ℕ) (r : ℕ) (entry exit : List ℕ) : Type 0 where
@@ -102,6 +102,20 @@ pub record Unpacks (m o o′ : List ℕ) (r written written′ : ℕ) : Type 0 w
   pub no-room : (c d : ℕ) → checkOf m 128 ≡ Accepted c d → length o < 16 * c → r ≡ 14
   pub past : r ≡ 0 → drop written′ o′ ≡ drop written′ o
   pub untouched : r ≢ 0 → (o′ ≡ o) × (written′ ≡ written)
+
+-- The listing: the check's numbers, else 14; with which room, says `Listed`.
+pub record Lists (m o o′ : List ℕ) (r written written′ : ℕ) : Type 0 where
+  pub numbers : (r ≤ 10) ⊎ (r ≡ 14)
+  pub refused : (n : ℕ) → checkOf m 128 ≡ Refused n → r ≡ n
+  pub past : r ≡ 0 → drop written′ o′ ≡ drop written′ o
+  pub untouched : r ≢ 0 → (o′ ≡ o) × (written′ ≡ written)
+
+-- How many bytes a listing needs: 0 for every map that the check accepts, else the check's numbers.
+pub record Needs (m : List ℕ) (r : ℕ) (entry exit : List ℕ) : Type 0 where
+  pub numbers : r ≤ 10
+  pub accepted : (c d : ℕ) → checkOf m 128 ≡ Accepted c d → r ≡ 0
+  pub refused : (n : ℕ) → checkOf m 128 ≡ Refused n → r ≡ n
+  pub untouched : Untouched r entry exit
 
 -- Pack: 16 for bytes that are no whole records, and no other numbers than these.
 pub record Packs (records o o′ : List ℕ) (r written written′ : ℕ) : Type 0 where

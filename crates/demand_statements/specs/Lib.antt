@@ -2,3 +2,4 @@ pub mod AnyInput
 pub mod Walked
 pub mod Picked
 pub mod Same
+pub mod Listed

@@ -6,7 +6,7 @@ ghost use Prim.Native.Nat.{_≤_};
 ghost use lib.ListN.{length};
 ghost use Rattle.asmap_codes.specs.Core.{fileOf};
 ghost use Rattle.demand_statements.specs.Same.{CoreReads};
-ghost use Rattle.demand_statements.specs.AnyInput.{Reads, Writes, WritesInstruction, Checks, Stops, Walks, Unpacks, Packs, Filters, Relays};
+ghost use Rattle.demand_statements.specs.AnyInput.{Reads, Writes, WritesInstruction, Checks, Stops, Walks, Unpacks, Lists, Needs, Packs, Filters, Relays};
 use corbastrigo::codes::corbastrigo_decode_asn;
 use corbastrigo::codes::corbastrigo_decode_instruction;
 use corbastrigo::codes::corbastrigo_decode_jump;
@@ -20,6 +20,8 @@ use corbastrigo::codes::corbastrigo_encode_type;
 use corbastrigo::filters::corbastrigo_addrv2_skip_relay;
 use corbastrigo::filters::corbastrigo_clearnet_unroutable;
 use corbastrigo::maps::corbastrigo_interpret;
+use corbastrigo::maps::corbastrigo_list;
+use corbastrigo::maps::corbastrigo_list_bytes;
 use corbastrigo::maps::corbastrigo_pack;
 use corbastrigo::maps::corbastrigo_sanity_check;
 use corbastrigo::maps::corbastrigo_sanity_check_stop;
@@ -109,7 +111,7 @@ pub fn instruction_written(opcode: u32, operand: u32, bits: &mut u64, len: &mut 
     corbastrigo_encode_instruction(opcode, operand, bits, len)
 }
 
-// ---- any bytes are checked, walked, unpacked and packed
+// ---- any bytes are checked, walked, unpacked, listed and packed
 
 // The check.
 pub fn checked(map: &[u8], count: &mut u32, depth: &mut u8) -> u8
@@ -161,6 +163,20 @@ pub fn unpacked(map: &[u8], out: &mut [u8], written: &mut usize) -> u8
     ensures { λ r. ⌜ Unpacks (now (map .entry)) (now (out .entry)) (now (out .exit)) r (now (written .entry)) (now (written .exit)) ⌝ }
 {
     corbastrigo_unpack(map, out, written)
+}
+
+// The listing.
+pub fn listed(map: &[u8], out: &mut [u8], written: &mut usize) -> u8
+    ensures { λ r. ⌜ Lists (now (map .entry)) (now (out .entry)) (now (out .exit)) r (now (written .entry)) (now (written .exit)) ⌝ }
+{
+    corbastrigo_list(map, out, written)
+}
+
+// How many bytes a listing needs.
+pub fn list_needed(map: &[u8], bytes: &mut usize) -> u8
+    ensures { λ r. ⌜ Needs (now (map .entry)) r (now (bytes .entry) ∷ []) (now (bytes .exit) ∷ []) ⌝ }
+{
+    corbastrigo_list_bytes(map, bytes)
 }
 
 // Pack.

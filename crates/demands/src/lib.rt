@@ -1,11 +1,11 @@
-// What a caller can conclude: document 01's three demands, each said in plain numbers of functions that make the exported calls
-// (`corbastrigo_…`) as a user would. This is the page to read first for whoever doubts the rest.
+// What a caller can conclude: document 01's three demands, and document 02's requests, each said in plain numbers of functions that make the
+// exported calls (`corbastrigo_…`) as a user would. This is the page to read first for whoever doubts the rest.
 //
 // A contract here uses no definition of the project but the check (`checkOf`), the place where it stops (`stopOf`, `StopsAt`), the walk
 // (`walkOf`), the unpacked list (`unpacked`), the first pass (`firstPass`) and Core's functions (`coreCheck`, `coreInterpret`, its four
 // decoders), with how these take bytes (`mapOf`, `fileOf`, `addressBit`). All else is numbers, bytes and equations, in
 // `demand_statements/specs`. Each is proved from the contracts of the exported calls and from laws about those definitions
-// (`demand_statements/proofs`); no code below them is looked at. So what a contract there no longer says is refused here. All 22 exported
+// (`demand_statements/proofs`); no code below them is looked at. So what a contract there no longer says is refused here. All 24 exported
 // calls have a caller.
 //
 // Demand 1, any input: `any_input`, and `refused` in `picks`. Maps, addresses, lists and lengths of every kind get an answer, 0, or one
@@ -19,7 +19,11 @@
 // a difference, within 2 × bits + 1 instructions, so within 257, each of them in the unpacked list and among the bytes that unpack
 // writes. A number 0 is that of a difference before any DEFAULT was read. A pick's first pass is the defined one, with as many
 // candidates examined, and as many instructions as the defined walks of those candidates read.
+//
+// Request 1, every prefix that a map tells apart: `lists`. The records written tile all addresses, and the one in which an address lies has the
+// number of its walk. The listing itself is not named: what is said is read off the bytes.
 pub mod any_input;
+pub mod lists;
 pub mod picks;
 pub mod same;
 pub mod walks;
