@@ -19,6 +19,7 @@ pub mod error {
 pub mod codes;
 pub mod document;
 pub mod filters;
+pub mod listing;
 pub mod picks;
 pub mod records;
 
