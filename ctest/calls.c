@@ -147,6 +147,76 @@ static void records(void) {
     IS(memcmp(bytes, two_prefixes, 35), 0);
 }
 
+/* How many bytes still hold what the first lent slice held before. */
+static size_t untouched(const uint8_t *bytes, size_t len) {
+    size_t count = 0;
+    for (size_t i = 0; i < len; i++)
+        count += bytes[i] == BEFORE(1);
+    return count;
+}
+
+/* A map for each of the check's reasons: the list has them all. */
+static const struct {
+    uint8_t reason;
+    size_t len;
+    uint8_t map[37];
+} refused[] = {
+    {CORBASTRIGO_MAP_ENDS, 1, {0x01}},
+    {CORBASTRIGO_PAST_TARGET, 4, {0x01, 0xfb, 0x03, 0x00}},
+    {CORBASTRIGO_CUT, 1, {0xfb}},
+    {CORBASTRIGO_AFTER_DEFAULT, 3, {0x07, 0x00, 0x00}},
+    {CORBASTRIGO_PADDING, 3, {0x00, 0x00, 0x02}},
+    {CORBASTRIGO_NOT_AT_TARGET, 5, {0xfd, 0x71, 0x3a, 0x00, 0x00}},
+    {CORBASTRIGO_NO_BITS, 37, {0xfb, 0x03, 0xec, 0x0f, 0xb0, 0x3f, 0xc0, 0xfe, 0x00, 0xfb, 0x03, 0xec, 0x0f,
+                               0xb0, 0x3f, 0xc0, 0xfe, 0x00, 0xfb, 0x03, 0xec, 0x0f, 0xb0, 0x3f, 0xc0, 0xfe,
+                               0x00, 0xfb, 0x03, 0xec, 0x0f, 0xb0, 0x3f, 0xc0, 0xfe, 0x00, 0x01}},
+    {CORBASTRIGO_TARGETS_CROSS, 2, {0x01, 0x01}},
+    {CORBASTRIGO_SHORT_MATCHES, 4, {0x63, 0x00, 0x00, 0x00}},
+};
+
+/* What the list refuses, and that it has written nothing then. */
+static void refused_lists(void) {
+    uint8_t list[2496];
+    size_t written = BEFORE(2), bytes = BEFORE(3);
+    memset(list, BEFORE(1), sizeof list);
+    for (size_t i = 0; i < sizeof refused / sizeof *refused; i++) {
+        IS(corbastrigo_list(refused[i].map, refused[i].len, list, sizeof list, &written), refused[i].reason);
+        IS(corbastrigo_list(refused[i].map, refused[i].len, list, 0, &written), refused[i].reason);
+        IS(corbastrigo_list_bytes(refused[i].map, refused[i].len, &bytes), refused[i].reason);
+    }
+    IS(corbastrigo_list(too_long, sizeof too_long, list, sizeof list, &written), CORBASTRIGO_MAP_TOO_LONG);
+    IS(corbastrigo_list_bytes(too_long, sizeof too_long, &bytes), CORBASTRIGO_MAP_TOO_LONG);
+    IS(corbastrigo_list(two_prefixes, 35, list, 2495, &written), CORBASTRIGO_OUTPUT_TOO_SHORT);
+    IS(untouched(list, sizeof list), sizeof list);
+    IS(written, BEFORE(2));
+    IS(bytes, BEFORE(3));
+}
+
+/* The seventeenth and eighteenth prefix of the map are those with a number: 0.0.0.0/7 and 2.0.0.0/7. */
+static void lists(void) {
+    static const uint8_t numbered[48] = {0, 0, 0, 0, 0, 0, 0, 0, 0, 0, 0xff, 0xff, 0, 0, 0, 0, 103, 0, 0, 0, 1, 0, 0, 0,
+                                         0, 0, 0, 0, 0, 0, 0, 0, 0, 0, 0xff, 0xff, 2, 0, 0, 0, 103, 0, 0, 0, 2, 0, 0, 0};
+    static const uint8_t whole[24] = {0, 0, 0, 0, 0, 0, 0, 0, 0, 0, 0, 0, 0, 0, 0, 0, 0, 0, 0, 0, 1, 0, 0, 0};
+    uint8_t list[2500];
+    size_t written = BEFORE(2), bytes = BEFORE(3);
+    memset(list, BEFORE(1), sizeof list);
+    IS(corbastrigo_list_bytes(lone_return, 3, &bytes), 0);
+    IS(bytes, CORBASTRIGO_PREFIX_RECORD_BYTES);
+    IS(corbastrigo_list(lone_return, 3, list, 24, &written), 0);
+    IS(written, 24);
+    IS(memcmp(list, whole, 24), 0);
+    IS(untouched(list + 24, sizeof list - 24), sizeof list - 24);
+    IS(corbastrigo_list_bytes(two_prefixes, 35, &bytes), 0);
+    IS(bytes, 2496);
+    IS(corbastrigo_list(two_prefixes, 35, list, sizeof list, &written), 0);
+    IS(written, 2496);
+    IS(list[16], 81);
+    IS(memcmp(list + 16 * 24, numbered, 48), 0);
+    IS(list[103 * 24], 0x80);
+    IS(list[103 * 24 + 16], 1);
+    IS(untouched(list + 2496, 4), 4);
+}
+
 static void groups(void) {
     uint8_t peer[20];
     uint64_t group = BEFORE(1);
@@ -237,6 +307,8 @@ int main(void) {
     stop();
     walk();
     records();
+    refused_lists();
+    lists();
     groups();
     pick(corbastrigo_select_diverse, CORBASTRIGO_MAP_ENDS);
     pick(corbastrigo_select_diverse_unchecked, 0);

@@ -38,6 +38,8 @@ static void long_map(size_t len) {
     IS(corbastrigo_sanity_check_stop(barred, len, &small, &size), CORBASTRIGO_MAP_TOO_LONG);
     IS(corbastrigo_interpret(barred, len, barred, 16, &small, &number, &count, &other), CORBASTRIGO_MAP_TOO_LONG);
     IS(corbastrigo_unpack(barred, len, barred, 16, &size), CORBASTRIGO_MAP_TOO_LONG);
+    IS(corbastrigo_list(barred, len, barred, 24, &size), CORBASTRIGO_MAP_TOO_LONG);
+    IS(corbastrigo_list_bytes(barred, len, &size), CORBASTRIGO_MAP_TOO_LONG);
     IS(corbastrigo_netgroup(peer, 20, 1, barred, len, &group), CORBASTRIGO_MAP_TOO_LONG);
     IS(corbastrigo_netgroup_unchecked(peer, 20, 1, barred, len, &group), CORBASTRIGO_MAP_TOO_LONG);
     for (size_t i = 0; i < 2; i++)
@@ -84,6 +86,8 @@ static void refused_lengths(void) {
     IS(corbastrigo_unpack(two_prefixes, 35, barred, 255, &size), CORBASTRIGO_OUTPUT_TOO_SHORT);
     IS(corbastrigo_unpack(two_prefixes, 35, list, 256, &size), 0);
     IS(corbastrigo_pack(list, 256, barred, 34, &size), CORBASTRIGO_OUTPUT_TOO_SHORT);
+    IS(corbastrigo_list(two_prefixes, 35, barred, 2495, &size), CORBASTRIGO_OUTPUT_TOO_SHORT);
+    IS(corbastrigo_list(lone_jump, 1, barred, 24, &size), CORBASTRIGO_MAP_ENDS);
 }
 
 /* Without a map the map is not looked at. */
@@ -111,6 +115,10 @@ static void empty_lists(void) {
     IS(corbastrigo_unpack(NULL, 0, NULL, 0, &size), CORBASTRIGO_MAP_ENDS);
     IS(corbastrigo_unpack(two_prefixes, 35, NULL, 0, &size), CORBASTRIGO_OUTPUT_TOO_SHORT);
     IS(corbastrigo_pack(NULL, 0, NULL, 0, &size), 0);
+    IS(size, 0);
+    IS(corbastrigo_list(NULL, 0, NULL, 0, &size), CORBASTRIGO_MAP_ENDS);
+    IS(corbastrigo_list(two_prefixes, 35, NULL, 0, &size), CORBASTRIGO_OUTPUT_TOO_SHORT);
+    IS(corbastrigo_list_bytes(NULL, 0, &size), CORBASTRIGO_MAP_ENDS);
     IS(size, 0);
     IS(corbastrigo_prefix_group(NULL, 0, &group), CORBASTRIGO_CANDIDATE);
     IS(corbastrigo_netgroup(NULL, 0, 0, NULL, 0, &group), CORBASTRIGO_CANDIDATE);

@@ -12,7 +12,7 @@
 #define OF_A_PICK CORBASTRIGO_PICK_STACK_BYTES
 #define OF_OTHERS CORBASTRIGO_STACK_BYTES
 
-static uint8_t peers[20 * CORBASTRIGO_MAX_CANDIDATES], list[256], bytes[35], small, other, answer;
+static uint8_t peers[20 * CORBASTRIGO_MAX_CANDIDATES], records[256], bytes[35], prefixes[2496], small, other, answer;
 static uint64_t occupied[CORBASTRIGO_MAX_CANDIDATES], taken[CORBASTRIGO_MAX_CANDIDATES], wide;
 static uint16_t places[CORBASTRIGO_MAX_CANDIDATES];
 static uint32_t number, count;
@@ -40,8 +40,10 @@ static const uint8_t embedded[16] = {0, 0x64, 0xff, 0x9b, 0, 1, 0, 0, 0, 0, 0, 0
     call(sanity_check, OF_OTHERS, (MAP, &count, &small))                                                                               \
     call(sanity_check_stop, OF_OTHERS, (MAP, &small, &size))                                                                           \
     call(interpret, OF_OTHERS, (MAP, peers + 2, 16, &small, &number, &count, &other))                                                  \
-    call(unpack, OF_OTHERS, (MAP, list, sizeof list, &size))                                                                           \
-    call(pack, OF_OTHERS, (list, sizeof list, bytes, sizeof bytes, &size))                                                             \
+    call(unpack, OF_OTHERS, (MAP, records, sizeof records, &size))                                                                     \
+    call(pack, OF_OTHERS, (records, sizeof records, bytes, sizeof bytes, &size))                                                       \
+    call(list, OF_OTHERS, (MAP, prefixes, sizeof prefixes, &size))                                                                     \
+    call(list_bytes, OF_OTHERS, (MAP, &size))                                                                                          \
     call(prefix_group, OF_OTHERS, (peers, 20, &wide))                                                                                  \
     call(netgroup, OF_OTHERS, (peers, 20, 1, MAP, &wide))                                                                              \
     call(netgroup_unchecked, OF_OTHERS, (peers, 20, 1, MAP, &wide))                                                                    \

@@ -102,6 +102,7 @@ CORBASTRIGO_INLINE const char *corbastrigo_reason(uint8_t answer) {
 #define CORBASTRIGO_ADDRESS_BYTES 16
 #define CORBASTRIGO_CANDIDATE_BYTES 20
 #define CORBASTRIGO_RECORD_BYTES 16
+#define CORBASTRIGO_PREFIX_RECORD_BYTES 24
 
 /* More stack than a call takes, and than a pick takes. */
 #define CORBASTRIGO_STACK_BYTES 2048
@@ -165,6 +166,17 @@ uint8_t corbastrigo_unpack(const uint8_t *map, size_t map_len, uint8_t *out, siz
 /* Writes the map that records list, with zeros to the end of its last byte; no records make no bytes. Runs no check. Writes the bytes
  * written; those behind them remain. Refusals 16 for the length; for each record 15, 16, 1; then 14. */
 uint8_t corbastrigo_pack(const uint8_t *records, size_t records_len, uint8_t *out, size_t out_len, size_t *written);
+
+/* Lists every prefix that an accepted map tells apart, with its number, as records of 24 bytes: 16 address bytes with zeros past the
+ * prefix, the prefix's length in bits, 0 to 128 (1 byte), three zeros, the number, little-endian (4). Each RETURN gives a record; each bit
+ * of a MATCH gives one for the side that differs, with the default of that path, 0 until one is met. Records rise by address and are not
+ * joined: every address lies in just one, and that one carries the number of its walk. IPv4 stands under ::ffff:0:0/96, so that its
+ * lengths are 96 more. `out` needs as many bytes as corbastrigo_list_bytes says. Writes the bytes written; those behind them remain.
+ * Refusals: the check's, then 14. */
+uint8_t corbastrigo_list(const uint8_t *map, size_t map_len, uint8_t *out, size_t out_len, size_t *written);
+
+/* How many bytes the list of a map's prefixes has: 24 for each. Refusals: the check's. */
+uint8_t corbastrigo_list_bytes(const uint8_t *map, size_t map_len, size_t *bytes);
 
 /* ---- Groups and picks. A candidate is 20 bytes: family 4 or 6, a zero, 16 address bytes (family 4: in the mapped form), the port
  * big-endian. `has_map` 0 is without a map: then `map` is not looked at (hand over NULL and 0), and a group is the prefix of the

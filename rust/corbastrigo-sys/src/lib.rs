@@ -86,6 +86,10 @@ extern "C" {
     pub fn corbastrigo_unpack(map: *const u8, map_len: usize, out: *mut u8, out_len: usize, written: *mut usize) -> u8;
     /// Writes the map that records list. Runs no check.
     pub fn corbastrigo_pack(records: *const u8, records_len: usize, out: *mut u8, out_len: usize, written: *mut usize) -> u8;
+    /// Lists every prefix that an accepted map tells apart, with its number, as records of 24 bytes.
+    pub fn corbastrigo_list(map: *const u8, map_len: usize, out: *mut u8, out_len: usize, written: *mut usize) -> u8;
+    /// How many bytes that list has.
+    pub fn corbastrigo_list_bytes(map: *const u8, map_len: usize, bytes: *mut usize) -> u8;
     /// The group of a candidate without a map.
     pub fn corbastrigo_prefix_group(candidate: *const u8, candidate_len: usize, group: *mut u64) -> u8;
     /// The group of a candidate; a map is checked first.
