@@ -78,7 +78,9 @@ pub fn list(map: &[u8]) -> Result<Vec<Prefix>, Refusal> {
 }
 
 pub fn records(prefixes: &[Prefix]) -> Vec<u8> {
-    prefixes.iter().flat_map(|prefix| prefix.record()).collect()
+    let mut bytes = Vec::with_capacity(RECORD * prefixes.len());
+    prefixes.iter().for_each(|prefix| bytes.extend_from_slice(&prefix.record()));
+    bytes
 }
 
 /// The one of a listing that an address lies in: the last that does not begin behind it.

@@ -72,6 +72,16 @@ pub fn pack(list: &[u8], room: usize) -> (u8, usize, Vec<u8>) {
     records(sys::corbastrigo_pack, list, room)
 }
 
+pub fn list(map: &[u8], room: usize) -> (u8, usize, Vec<u8>) {
+    records(sys::corbastrigo_list, map, room)
+}
+
+pub fn list_bytes(map: &[u8]) -> (u8, usize) {
+    let mut bytes = BEFORE_SIZE;
+    let answer = unsafe { sys::corbastrigo_list_bytes(map.as_ptr(), map.len(), &mut bytes) };
+    (answer, bytes)
+}
+
 pub fn prefix_group(candidate: &[u8]) -> (u8, u64) {
     let mut group = BEFORE64;
     let answer = unsafe { sys::corbastrigo_prefix_group(candidate.as_ptr(), candidate.len(), &mut group) };

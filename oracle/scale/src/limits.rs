@@ -1,9 +1,9 @@
 //! The limits: maps of 16,777,216 bytes and of one more through every call that takes one, records that pack to the limit and past it,
 //! 4,096 and 4,097 candidates and occupied groups.
 use crate::calls::{self, BEFORE, BEFORE32, BEFORE64, BEFORE_SIZE};
-use crate::programs::{known, walks};
+use crate::programs::{known, walks, Known};
 use crate::tally::Tally;
-use crate::{codes, picks, Form};
+use crate::{codes, listing, picks, Form};
 use corbastrigo_sys as sys;
 use maps::{shapes, Random};
 use oracle::document::Verdict;
@@ -33,6 +33,9 @@ fn one_too_many(tally: &mut Tally, map: &[u8]) {
     tally.same("walk", &HUGE, calls::interpret(map, &[0; 16]), (1, BEFORE, BEFORE32, BEFORE32, BEFORE));
     tally.same("walk", &HUGE, calls::interpret(map, &[0; 15]), (11, BEFORE, BEFORE32, BEFORE32, BEFORE));
     tally.same("unpack", &HUGE, calls::unpack(map, 64), (1, BEFORE_SIZE, vec![BEFORE; 64]));
+    tally.same("list", &HUGE, calls::list(map, 64), (1, BEFORE_SIZE, vec![BEFORE; 64]));
+    tally.same("list", &HUGE, calls::list(map, 0), (1, BEFORE_SIZE, vec![]));
+    tally.same("bytes of a list", &HUGE, calls::list_bytes(map), (1, BEFORE_SIZE));
     let mut candidate = [0; 20];
     candidate[0] = 6;
     let (checked, unchecked) = (sys::corbastrigo_netgroup, sys::corbastrigo_netgroup_unchecked);
@@ -44,6 +47,14 @@ fn one_too_many(tally: &mut Tally, map: &[u8]) {
     picks::all_ways(tally, &candidate, &[], 1, map, [1, 0]);
 }
 
+/// The listing of the greatest map; in the long form the original walks to both ends of every prefix.
+fn greatest_list(tally: &mut Tally, random: &mut Random, whole: &Known, form: Form) {
+    listing::list(tally, whole);
+    let prefixes = listing::prefixes(whole);
+    listing::edges(tally, whole, &prefixes, form.choose(997, 1));
+    listing::drawn(tally, random, whole, &prefixes, form.choose(100, 10_000));
+}
+
 /// A map of exactly the limit, accepted to its last byte, and copies that lost a byte or have a wrong last one.
 fn greatest(tally: &mut Tally, random: &mut Random, form: Form) {
     let mut map = shapes::exactly(random, LIMIT);
@@ -52,14 +63,19 @@ fn greatest(tally: &mut Tally, random: &mut Random, form: Form) {
     assert!(matches!(whole.verdict, Verdict::Accepted { .. }), "the greatest map is refused");
     whole.unpack(tally);
     walks(tally, random, &whole, form.choose(2, 50));
+    greatest_list(tally, random, &whole, form);
     for at in (8 * LIMIT - 64..8 * LIMIT + 2).chain([usize::MAX]) {
         codes::read_at(tally, &map, at);
     }
     let lists: Vec<u8> = (0..40).flat_map(|i| [&[6, 0, 0x20, i][..], &[0; 16]].concat()).collect();
     picks::all_ways(tally, &lists, &[], 8, &map, [8, 8]);
-    known(tally, &map[..LIMIT - 1]).walk(tally, &[0; 16]);
+    let cut = known(tally, &map[..LIMIT - 1]);
+    cut.walk(tally, &[0; 16]);
+    listing::list(tally, &cut);
     map[LIMIT - 1] ^= 0x80;
-    known(tally, &map).walk(tally, &[255; 16]);
+    let spoiled = known(tally, &map);
+    spoiled.walk(tally, &[255; 16]);
+    listing::list(tally, &spoiled);
     map[LIMIT - 1] ^= 0x80;
     map.push(0);
     one_too_many(tally, &map);

@@ -1,4 +1,4 @@
-//! The library's calls, through the archive, against the original and, where it has no say, document 01 worked through on its decoders
+//! The library's calls, through the archive, against the original and, where it has no say, documents 01 and 02 worked through on its decoders
 //! (package `oracle`). Every result of a call is compared: the answer, each number and each place that was lent, written or not. A call
 //! is one comparison.
 //!
@@ -7,6 +7,7 @@ mod calls;
 mod codes;
 mod filters;
 mod limits;
+mod listing;
 mod picks;
 mod programs;
 mod safe;

@@ -1,8 +1,7 @@
-//! Maps: check, walk, unpack and pack, groups.
+//! Maps: check, walk, unpack and pack, listings, groups.
 use crate::calls::{self, BEFORE, BEFORE32, BEFORE64, BEFORE_SIZE};
-use crate::codes;
 use crate::tally::Tally;
-use crate::Form;
+use crate::{codes, listing, Form};
 use corbastrigo_sys as sys;
 use maps::{shapes, Random};
 use oracle::asmap::{self, AsMap};
@@ -18,7 +17,7 @@ pub fn number(refusal: Refusal) -> u8 {
 pub struct Known<'a> {
     pub map: &'a [u8],
     pub verdict: Verdict,
-    original: AsMap,
+    pub original: AsMap,
 }
 
 /// The original's map of any bytes, past its check, so that its walk has a say on refused maps too: a struct of one field has the bytes
@@ -91,7 +90,7 @@ impl Known<'_> {
 }
 
 /// What a call that writes bytes leaves behind in an output of `room` bytes.
-fn left(made: &Result<Vec<u8>, Refusal>, room: usize) -> (u8, usize, Vec<u8>) {
+pub fn left(made: &Result<Vec<u8>, Refusal>, room: usize) -> (u8, usize, Vec<u8>) {
     let mut out = vec![BEFORE; room];
     match made {
         Err(reason) => (number(*reason), BEFORE_SIZE, out),
@@ -108,6 +107,7 @@ fn short_string(tally: &mut Tally, random: &mut Random, map: &[u8]) {
     known.walk(tally, &[0; 16]);
     known.walk(tally, &[255; 16]);
     known.walk(tally, &random.address());
+    listing::list(tally, &known);
 }
 
 /// All byte strings up to 2 bytes, with every code at every bit; of 3 bytes one in 31, or all. The step is odd, so that the first bits,
@@ -132,6 +132,7 @@ pub fn random_bytes(tally: &mut Tally, random: &mut Random, form: Form) {
         let map = random.bytes(length);
         let known = known(tally, &map);
         known.walk(tally, &random.address());
+        listing::list(tally, &known);
         let tail = random.below(24) as usize;
         let wrong: Vec<u8> = random.bytes(tail);
         if wrong.len() != 16 {
@@ -233,13 +234,23 @@ pub fn trees(tally: &mut Tally, random: &mut Random, form: Form) {
         assert!(matches!(whole.verdict, Verdict::Accepted { .. }), "a tree is refused: {map:02x?}");
         whole.unpack(tally);
         walks(tally, random, &whole, 8);
+        listed(tally, random, &whole);
         for copy in damaged(&map, random) {
             let known = known(tally, &copy);
             known.walk(tally, &random.address());
             known.walk(tally, &followed(&copy, random));
             known.unpack(tally);
+            listing::list(tally, &known);
         }
     }
+}
+
+/// The listing of an accepted map, and every prefix of it by the original's walk.
+fn listed(tally: &mut Tally, random: &mut Random, known: &Known) {
+    listing::list(tally, known);
+    let prefixes = listing::prefixes(known);
+    listing::edges(tally, known, &prefixes, 1);
+    listing::drawn(tally, random, known, &prefixes, 8);
 }
 
 /// Lists of records, right, damaged, and of any instructions.
