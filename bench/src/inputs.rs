@@ -31,6 +31,12 @@ pub fn maps() -> Vec<(String, Vec<u8>)> {
     maps
 }
 
+/// Two more for the listing, since real maps of 1.6 MB have about 850,000 prefixes: one of that size and one of about that many prefixes.
+pub fn listed() -> [(String, Vec<u8>); 2] {
+    let (joined, real) = (shapes::exactly(&mut Random(SEED), 1_600_000), real(2_800_000));
+    [(format!("trees joined, {} bytes", joined.len()), joined), (format!("real, {} bytes", real.len()), real)]
+}
+
 pub fn ipv4(random: &mut Random) -> Ipv4Addr {
     Ipv4Addr::from(random.next() as u32)
 }

@@ -2,8 +2,9 @@
 //! in docs/BENCHMARKS.md.
 //!
 //!     bench                     every part
-//!     bench PART...             some of: check walk records codes group pick filters growth
-//!     bench --count CALL BYTES  one call of ours alone, many times, for a tool that counts instructions: check, walk, unpack or pack
+//!     bench PART...             some of: check walk records list codes group pick filters growth
+//!     bench --count CALL BYTES  one call of ours alone, many times, for a tool that counts instructions: check, walk, unpack,
+//!                               pack or list
 #[allow(dead_code)]
 #[path = "../../../shared/docs/src/crates/rbitcoin-net/src/asmap.rs"]
 mod asmap;
@@ -33,13 +34,14 @@ fn main() {
     if let ["--count", call, bytes] = words[..] {
         return parts::count(call, bytes.parse().expect("a number of bytes"));
     }
-    let all = ["check", "walk", "records", "codes", "group", "pick", "filters", "growth"];
+    let all = ["check", "walk", "records", "list", "codes", "group", "pick", "filters", "growth"];
     let chosen = if words.is_empty() { &all[..] } else { &words };
     for part in chosen {
         match *part {
             "check" => parts::check(),
             "walk" => parts::walk(),
             "records" => parts::records(),
+            "list" => parts::list(),
             "codes" => parts::codes(),
             "group" => parts::group(),
             "pick" => parts::pick(),

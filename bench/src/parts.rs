@@ -96,6 +96,54 @@ pub fn records() {
     }
 }
 
+fn ours_list_bytes(map: &[u8]) -> usize {
+    let mut bytes = 0;
+    let answer = unsafe { sys::corbastrigo_list_bytes(map.as_ptr(), map.len(), &mut bytes) };
+    assert_eq!(answer, 0, "the shapes are accepted");
+    bytes
+}
+
+fn ours_list(map: &[u8], out: &mut [u8]) -> usize {
+    let mut written = 0;
+    let answer = unsafe { sys::corbastrigo_list(map.as_ptr(), map.len(), out.as_mut_ptr(), out.len(), &mut written) };
+    assert_eq!(answer, 0, "accepted, with room");
+    written
+}
+
+/// Before times are taken: records, one in a thousand at most, say of their first address what the original's walk says.
+fn held(map: &[u8], out: &[u8]) {
+    let original = AsMap::from_bytes(map.to_vec()).expect("the shapes are accepted");
+    for record in out.chunks(24).step_by(1 + out.len() / 24_000) {
+        let address: [u8; 16] = record[..16].try_into().expect("16 bytes");
+        assert_eq!(record[20..], original.interpret_ip16(&address).to_le_bytes());
+    }
+}
+
+/// The original has neither call; the check, which both run first, stands beside them and is timed in turn with each.
+pub fn list() {
+    println!("\n### List of prefixes and its bytes, beside the check (the original has neither)\n");
+    println!(
+        "| input | list, ns a record | list / check, of best | median | list, MB of map a second | bytes needed, ns a record \
+         | bytes needed / check, of best | median |\n|---|---|---|---|---|---|---|---|"
+    );
+    for (name, map) in inputs::maps().into_iter().chain(inputs::listed()) {
+        // Ones, since pages of zeros are only made when they are written to, which would be while times are taken.
+        let mut out = vec![1; ours_list_bytes(&map)];
+        ours_list(&map, &mut out);
+        held(&map, &out);
+        let count = out.len() as f64 / 24.0;
+        let list = both(|| keep(ours_list(black_box(&map), &mut out)), || keep(ours_check(black_box(&map))));
+        let needed = both(|| keep(ours_list_bytes(black_box(&map))), || keep(ours_check(black_box(&map))));
+        let (time, rate) = (best(&list.ours), map.len() as f64 / best(&list.ours) * 1e3);
+        let ([ratio, median, ..], [fewer, middle, ..]) = (list.ratios(), needed.ratios());
+        println!(
+            "| {name}, {count} records | {:.2} | {ratio:.2} | {median:.2} | {rate:.0} | {:.2} | {fewer:.2} | {middle:.2} |",
+            time / count,
+            best(&needed.ours) / count
+        );
+    }
+}
+
 /// Every code of a map, read one by one. The original's writers do not exist in a release build.
 pub fn codes() {
     head("Reading codes, one call each", "ns a code");
@@ -288,6 +336,13 @@ pub fn growth() {
         let time = best(&alone(|| keep(ours_check(black_box(&map)))));
         println!("| check | {} bytes | {:.0} us | {:.2} ns a byte |", map.len(), time / 1e3, time / map.len() as f64);
     }
+    for bytes in [16_000, 64_000, 256_000, 1_000_000, 4_000_000, 16_000_000] {
+        let map = inputs::real(bytes);
+        let mut out = vec![1; ours_list_bytes(&map)];
+        let count = out.len() as f64 / 24.0;
+        let time = best(&alone(|| keep(ours_list(black_box(&map), &mut out))));
+        println!("| list | {count} records, {} bytes | {:.0} us | {:.2} ns a record |", map.len(), time / 1e3, time / count);
+    }
     for (count, taken) in [(512, 512), (1_024, 1_024), (2_048, 2_048), (4_096, 4_096)] {
         let ranked = inputs::candidates(count);
         // Groups that no candidate has, so that every one of them is compared.
@@ -316,6 +371,10 @@ pub fn count(call: &str, bytes: usize) {
         "check" => keep(ours_check(&map)),
         "unpack" => keep(unpacked(&map, &mut records)),
         "pack" => keep(corbastrigo::pack_into(&records, &mut out)),
+        "list" => {
+            let mut prefixes = vec![1; ours_list_bytes(&map)];
+            println!("list: {} records", ours_list(&map, &mut prefixes) / 24);
+        }
         "walk" => {
             let addresses = inputs::addresses(0, 4_096);
             let counts: u32 = addresses.iter().map(|address| ours_walk(&map, address).1).sum();
