@@ -99,7 +99,8 @@ pub fn assert_tiling(prefixes: &[Prefix]) {
     assert_eq!(next, None, "the last prefix does not end at the last address");
 }
 
-/// Holds a listing to the original's walk: of the first and the last address of each prefix, of one drawn in it, and of some drawn anywhere.
+/// Holds a listing to the original's walk: of the first and the last address of each prefix, of one drawn in it, and of some drawn
+/// anywhere.
 pub fn hold(map: &[u8], prefixes: &[Prefix], random: &mut Random) {
     assert_tiling(prefixes);
     let original = AsMap::from_bytes(map.to_vec()).expect("a map that the check accepts");

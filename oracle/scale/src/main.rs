@@ -1,6 +1,6 @@
-//! The library's calls, through the archive, against the original and, where it has no say, documents 01 and 02 worked through on its decoders
-//! (package `oracle`). Every result of a call is compared: the answer, each number and each place that was lent, written or not. A call
-//! is one comparison.
+//! The library's calls, through the archive, against the original and, where it has no say, documents 01 and 02 worked through on its
+//! decoders (package `oracle`). Every result of a call is compared: the answer, each number and each place that was lent, written or not. A
+//! call is one comparison.
 //!
 //!     scale [--long] [--seed N]
 mod calls;

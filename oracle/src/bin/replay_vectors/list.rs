@@ -1,16 +1,18 @@
 //! The list: a method for each kind of line, which asks the original and document 01 for the answer.
 use crate::word;
+use maps::Random;
 use oracle::asmap::{self, consume_bit_le, AsMap, INVALID};
 use oracle::codes::{in_range, instruction, Row, ROWS};
 use oracle::document::{self, Refusal, Verdict, Walk};
 use oracle::filters::message;
+use oracle::listing::{self, Prefix, RECORD};
 use oracle::picks::{self, By, Groups, Pick};
 use oracle::{netaddr, records};
 use std::net::{IpAddr, Ipv4Addr, Ipv6Addr};
 use std::panic;
 
 /// The calls in the order in which the program counts them: letter and name.
-pub const CALLS: [(char, &str); 18] = [
+pub const CALLS: [(char, &str); 20] = [
     ('d', "code read"),
     ('e', "code written"),
     ('i', "instruction read"),
@@ -21,6 +23,8 @@ pub const CALLS: [(char, &str); 18] = [
     ('w', "walk"),
     ('u', "unpack"),
     ('p', "pack"),
+    ('l', "list"),
+    ('q', "bytes of a list"),
     ('n', "group by prefix"),
     ('g', "group"),
     ('h', "group, map unchecked"),
@@ -178,6 +182,19 @@ impl List {
         self.writes('p', records, records::pack(records), room);
     }
 
+    /// A line for the bytes that a listing needs, and one for each output: `rooms` says how long they are where so many bytes are needed,
+    /// or, of a map that is refused, a record's.
+    pub fn list(&mut self, map: &[u8], rooms: fn(usize) -> Vec<usize>) -> Result<Vec<Prefix>, Refusal> {
+        let listed = listed(map);
+        let made = listed.as_ref().map(|prefixes| listing::records(prefixes)).map_err(|&reason| reason);
+        let needed = made.as_ref().map(|bytes| bytes.len().to_le_bytes().to_vec()).map_err(|&reason| reason);
+        self.add('q', &[map, &answered(&needed)]);
+        for room in rooms(made.as_ref().map_or(RECORD, Vec::len)) {
+            self.writes('l', map, made.clone(), room);
+        }
+        listed
+    }
+
     // ---- peers
 
     pub fn prefix_group(&mut self, candidate: &[u8]) {
@@ -267,6 +284,13 @@ fn walked(map: &[u8], address: &[u8; 16]) -> Walk {
         assert_ne!(walk.kind, "abort", "{address:?} by {map:?}");
     }
     walk
+}
+
+/// Of a map that is accepted the prefixes are held to the original's walk, by addresses that are the same in every run.
+fn listed(map: &[u8]) -> Result<Vec<Prefix>, Refusal> {
+    let prefixes = listing::list(map)?;
+    listing::hold(map, &prefixes, &mut Random(map.len() as u64));
+    Ok(prefixes)
 }
 
 fn has_map(by: By) -> u8 {

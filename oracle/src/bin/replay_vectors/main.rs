@@ -1,6 +1,6 @@
 //! The answers that the program `replay_vectors` works through: with `--list` the list that it reads (crates/replay_vectors/stdin), with
 //! `--table NAME` a table of docs/tables, with `--tables` the names of those, and without a word what the program prints
-//! (crates/replay_vectors/stdout). The answers are the original's and, where it has no say, document 01's.
+//! (crates/replay_vectors/stdout). The answers are the original's and, where it has no say, those of documents 01 and 02.
 //!
 //! # The list
 //!
@@ -29,6 +29,8 @@
 //!     w MAP ADDRESS ANSWER               walk: kind of end (1: RETURN 1, difference 2, abort 3), number (4), count (4), bits (1)
 //!     u MAP ANSWER RECORDS               unpack: bytes written (4)
 //!     p RECORDS ANSWER MAP               pack: bytes written (4)
+//!     l MAP ANSWER PREFIXES              list: bytes written (4)
+//!     q MAP ANSWER                       bytes of a list: how many (8)
 //!     n CANDIDATE ANSWER                 group by prefix: group (8)
 //!     g HAS CANDIDATE MAP ANSWER         group (8). HAS is 1 with a map, and 0 without, where the map is not to be looked at
 //!     h HAS CANDIDATE MAP ANSWER         the same with a map that is not checked
@@ -47,6 +49,7 @@
 mod addresses;
 mod codes;
 mod list;
+mod listings;
 mod peers;
 mod programs;
 mod sample;
@@ -68,6 +71,7 @@ fn main() {
     let (mut list, mut tables) = (List::default(), Tables::new());
     codes::cases(&mut list, &mut tables);
     programs::cases(&mut list, &mut tables);
+    listings::cases(&mut list, &mut tables);
     peers::cases(&mut list, &mut tables);
     addresses::cases(&mut list, &mut tables);
     sample::cases(&mut list);

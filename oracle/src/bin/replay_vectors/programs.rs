@@ -1,4 +1,4 @@
-//! Maps: the check, walks, unpack and pack. Those that are no constant of the original are built with its writers.
+//! Maps: the check, walks, unpack, pack and listings. Those that are no constant of the original are built with its writers.
 use crate::list::List;
 use crate::tables::{runs, Tables};
 use oracle::asmap::{self, pack_le, DEFAULT, JUMP, LONE_RETURN_ASMAP, LOOPBACK_ASMAP, MATCH, RETURN, TWO_PREFIX_ASMAP};
@@ -67,7 +67,7 @@ fn one(text: &str) -> Vec<bool> {
 }
 
 /// `R1`, `J17`, `M2`, `D1` are instructions, `b1` is a lone bit, and `x16` says that the next word stands 16 times.
-fn bits(text: &str) -> Vec<bool> {
+pub fn bits(text: &str) -> Vec<bool> {
     let (mut out, mut times) = (vec![], 1);
     for word in text.split_whitespace() {
         match word.strip_prefix('x') {
@@ -82,7 +82,7 @@ fn bits(text: &str) -> Vec<bool> {
 }
 
 /// So many jumps, each in the first half of the one before.
-fn nested(n: usize) -> Vec<u8> {
+pub fn nested(n: usize) -> Vec<u8> {
     pack_le(&(0..n).fold(bits("R1"), |inner, _| [instruction(JUMP, inner.len() as u32), inner, bits("R1")].concat()))
 }
 
@@ -109,7 +109,7 @@ fn both_ways(list: &mut List, map: &[u8]) {
     }
 }
 
-/// A map by a name: all four calls.
+/// A map by a name: all calls.
 fn map(list: &mut List, tables: &mut Tables, name: &str, text: &str, map: &[u8]) {
     list.heading(name);
     let verdict = match list.check(map) {
@@ -122,6 +122,7 @@ fn map(list: &mut List, tables: &mut Tables, name: &str, text: &str, map: &[u8])
         walk(list, tables, name, map, to, &address);
     }
     both_ways(list, map);
+    let _ = list.list(map, |bytes| vec![bytes, bytes - 1]);
 }
 
 fn maps(list: &mut List, tables: &mut Tables) {
@@ -190,12 +191,13 @@ fn records_of(instructions: &[(u32, u32)]) -> Vec<u8> {
     records.collect()
 }
 
-/// Packs, and unpacks what that made.
+/// Packs, and unpacks and lists what that made.
 fn back_again(list: &mut List, instructions: &[(u32, u32)]) {
     let records = records_of(instructions);
     let map = records::pack(&records).expect("records of instructions in range");
     list.pack(&records, map.len() + 1);
     list.unpack(&map, records.len() + 1);
+    let _ = list.list(&map, |bytes| vec![bytes + 1]);
 }
 
 /// An opcode with the least and the greatest operand of each size, and as few instructions after it as an accepted map has.
@@ -212,7 +214,7 @@ fn jump_over(list: &mut List, operand: u32, matches: usize, asn: u32) {
 }
 
 fn records(list: &mut List) {
-    list.heading("each opcode with both ends of each size, packed and unpacked again");
+    list.heading("each opcode with both ends of each size, packed, unpacked again and listed");
     each_size(list, RETURN, &[]);
     each_size(list, JUMP, &[(RETURN, 1), (RETURN, 1)]);
     each_size(list, MATCH, &[(RETURN, 1)]);

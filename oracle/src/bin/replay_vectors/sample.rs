@@ -18,6 +18,7 @@ fn map(list: &mut List, random: &mut Random, map: &[u8]) {
     if !records.is_empty() {
         list.pack(&records, map.len() + 3);
     }
+    let _ = list.list(map, |bytes| vec![bytes + 3]);
 }
 
 fn damaged_records(list: &mut List, random: &mut Random, map: &[u8]) {

@@ -1,7 +1,7 @@
 //! The tables that teach something, as text: docs/tables/NAME.txt.
 
 /// Each with its first lines, which say what a row holds.
-const TABLES: [(&str, &str); 7] = [
+const TABLES: [(&str, &str); 8] = [
     (
         "codes",
         "The code of the first and the last value of each size of the four rows (document 01, Codes), and of values around each row.\n\
@@ -24,6 +24,13 @@ const TABLES: [(&str, &str); 7] = [
         "Walks of maps; check.txt says what the maps are. The last lines cut a map at each of its bits: the byte of the cut is kept,\n\
          its bits from the cut on are zeros.\n\
          Map, address: how the walk ends, the number, the instructions read whole, the address bits read.",
+    ),
+    (
+        "list",
+        "Every prefix that a map tells apart (document 02, CR 1), as the listing has them; check.txt says how maps are written as text.\n\
+         A RETURN gives one record. Each bit of a MATCH gives one for the side that differs, with the default of that path, 0 until one\n\
+         is met. Records rise by address, each begins where the one before it ends, and none are joined.\n\
+         Map: the bytes that the listing needs, 24 a record, or its refusal; then each record's prefix and number.",
     ),
     (
         "groups",
