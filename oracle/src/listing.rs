@@ -67,14 +67,19 @@ fn found_at(map: &[u8], place: usize, mut under: Prefix, found: &mut Vec<Prefix>
 }
 
 /// Every prefix that an accepted map tells apart, rising by address.
-pub fn list(map: &[u8]) -> Result<Vec<Prefix>, Refusal> {
-    if let Verdict::Refused(reason) = check(map) {
-        return Err(reason);
-    }
+pub fn list_accepted(map: &[u8]) -> Vec<Prefix> {
     let mut found = vec![];
     found_at(map, 0, Prefix { first: 0, length: 0, number: 0 }, &mut found);
     found.sort_by_key(|prefix| prefix.first);
-    Ok(found)
+    found
+}
+
+/// The same of any map, or the check's refusal.
+pub fn list(map: &[u8]) -> Result<Vec<Prefix>, Refusal> {
+    match check(map) {
+        Verdict::Refused(reason) => Err(reason),
+        Verdict::Accepted { .. } => Ok(list_accepted(map)),
+    }
 }
 
 pub fn records(prefixes: &[Prefix]) -> Vec<u8> {
@@ -84,8 +89,8 @@ pub fn records(prefixes: &[Prefix]) -> Vec<u8> {
 }
 
 /// The one of a listing that an address lies in: the last that does not begin behind it.
-pub fn prefix_of(prefixes: &[Prefix], address: u128) -> Prefix {
-    prefixes[prefixes.partition_point(|prefix| prefix.first <= address) - 1]
+pub fn prefix_of(prefixes: &[Prefix], address: u128) -> Option<Prefix> {
+    prefixes[..prefixes.partition_point(|prefix| prefix.first <= address)].last().copied()
 }
 
 /// Each begins where the one before it ends, the first at the first address, and the last ends at the last one.
@@ -113,6 +118,7 @@ pub fn hold(map: &[u8], prefixes: &[Prefix], random: &mut Random) {
     }
     for _ in 0..16 {
         let address = u128::from_be_bytes(random.address());
-        assert_eq!(walked(address), prefix_of(prefixes, address).number, "the original's number for {address:x} by {map:02x?}");
+        let number = prefix_of(prefixes, address).map(|prefix| prefix.number);
+        assert_eq!(number, Some(walked(address)), "the original's number for {address:x} by {map:02x?}");
     }
 }

@@ -49,8 +49,7 @@ fn one_too_many(tally: &mut Tally, map: &[u8]) {
 
 /// The listing of the greatest map; in the long form the original walks to both ends of every prefix.
 fn greatest_list(tally: &mut Tally, random: &mut Random, whole: &Known, form: Form) {
-    listing::list(tally, whole);
-    let prefixes = listing::prefixes(whole);
+    let prefixes = listing::list(tally, whole);
     listing::edges(tally, whole, &prefixes, form.choose(997, 1));
     listing::drawn(tally, random, whole, &prefixes, form.choose(100, 10_000));
 }

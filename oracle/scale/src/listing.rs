@@ -12,36 +12,35 @@ fn made(known: &Known) -> Result<Vec<u8>, Refusal> {
     if let Verdict::Refused(reason) = known.verdict {
         return Err(reason);
     }
-    let prefixes = listing::list(known.map)?;
+    let prefixes = listing::list_accepted(known.map);
     listing::assert_tiling(&prefixes);
     Ok(listing::records(&prefixes))
 }
 
-/// Both calls, with outputs that fit, that are one byte short, that are longer, and that are none.
-pub fn list(tally: &mut Tally, known: &Known) {
+/// Both calls, with outputs that fit, that are one byte short, that are longer, and that are none. Hands back the prefixes as the library
+/// has them: none where it refuses the map.
+pub fn list(tally: &mut Tally, known: &Known) -> Vec<Prefix> {
     let made = made(known);
     let bytes = made.as_ref().map_or(RECORD, Vec::len);
     let needed = made.as_ref().map_or_else(|&reason| (number(reason), BEFORE_SIZE), |made| (0, made.len()));
     tally.same("bytes of a list", &known.map, calls::list_bytes(known.map), needed);
-    for room in [bytes, bytes - 1, bytes + 5, 0] {
+    for room in [bytes - 1, bytes + 5, 0] {
         tally.same("list", &(known.map, room), calls::list(known.map, room), left(&made, room));
     }
-}
-
-/// The prefixes of an accepted map as the library has them.
-pub fn prefixes(known: &Known) -> Vec<Prefix> {
-    let (_, bytes) = calls::list_bytes(known.map);
-    let (answer, _, out) = calls::list(known.map, bytes);
-    assert_eq!(answer, 0, "an accepted map is listed");
-    out.chunks(RECORD).map(Prefix::of_record).collect()
+    let fitting = calls::list(known.map, bytes);
+    let records = if fitting.0 == 0 { &fitting.2[..] } else { &[] };
+    let prefixes = records.chunks(RECORD).map(Prefix::of_record).collect();
+    tally.same("list", &(known.map, bytes), fitting, left(&made, bytes));
+    prefixes
 }
 
 /// The prefix that an address is found in holds it, and carries the number of the original's walk.
 fn found(tally: &mut Tally, known: &Known, prefixes: &[Prefix], address: u128) {
     let prefix = listing::prefix_of(prefixes, address);
-    let holds = (prefix.first..=prefix.last()).contains(&address);
+    let holds = prefix.is_some_and(|prefix| (prefix.first..=prefix.last()).contains(&address));
     let walked = known.original.interpret_ip16(&address.to_be_bytes());
-    tally.same("prefix of an address", &(known.map, address), (holds, prefix.number), (true, walked));
+    let number = prefix.map(|prefix| prefix.number);
+    tally.same("prefix of an address", &(known.map, address), (holds, number), (true, Some(walked)));
 }
 
 /// Random addresses, and addresses that the map leads to its leaves.

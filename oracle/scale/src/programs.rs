@@ -247,8 +247,7 @@ pub fn trees(tally: &mut Tally, random: &mut Random, form: Form) {
 
 /// The listing of an accepted map, and every prefix of it by the original's walk.
 fn listed(tally: &mut Tally, random: &mut Random, known: &Known) {
-    listing::list(tally, known);
-    let prefixes = listing::prefixes(known);
+    let prefixes = listing::list(tally, known);
     listing::edges(tally, known, &prefixes, 1);
     listing::drawn(tally, random, known, &prefixes, 8);
 }
