@@ -1,7 +1,8 @@
 // Reads a list of answers from standard input, makes each call again with the crates here and compares. It prints for each kind of
 // call how many answers there were and how many differ, and how many lines there were; before that it names each line whose answer
 // differs, that has a wrong count of words, or that could not be read. The list is the file stdin beside src/: answers of the
-// original and, where it has no say, of document 01. The program of the same name in oracle/ writes it and says what its lines hold.
+// original and, where it has no say, of documents 01 and 02. The program of the same name in oracle/ writes it and says what its lines
+// hold.
 ghost use mathlib.Core.Path.{_≡_};
 ghost use Prim.Native.Nat.{_<_};
 ghost use lib.ListN.{length};
@@ -18,8 +19,9 @@ use crate::groups::pick;
 use crate::groups::prefix_group;
 use crate::maps::check;
 use crate::maps::check_stop;
-use crate::maps::unpack_or_pack;
+use crate::maps::list_bytes;
 use crate::maps::walk;
+use crate::maps::written;
 use libc::STDIN_FILENO;
 use libc::STDOUT_FILENO;
 use replay_lines::outcome::Seen;
@@ -50,7 +52,7 @@ fn word_room() -> [u8; 262144]
 
 // ---- a line
 
-// The kinds of call by their letters, and 18 for any other letter. They are counted and printed in this order.
+// The kinds of call by their letters, and 20 for any other letter. They are counted and printed in this order.
 fn kind_of(letter: u8) -> usize {
     match letter {
         b'd' => 0,
@@ -63,15 +65,17 @@ fn kind_of(letter: u8) -> usize {
         b'w' => 7,
         b'u' => 8,
         b'p' => 9,
-        b'n' => 10,
-        b'g' => 11,
-        b'h' => 12,
-        b's' => 13,
-        b't' => 14,
-        b'm' => 15,
-        b'f' => 16,
-        b'r' => 17,
-        _ => 18,
+        b'l' => 10,
+        b'q' => 11,
+        b'n' => 12,
+        b'g' => 13,
+        b'h' => 14,
+        b's' => 15,
+        b't' => 16,
+        b'm' => 17,
+        b'f' => 18,
+        b'r' => 19,
+        _ => 20,
     }
 }
 
@@ -84,10 +88,10 @@ fn shape_of(kind: usize) -> [u8; 9]
         1 => [1, 4, 9, 0, 0, 0, 0, 0, 0],
         2 => [9, 8, 9, 0, 0, 0, 0, 0, 0],
         3 => [4, 4, 9, 0, 0, 0, 0, 0, 0],
-        7 | 8 | 9 => [9, 9, 9, 0, 0, 0, 0, 0, 0],
-        11 | 12 => [1, 9, 9, 9, 0, 0, 0, 0, 0],
-        13 | 14 => [1, 9, 9, 8, 9, 9, 9, 9, 0],
-        17 => [1, 2, 9, 9, 0, 0, 0, 0, 0],
+        7 | 8 | 9 | 10 => [9, 9, 9, 0, 0, 0, 0, 0, 0],
+        13 | 14 => [1, 9, 9, 9, 0, 0, 0, 0, 0],
+        15 | 16 => [1, 9, 9, 8, 9, 9, 9, 9, 0],
+        19 => [1, 2, 9, 9, 0, 0, 0, 0, 0],
         _ => [9, 9, 0, 0, 0, 0, 0, 0, 0],
     }
 }
@@ -147,24 +151,25 @@ fn replay_map(kind: usize, bytes: &[u8], words: Words) -> Seen {
         5 => check(bytes, words),
         6 => check_stop(bytes, words),
         7 => walk(bytes, words),
-        _ => unpack_or_pack(kind, bytes, words),
+        11 => list_bytes(bytes, words),
+        _ => written(kind, bytes, words),
     }
 }
 
 fn replay_peers(kind: usize, bytes: &[u8], words: Words) -> Seen {
     match kind {
-        10 => prefix_group(bytes, words),
-        11 => group(bytes, words, true),
-        12 => group(bytes, words, false),
-        13 => pick(bytes, words, 0),
+        12 => prefix_group(bytes, words),
+        13 => group(bytes, words, true),
+        14 => group(bytes, words, false),
+        15 => pick(bytes, words, 0),
         _ => pick(bytes, words, 2),
     }
 }
 
 fn replay_address(kind: usize, bytes: &[u8], words: Words) -> Seen {
     match kind {
-        15 => mapped(bytes, words),
-        16 => unroutable(bytes, words),
+        17 => mapped(bytes, words),
+        18 => unroutable(bytes, words),
         _ => relay_skip(bytes, words),
     }
 }
@@ -174,10 +179,10 @@ fn replay_words(kind: usize, bytes: &[u8], words: Words) -> Seen {
     if kind < 5 {
         return replay_code(kind, bytes, words);
     }
-    if kind < 10 {
+    if kind < 12 {
         return replay_map(kind, bytes, words);
     }
-    if kind < 15 {
+    if kind < 17 {
         return replay_peers(kind, bytes, words);
     }
     replay_address(kind, bytes, words)
@@ -195,7 +200,7 @@ fn letter_of(line: &[u8]) -> u8 {
 }
 
 fn replay_line(kind: usize, line: &[u8], bytes: &mut [u8]) -> Seen {
-    if 17 < kind {
+    if 19 < kind {
         return Seen::Unread;
     }
     let words = read_words(line, bytes);
@@ -211,19 +216,19 @@ fn replay_line(kind: usize, line: &[u8], bytes: &mut [u8]) -> Seen {
 
 // ---- the list
 
-// Every line is counted at one of 39 places: for each kind of call the answers that are ours and, 18 places on, those that differ; then
+// Every line is counted at one of 43 places: for each kind of call the answers that are ours and, 20 places on, those that differ; then
 // headings, lines with a wrong count of words, and lines that could not be read.
 fn place_of(kind: usize, seen: Seen) -> usize
-    ensures { λ r. ⌜ r < 39 ⌝ }
+    ensures { λ r. ⌜ r < 43 ⌝ }
 {
-    if 17 < kind {
-        return 38;
+    if 19 < kind {
+        return 42;
     }
     match seen {
         Seen::Same => kind,
-        Seen::Differs => 18 + kind,
-        Seen::Count => 37,
-        Seen::Unread => 38,
+        Seen::Differs => 20 + kind,
+        Seen::Count => 41,
+        Seen::Unread => 42,
     }
 }
 
@@ -236,18 +241,18 @@ fn is_heading(line: &[u8]) -> bool {
 }
 
 fn line_place(line: &[u8], bytes: &mut [u8]) -> usize
-    ensures { λ r. ⌜ r < 39 ⌝ }
+    ensures { λ r. ⌜ r < 43 ⌝ }
 {
     if is_heading(line) {
-        return 36;
+        return 40;
     }
     let kind = kind_of(letter_of(line));
     place_of(kind, replay_line(kind, line, bytes))
 }
 
 // One line more. The list is far too short for a count to wrap.
-fn add_one(counts: &mut [u64; 39], place: usize)
-    requires { ⌜ place < 39 ⌝ }
+fn add_one(counts: &mut [u64; 43], place: usize)
+    requires { ⌜ place < 43 ⌝ }
 {
     counts[place] = wrapping_add_u64(counts[place], 1);
 }
@@ -262,16 +267,16 @@ fn say_number(n: u64) {
 
 // Names a line that is neither a heading nor has our answer, by the place where it is counted.
 fn say_line(line: u64, place: usize) {
-    if place < 18 || place == 36 {
+    if place < 20 || place == 40 {
         return;
     }
     say(b"line ");
     say_number(line);
-    if place < 36 {
+    if place < 40 {
         say(b" differs\n");
         return;
     }
-    if place < 38 {
+    if place < 42 {
         say(b" has a wrong count of words\n");
         return;
     }
@@ -279,7 +284,7 @@ fn say_line(line: u64, place: usize) {
 }
 
 // Hands back how many lines there are.
-fn replay_list(list: &[u8], bytes: &mut [u8], counts: &mut [u64; 39]) -> u64 {
+fn replay_list(list: &[u8], bytes: &mut [u8], counts: &mut [u64; 43]) -> u64 {
     let mut lines: u64 = 0;
     let mut at: usize = 0;
     while at < list.len() {
@@ -293,10 +298,10 @@ fn replay_list(list: &[u8], bytes: &mut [u8], counts: &mut [u64; 39]) -> u64 {
     lines
 }
 
-fn say_kind(name: &[u8], counts: &[u64; 39], kind: usize)
-    requires { ⌜ kind < 18 ⌝ }
+fn say_kind(name: &[u8], counts: &[u64; 43], kind: usize)
+    requires { ⌜ kind < 20 ⌝ }
 {
-    let differ = counts[kind + 18];
+    let differ = counts[kind + 20];
     say(name);
     say_number(wrapping_add_u64(counts[kind], differ));
     say(b" answers, ");
@@ -304,7 +309,7 @@ fn say_kind(name: &[u8], counts: &[u64; 39], kind: usize)
     say(b" differ\n");
 }
 
-fn say_codes(counts: &[u64; 39]) {
+fn say_codes(counts: &[u64; 43]) {
     say_kind(b"code read: ", counts, 0);
     say_kind(b"code written: ", counts, 1);
     say_kind(b"instruction read: ", counts, 2);
@@ -312,36 +317,38 @@ fn say_codes(counts: &[u64; 39]) {
     say_kind(b"bit reader: ", counts, 4);
 }
 
-fn say_maps(counts: &[u64; 39]) {
+fn say_maps(counts: &[u64; 43]) {
     say_kind(b"check: ", counts, 5);
     say_kind(b"where a check stops: ", counts, 6);
     say_kind(b"walk: ", counts, 7);
     say_kind(b"unpack: ", counts, 8);
     say_kind(b"pack: ", counts, 9);
+    say_kind(b"list: ", counts, 10);
+    say_kind(b"bytes of a list: ", counts, 11);
 }
 
-fn say_peers(counts: &[u64; 39]) {
-    say_kind(b"group by prefix: ", counts, 10);
-    say_kind(b"group: ", counts, 11);
-    say_kind(b"group, map unchecked: ", counts, 12);
-    say_kind(b"pick: ", counts, 13);
-    say_kind(b"pick, map unchecked: ", counts, 14);
+fn say_peers(counts: &[u64; 43]) {
+    say_kind(b"group by prefix: ", counts, 12);
+    say_kind(b"group: ", counts, 13);
+    say_kind(b"group, map unchecked: ", counts, 14);
+    say_kind(b"pick: ", counts, 15);
+    say_kind(b"pick, map unchecked: ", counts, 16);
 }
 
-fn say_addresses(counts: &[u64; 39]) {
-    say_kind(b"IPv4-mapped address: ", counts, 15);
-    say_kind(b"unroutable: ", counts, 16);
-    say_kind(b"relay skip: ", counts, 17);
+fn say_addresses(counts: &[u64; 43]) {
+    say_kind(b"IPv4-mapped address: ", counts, 17);
+    say_kind(b"unroutable: ", counts, 18);
+    say_kind(b"relay skip: ", counts, 19);
 }
 
-fn say_lines(lines: u64, counts: &[u64; 39]) {
+fn say_lines(lines: u64, counts: &[u64; 43]) {
     say_number(lines);
     say(b" lines, ");
-    say_number(counts[36]);
+    say_number(counts[40]);
     say(b" of them headings, ");
-    say_number(counts[37]);
+    say_number(counts[41]);
     say(b" with a wrong count of words, ");
-    say_number(counts[38]);
+    say_number(counts[42]);
     say(b" not read\n");
 }
 
@@ -349,7 +356,7 @@ fn main() {
     let mut list = list_room();
     let mut bytes = word_room();
     let n = io::read_full(STDIN_FILENO, &mut list);
-    let mut counts = [0u64; 39];
+    let mut counts = [0u64; 43];
     let lines = replay_list(&list[..n], &mut bytes, &mut counts);
     say_codes(&counts);
     say_maps(&counts);

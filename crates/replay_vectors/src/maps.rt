@@ -1,5 +1,6 @@
-// The check, the walk, unpack and pack.
+// The check, the walk, unpack, pack and the listing.
 use asmap_check::Stopped;
+use asmap_list::Needed;
 use asmap_program::Kind;
 use asmap_program::Verdict;
 use asmap_records::Answer;
@@ -60,7 +61,7 @@ pub fn walk(bytes: &[u8], words: Words) -> Seen {
     }
 }
 
-// How many bytes unpack and pack wrote.
+// How many bytes unpack, pack or the listing wrote.
 fn wrote(got: Answer) -> Out {
     match got {
         Answer::Refused(reason) => refused(reason),
@@ -68,12 +69,13 @@ fn wrote(got: Answer) -> Out {
     }
 }
 
-// Unpack is kind 8, and pack 9.
+// Unpack is kind 8, pack 9, and the listing 10.
 fn write_into(kind: usize, input: &[u8], out: &mut [u8]) -> Answer {
-    if kind == 8 {
-        return asmap_unpack::unpack(input, out);
+    match kind {
+        8 => asmap_unpack::unpack(input, out),
+        9 => asmap_pack::pack(input, out),
+        _ => asmap_list::list(input, out),
     }
-    asmap_pack::pack(input, out)
 }
 
 fn compared_output(kind: usize, bytes: &[u8], words: Words, out: &mut [u8]) -> Seen {
@@ -83,11 +85,20 @@ fn compared_output(kind: usize, bytes: &[u8], words: Words, out: &mut [u8]) -> S
 }
 
 // The output is as long as the list's, which is what it holds at exit; at entry it holds ee in every byte.
-pub fn unpack_or_pack(kind: usize, bytes: &[u8], words: Words) -> Seen {
+pub fn written(kind: usize, bytes: &[u8], words: Words) -> Seen {
     let mut room = [238u8; 8192];
     let n = word(bytes, words, 2).len();
     if 8192 < n {
         return Seen::Unread;
     }
     compared_output(kind, bytes, words, &mut room[0..n])
+}
+
+pub fn list_bytes(bytes: &[u8], words: Words) -> Seen {
+    let needed = asmap_list::list_bytes(word(bytes, words, 0));
+    let answer = word(bytes, words, 1);
+    match needed {
+        Needed::Refused(reason) => compared(refused(reason), answer),
+        Needed::Bytes(n) => compared(done().number(n as u64, 8), answer),
+    }
 }
