@@ -56,9 +56,7 @@ pub fn interpret(map: &[u8], address: &[u8]) -> (u8, u8, u32, u32, u8) {
     (answer, kind, number, count, bits)
 }
 
-type Records = unsafe extern "C" fn(*const u8, usize, *mut u8, usize, *mut usize) -> u8;
-
-fn records(call: Records, input: &[u8], room: usize) -> (u8, usize, Vec<u8>) {
+fn records(call: sys::Records, input: &[u8], room: usize) -> (u8, usize, Vec<u8>) {
     let (mut out, mut written) = (vec![BEFORE; room], BEFORE_SIZE);
     let answer = unsafe { call(input.as_ptr(), input.len(), out.as_mut_ptr(), out.len(), &mut written) };
     (answer, written, out)

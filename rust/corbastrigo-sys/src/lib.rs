@@ -16,6 +16,9 @@ pub type Decode = unsafe extern "C" fn(*const u8, usize, usize, *mut u32, *mut u
 /// A code written as bits, the first lowest.
 pub type Encode = unsafe extern "C" fn(u32, *mut u64, *mut usize) -> u8;
 
+/// Bytes that are made of bytes: records of a map, or the map of records.
+pub type Records = unsafe extern "C" fn(*const u8, usize, *mut u8, usize, *mut usize) -> u8;
+
 /// The group of one candidate.
 pub type Netgroup = unsafe extern "C" fn(*const u8, usize, u8, *const u8, usize, *mut u64) -> u8;
 

@@ -31,41 +31,49 @@ impl Instruction {
     }
 }
 
+/// The number of four bytes at a place of a record.
+pub(crate) fn number_at(record: &[u8], at: usize) -> u32 {
+    u32::from_le_bytes([record[at], record[at + 1], record[at + 2], record[at + 3]])
+}
+
 /// The instructions that records list, whole records only.
 pub fn instructions(records: &[u8]) -> impl Iterator<Item = Instruction> + '_ {
-    let number = |record: &[u8], at: usize| u32::from_le_bytes([record[at], record[at + 1], record[at + 2], record[at + 3]]);
-    records.chunks_exact(RECORD_BYTES).map(move |record| Instruction {
-        opcode: number(record, 0),
-        operand: number(record, 4),
-        place: number(record, 8),
-        size: number(record, 12),
+    records.chunks_exact(RECORD_BYTES).map(|record| Instruction {
+        opcode: number_at(record, 0),
+        operand: number_at(record, 4),
+        place: number_at(record, 8),
+        size: number_at(record, 12),
     })
+}
+
+/// How many bytes a call writes to a lent output, or its refusal.
+pub(crate) fn write_into(call: sys::Records, input: &[u8], out: &mut [u8]) -> Result<usize, Refusal> {
+    let mut written = 0;
+    // SAFETY: each `Records` of the library takes two slices, which give their own pointers and lengths, and a number to write; `out` is
+    // borrowed alone, and the number is nobody else's.
+    let answer = unsafe { call(input.as_ptr(), input.len(), out.as_mut_ptr(), out.len(), &mut written) };
+    Refusal::check(answer)?;
+    Ok(written)
 }
 
 /// Lists an accepted map's instructions in order, as records. The bytes written, or the check's reason, or 14. Bytes past what is
 /// written remain.
 pub fn unpack_into(map: &[u8], out: &mut [u8]) -> Result<usize, Refusal> {
-    let mut written = 0;
-    // SAFETY: the slices give their own pointers and lengths; `out` is borrowed alone, and the number is nobody else's.
-    let answer = unsafe { sys::corbastrigo_unpack(map.as_ptr(), map.len(), out.as_mut_ptr(), out.len(), &mut written) };
-    Refusal::check(answer)?;
-    Ok(written)
+    write_into(sys::corbastrigo_unpack, map, out)
 }
 
 /// Packs records into a map's bytes. The bytes written, or 16, 15, 1, 14. No check is run. Bytes past what is written remain.
 pub fn pack_into(records: &[u8], out: &mut [u8]) -> Result<usize, Refusal> {
-    let mut written = 0;
-    // SAFETY: the slices give their own pointers and lengths; `out` is borrowed alone, and the number is nobody else's.
-    let answer = unsafe { sys::corbastrigo_pack(records.as_ptr(), records.len(), out.as_mut_ptr(), out.len(), &mut written) };
-    Refusal::check(answer)?;
-    Ok(written)
+    write_into(sys::corbastrigo_pack, records, out)
 }
 
-/// An output of so many bytes; 14 where there is no memory for it.
-fn room(bytes: usize) -> Result<Vec<u8>, Refusal> {
+/// What a call writes, which is at most so many bytes; 14 where there is no memory for them.
+pub(crate) fn write(call: sys::Records, input: &[u8], most: usize) -> Result<Vec<u8>, Refusal> {
     let mut out = Vec::new();
-    out.try_reserve_exact(bytes).map_err(|_| Refusal::OutputTooShort)?;
-    out.resize(bytes, 0);
+    out.try_reserve_exact(most).map_err(|_| Refusal::OutputTooShort)?;
+    out.resize(most, 0);
+    let written = write_into(call, input, &mut out)?;
+    out.truncate(written);
     Ok(out)
 }
 
@@ -82,10 +90,7 @@ fn room(bytes: usize) -> Result<Vec<u8>, Refusal> {
 /// ```
 pub fn unpack(map: &[u8]) -> Result<Vec<u8>, Refusal> {
     let check = sanity_check(map)?;
-    let mut out = room(check.count as usize * RECORD_BYTES)?;
-    let written = unpack_into(map, &mut out)?;
-    out.truncate(written);
-    Ok(out)
+    write(sys::corbastrigo_unpack, map, check.count as usize * RECORD_BYTES)
 }
 
 /// The bytes of a map that records make, or 16, 15, 1. No check is run.
@@ -100,8 +105,5 @@ pub fn unpack(map: &[u8]) -> Result<Vec<u8>, Refusal> {
 /// ```
 pub fn pack(records: &[u8]) -> Result<Vec<u8>, Refusal> {
     let most = (records.len() / RECORD_BYTES).saturating_mul(MOST_BITS).div_ceil(8);
-    let mut out = room(most.min(MAX_MAP_BYTES))?;
-    let written = pack_into(records, &mut out)?;
-    out.truncate(written);
-    Ok(out)
+    write(sys::corbastrigo_pack, records, most.min(MAX_MAP_BYTES))
 }
