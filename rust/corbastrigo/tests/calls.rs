@@ -177,6 +177,27 @@ fn instructions_there_and_back() {
 }
 
 #[test]
+fn every_prefix_is_listed() {
+    let records = list(&TWO_PREFIXES).expect("accepted");
+    // 102 bits of MATCHes, and two RETURNs.
+    assert_eq!(records.len(), 104 * PREFIX_BYTES);
+    assert_eq!(list_bytes(&TWO_PREFIXES), Ok(2_496));
+    let prefix = |text, length, number| Prefix { address: ip16_for_lookup(ip(text)), length, number };
+    let numbered: Vec<Prefix> = prefixes(&records).filter(|prefix| prefix.number != 0).collect();
+    assert_eq!(numbered, [prefix("0.0.0.0", 103, 1), prefix("2.0.0.0", 103, 2)]);
+    assert_eq!(prefixes(&records).last(), Some(prefix("8000::", 1, 0)));
+    assert_eq!(prefixes(&records).flat_map(Prefix::record).collect::<Vec<u8>>(), records);
+    assert_eq!(prefixes(&records[1..]).count(), 103);
+    let mut out = [7; 2_500];
+    assert_eq!(number(list_into(&TWO_PREFIXES, &mut out[..2_495])), 14);
+    assert_eq!(number(list_into(&TWO_PREFIXES[..34], &mut out)), 4);
+    assert_eq!(out, [7; 2_500]);
+    assert_eq!(list_into(&TWO_PREFIXES, &mut out), Ok(2_496));
+    assert_eq!((&out[..2_496], &out[2_496..]), (&records[..], &[7; 4][..]));
+    assert_eq!((number(list(&TWO_PREFIXES[..34])), number(list_bytes(&TWO_PREFIXES[..34]))), (4, 4));
+}
+
+#[test]
 fn codes_are_read_and_written() {
     use codes::*;
     assert_eq!(encode_jump(17), Ok(Bits { bits: 0, len: 6 }));

@@ -10,6 +10,7 @@ mod maps;
 mod order;
 mod packed;
 mod picks;
+mod prefixes;
 mod programs;
 
 use corbastrigo::MAX_MAP_BYTES;

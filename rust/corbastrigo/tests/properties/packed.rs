@@ -8,7 +8,7 @@ use proptest::prelude::*;
 use proptest::test_runner::TestCaseResult;
 
 /// What a call left: where it was refused everything as it was, else everything behind what was written.
-fn left_the_rest((answer, written, out): &(u8, usize, Vec<u8>)) -> TestCaseResult {
+pub fn left_the_rest((answer, written, out): &(u8, usize, Vec<u8>)) -> TestCaseResult {
     let from = if *answer == 0 { *written } else { 0 };
     prop_assert!(out[from..].iter().all(|&byte| byte == BEFORE));
     prop_assert_eq!(*answer != 0, *written == BEFORE_SIZE);

@@ -1,7 +1,7 @@
-//! Sane programs as trees, grown from draws that can be shrunk. The library packs them; how their walks end is told here by the tree
-//! alone, without a bit of the map being read.
+//! Sane programs as trees, grown from draws that can be shrunk. The library packs them; how their walks end and which prefixes they tell
+//! apart is told here by the tree alone, without a bit of the map being read.
 use corbastrigo::codes::encode_instruction;
-use corbastrigo::{pack, End, Instruction};
+use corbastrigo::{pack, End, Instruction, Prefix};
 use proptest::prelude::*;
 
 pub const RETURN: u32 = 0;
@@ -170,6 +170,43 @@ impl Program {
         }
     }
 
+    /// The prefixes that it tells apart, in order.
+    pub fn prefixes(&self) -> Vec<Prefix> {
+        self.prefixes_below(0, 0, 0)
+    }
+
+    /// The prefixes of what begins with so many bits of an address, with a default.
+    fn prefixes_below(&self, address: u128, length: u8, default: u32) -> Vec<Prefix> {
+        match self {
+            Return(number) => vec![prefix(address, length, *number)],
+            Default(number, then) => then.prefixes_below(address, length, *number),
+            Jump(zero, one) => {
+                let mut out = zero.prefixes_below(address, length + 1, default);
+                out.extend(one.prefixes_below(address | one_at(length), length + 1, default));
+                out
+            }
+            Match(operand, then) => then.prefixes_behind(*operand, address, length, default),
+        }
+    }
+
+    /// Its prefixes behind a MATCH, with those of the sides that differ: what begins with a 0 comes before what begins with a 1.
+    fn prefixes_behind(&self, operand: u32, mut address: u128, mut length: u8, default: u32) -> Vec<Prefix> {
+        let (mut before, mut after) = (vec![], vec![]);
+        for place in (0..self::length(operand)).rev() {
+            let one = address | one_at(length);
+            length += 1;
+            if operand >> place & 1 == 1 {
+                before.push(prefix(address, length, default));
+                address = one;
+            } else {
+                after.push(prefix(one, length, default));
+            }
+        }
+        before.extend(self.prefixes_below(address, length, default));
+        before.extend(after.into_iter().rev());
+        before
+    }
+
     /// An address that goes through the program: at each JUMP the bit that it has, at each MATCH the bits that are asked for, but the
     /// other bit at one place. Without this hardly any address gets past the first MATCH.
     pub fn led(&self, mut address: [u8; 16], but: u8) -> [u8; 16] {
@@ -199,6 +236,15 @@ impl Program {
             };
         }
     }
+}
+
+fn prefix(address: u128, length: u8, number: u32) -> Prefix {
+    Prefix { address: address.to_be_bytes(), length, number }
+}
+
+/// A one at a place of an address, from the highest down.
+fn one_at(place: u8) -> u128 {
+    1 << (127 - place)
 }
 
 /// The bit after the last of some instructions.
