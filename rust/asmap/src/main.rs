@@ -6,6 +6,7 @@ mod check;
 mod failure;
 mod files;
 mod filter;
+mod forms;
 mod group;
 mod grouping;
 mod listing;
