@@ -40,6 +40,15 @@ pub enum Command {
     /// Show one walk step by step
     #[command(after_help = "Example:\n  asmap trace node.asmap 1.2.3.4")]
     Trace(Trace),
+    /// List every prefix that a map tells apart, with its number
+    ///
+    /// One prefix a line, rising by address, as Bitcoin Core's asmap-tool writes them: 1.2.0.0/16 AS1. Those below ::ffff:0:0/96 stand as
+    /// IPv4. Every address lies in just one of them, and its walk ends with that number. Neighbours with one number are not joined: each
+    /// RETURN has a line, and each bit of a MATCH one for the side that differs, with the default of that path.
+    ///
+    /// AS0 is not "unmapped": the walk of such an address differed at a MATCH before any DEFAULT was met.
+    #[command(after_help = "Examples:\n  asmap list node.asmap\n  asmap list --records -o node.prefixes node.asmap")]
+    List(List),
     /// List a map's instructions
     ///
     /// One instruction a line, in the map's order: RETURN and DEFAULT with an AS number, MATCH with the address bits that it compares, JUMP
@@ -109,6 +118,18 @@ pub struct Trace {
     /// Trace a walk of a map that the check refuses; the output then says so
     #[arg(long)]
     pub unchecked: bool,
+}
+
+#[derive(Args, Debug)]
+pub struct List {
+    /// The file of a map
+    pub map: PathBuf,
+    /// Write records of 24 bytes instead of text
+    #[arg(long)]
+    pub records: bool,
+    /// Write to this file instead of standard output
+    #[arg(short, long, value_name = "FILE")]
+    pub output: Option<PathBuf>,
 }
 
 #[derive(Args, Debug)]

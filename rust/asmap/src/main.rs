@@ -9,6 +9,7 @@ mod filter;
 mod forms;
 mod group;
 mod grouping;
+mod list;
 mod listing;
 mod man;
 mod out;
@@ -34,6 +35,7 @@ fn run(command: Command, out: &mut Out) -> Outcome {
         Command::Check(asked) => check::run(&asked, out),
         Command::Walk(asked) => walk::run(&asked, out),
         Command::Trace(asked) => trace::run(&asked, out),
+        Command::List(asked) => list::run(&asked, out),
         Command::Unpack(asked) => unpack::run(&asked, out),
         Command::Pack(asked) => pack::run(&asked, out),
         Command::Group(asked) => group::run(&asked, out),

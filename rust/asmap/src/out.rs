@@ -2,6 +2,7 @@
 use crate::failure::Failure;
 use indicatif::{ProgressBar, ProgressStyle};
 use serde_json::Value;
+use std::fmt;
 use std::io::{self, BufWriter, IsTerminal, StdoutLock, Write};
 
 /// A style of text, as the numbers that a terminal takes for it.
@@ -69,6 +70,11 @@ impl Out {
         self.writer.write_all(bytes).map_err(Failure::output)
     }
 
+    /// For `write!` and `writeln!`.
+    pub fn write_fmt(&mut self, text: fmt::Arguments) -> Result<(), Failure> {
+        self.writer.write_fmt(text).map_err(Failure::output)
+    }
+
     /// Everything written so far goes out.
     pub fn finish(&mut self) -> Result<(), Failure> {
         self.writer.flush().map_err(Failure::output)
@@ -78,11 +84,19 @@ impl Out {
 /// How far it is, on standard error, of so many or of an unknown number. It shows itself where that is a terminal and the answers go to a
 /// file or pipe; on a terminal the answers themselves tell. One alone is no progress.
 pub fn progress(total: Option<u64>, noun: &str) -> ProgressBar {
-    if io::stdout().is_terminal() || total == Some(1) {
+    if io::stdout().is_terminal() {
+        return ProgressBar::hidden();
+    }
+    bar(total, noun)
+}
+
+/// The same for answers that go to a file by its name, so that a terminal shows none of them whatever standard output is.
+pub fn bar(total: Option<u64>, noun: &str) -> ProgressBar {
+    if total == Some(1) {
         return ProgressBar::hidden();
     }
     let (bar, template) = match total {
-        Some(total) => (ProgressBar::new(total), format!("{{bar:40}} {{pos}} of {{len}} {noun}")),
+        Some(total) => (ProgressBar::new(total), format!("{{bar:40}} {{human_pos}} of {{human_len}} {noun}")),
         None => (ProgressBar::new_spinner(), format!("{{spinner}} {{human_pos}} {noun}")),
     };
     match ProgressStyle::with_template(&template) {

@@ -111,7 +111,7 @@ impl Ending {
         let end = map.len() * 8;
         match self {
             Ending::Returned(number) => format!("the map returns {number}"),
-            Ending::Differed(_) => String::from("the walk differed before any DEFAULT was met"),
+            Ending::Differed(_) => String::from(words::NO_DEFAULT),
             Ending::TooFewBits { opcode, place, needed, left } => format!(
                 "the walk was aborted: the {} at bit {place} needs {needed} of the address bits, and {left} are left",
                 words::opcode(*opcode)

@@ -1,8 +1,10 @@
 //! Output files: each is there whole or not at all, and none is written over its input.
 use crate::failure::Failure;
 use crate::files::shown;
-use crate::out::Out;
+use crate::out::{bar, progress, Out};
+use indicatif::ProgressBar;
 use std::ffi::OsString;
+use std::fmt;
 use std::fs::{self, File, Metadata};
 use std::io::{self, BufWriter, IsTerminal, Write};
 use std::os::fd::AsFd;
@@ -84,6 +86,10 @@ impl Whole {
         self.file.write_all(bytes).map_err(|error| failed(&self.given, &error))
     }
 
+    fn write_fmt(&mut self, text: fmt::Arguments) -> Result<(), Failure> {
+        self.file.write_fmt(text).map_err(|error| failed(&self.given, &error))
+    }
+
     /// The output is there from now on.
     pub fn finish(mut self) -> Result<(), Failure> {
         let done =
@@ -134,6 +140,22 @@ impl<'a> Sink<'a> {
     pub fn line(&mut self, text: &str) -> Result<(), Failure> {
         self.bytes(text.as_bytes())?;
         self.bytes(b"\n")
+    }
+
+    /// For `write!` and `writeln!`.
+    pub fn write_fmt(&mut self, text: fmt::Arguments) -> Result<(), Failure> {
+        match self {
+            Sink::File(file) => file.write_fmt(text),
+            Sink::Standard(out) => out.write_fmt(text),
+        }
+    }
+
+    /// How far it is with so many answers, where they do not go to a terminal.
+    pub fn progress(&self, total: u64, noun: &str) -> ProgressBar {
+        match self {
+            Sink::File(_) => bar(Some(total), noun),
+            Sink::Standard(_) => progress(Some(total), noun),
+        }
     }
 
     pub fn finish(self) -> Result<(), Failure> {

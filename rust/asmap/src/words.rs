@@ -108,6 +108,9 @@ pub fn match_bits(operand: u32) -> String {
     format!("{operand:b}").split_off(1)
 }
 
+/// What a number 0 comes from. Of an accepted map it comes from nothing else.
+pub const NO_DEFAULT: &str = "the walk differed before any DEFAULT was met";
+
 /// A count with its noun.
 pub fn counted(count: u64, one: &str, many: &str) -> String {
     format!("{} {}", grouped(count), if count == 1 { one } else { many })

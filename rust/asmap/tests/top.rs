@@ -39,7 +39,7 @@ fn the_manual_page_has_what_the_help_has() {
     let page = answer(&["man"]);
     assert_eq!(page.status.code(), Some(0));
     let page = text(&page.stdout).replace("\\-", "-");
-    for subcommand in ["check", "walk", "trace", "unpack", "pack", "group", "pick", "filter", "completions"] {
+    for subcommand in ["check", "walk", "trace", "list", "unpack", "pack", "group", "pick", "filter", "completions"] {
         let help = answer(&[subcommand, "--help"]);
         let help = text(&help.stdout);
         assert!(page.contains(&format!(".SS \"asmap {subcommand} ")), "{subcommand} is missing");
@@ -121,4 +121,10 @@ fn progress_is_shown_on_a_terminal_while_answers_go_elsewhere() {
     let answers = std::fs::read_to_string(folder.path("answers")).expect("the answers");
     assert!(answers.lines().count() == 6 && !answers.contains('\x1b'));
     assert_eq!(on_a_terminal(&folder, "check two.asmap two.asmap two.asmap 2> messages | cat > answers", None), "");
+    for elsewhere in ["> answers", "-o answers"] {
+        let seen = on_a_terminal(&folder, &format!("list two.asmap {elsewhere}"), None);
+        assert!(seen.contains("of 104 prefixes") && !seen.contains("AS0"), "{elsewhere}: {seen:?}");
+        assert_eq!(std::fs::read(folder.path("answers")).expect("the answers"), folder.output(&["list", "two.asmap"]).stdout);
+    }
+    assert!(!on_a_terminal(&folder, "list two.asmap", None).contains("of 104 prefixes"));
 }

@@ -1,51 +1,18 @@
-//! `asmap unpack` and `asmap pack`: their outputs, their refusals, and that one undoes the other.
+//! `asmap unpack` and `asmap pack`: their outputs, their refusals, and that one undoes the other. What `asmap list` does as unpack does, by
+//! the same code, is tried of both.
 mod common;
-use common::{asmap, large_map, stored, text, Folder, LOOPBACK, TWO_PREFIXES};
+use common::{asmap, deep_map, large_map, maps, names, said, status, stored, text, Folder, TWO_PREFIXES};
 use corbastrigo::codes::{decode_instruction, encode_instruction};
 use std::fs;
 use std::os::unix::fs::{symlink, PermissionsExt};
 use std::process::{Output, Stdio};
 
+/// The subcommands that write what the library makes of a map.
+const LISTS: [&str; 2] = ["unpack", "list"];
+
 /// What `asmap pack` with these arguments makes of a list on standard input.
 fn packed(folder: &Folder, arguments: &[&str], list: impl AsRef<[u8]>) -> Output {
     folder.output_of(&[&["pack", "-"], arguments].concat(), list)
-}
-
-/// The names in a folder, sorted.
-fn names(folder: &Folder) -> Vec<String> {
-    let entries = fs::read_dir(folder.path(".")).expect("the folder is there");
-    let mut names: Vec<String> = entries.map(|entry| entry.expect("an entry").file_name().into_string().expect("a name")).collect();
-    names.sort();
-    names
-}
-
-fn status(output: &Output) -> i32 {
-    output.status.code().expect("the command ended by itself")
-}
-
-fn said(output: &Output) -> &str {
-    text(&output.stderr)
-}
-
-/// Maps of every shape: document 01's, the smallest, one of 128 open jumps, and drawn ones.
-fn maps() -> Vec<Vec<u8>> {
-    let mut maps = vec![TWO_PREFIXES.to_vec(), LOOPBACK.to_vec(), vec![0; 3], deep_map()];
-    maps.extend((0..60).map(|seed| large_map(1 + seed as u32 % 8, seed)));
-    maps
-}
-
-/// 128 jumps that are all open at the last one: each skips what is below it. The list is made from its innermost RETURN outward.
-fn deep_map() -> Vec<u8> {
-    let bits = |opcode, operand| encode_instruction(opcode, operand).expect("an instruction").len as u32;
-    let (mut list, mut inner) = (String::from("RETURN 1\n"), bits(0, 1));
-    for number in 2..130 {
-        list = format!("JUMP {inner}\n{list}RETURN {number}\n");
-        inner += bits(1, inner) + bits(0, number);
-    }
-    let output = asmap().args(["pack", "-"]).write_stdin(list).output().expect("the command runs");
-    let size = inner.div_ceil(8);
-    assert_eq!(said(&output), format!("asmap: the map is accepted: {size} bytes, 257 instructions, depth 128\n"));
-    output.stdout
 }
 
 #[test]
@@ -232,7 +199,7 @@ fn lists_past_the_limit_are_refused_and_not_read_whole() {
     folder.write_sparse("huge", 10 << 30);
     stored("pack_huge_text", &folder.output(&["pack", "-o", "new.asmap", "huge"]));
     stored("pack_huge_records", &folder.output(&["pack", "--records", "-o", "new.asmap", "huge"]));
-    stored("unpack_huge", &folder.output(&["unpack", "huge"]));
+    LISTS.iter().for_each(|list| stored(&format!("{list}_huge"), &folder.output(&[list, "huge"])));
     // A JUMP to the far end has 57 bits or less, so that this many are more than the largest map has.
     let jump = "JUMP 2147483632\n";
     let bits = encode_instruction(1, 2_147_483_632).expect("a jump").len;
@@ -249,9 +216,11 @@ fn nothing_is_written_over_its_input() {
     let folder = Folder::new();
     folder.write("list.txt", "RETURN 1\n");
     symlink("list.txt", folder.path("link.txt")).expect("a link");
-    stored("unpack_over_input", &folder.output(&["unpack", "-o", "two.asmap", "two.asmap"]));
     folder.write("-", TWO_PREFIXES);
-    stored("unpack_over_odd_input", &folder.output(&["unpack", "-o", "-", "-"]));
+    for list in LISTS {
+        stored(&format!("{list}_over_input"), &folder.output(&[list, "-o", "two.asmap", "two.asmap"]));
+        stored(&format!("{list}_over_odd_input"), &folder.output(&[list, "-o", "-", "-"]));
+    }
     stored("pack_over_input", &folder.output(&["pack", "-o", "./list.txt", "list.txt"]));
     stored("pack_over_linked_input", &folder.output(&["pack", "-o", "link.txt", "list.txt"]));
     assert_eq!(fs::read(folder.path("list.txt")).expect("it is there"), b"RETURN 1\n");
@@ -276,7 +245,9 @@ fn an_output_that_cannot_be_written_leaves_nothing() {
     folder.write("list.txt", "RETURN 1\n");
     for (name, output) in [("folder", "folder"), ("no_folder", "no/where"), ("device", "/dev/null"), ("below_a_file", "list.txt/x")]
     {
-        stored(&format!("unpack_output_{name}"), &folder.output(&["unpack", "-o", output, "two.asmap"]));
+        for list in LISTS {
+            stored(&format!("{list}_output_{name}"), &folder.output(&[list, "-o", output, "two.asmap"]));
+        }
         stored(&format!("pack_output_{name}"), &folder.output(&["pack", "-o", output, "list.txt"]));
     }
     assert_eq!(names(&folder), ["cut.asmap", "folder", "list.txt", "loopback.asmap", "two.asmap"]);
@@ -288,10 +259,12 @@ fn an_output_that_breaks_off_leaves_the_old_one() {
     let folder = Folder::new();
     folder.write("large.asmap", large_map(12, 1));
     folder.write("old", "old");
-    // A write past the limit then fails, as it does on a full disk, instead of ending the command.
-    let line = format!("trap '' XFSZ; ulimit -f 8; exec {} unpack -o old large.asmap", env!("CARGO_BIN_EXE_asmap"));
-    let output = std::process::Command::new("sh").args(["-c", &line]).current_dir(folder.path(".")).output();
-    stored("unpack_breaks_off", &output.expect("a shell runs"));
+    for list in LISTS {
+        // A write past the limit then fails, as it does on a full disk, instead of ending the command.
+        let line = format!("trap '' XFSZ; ulimit -f 8; exec {} {list} -o old large.asmap", env!("CARGO_BIN_EXE_asmap"));
+        let output = std::process::Command::new("sh").args(["-c", &line]).current_dir(folder.path(".")).output();
+        stored(&format!("{list}_breaks_off"), &output.expect("a shell runs"));
+    }
     assert_eq!(fs::read(folder.path("old")).expect("it is there"), b"old");
     assert_eq!(names(&folder), ["cut.asmap", "large.asmap", "loopback.asmap", "old", "two.asmap"]);
 }
@@ -312,11 +285,12 @@ fn an_output_is_replaced_behind_its_link_and_with_its_permissions() {
 #[test]
 fn every_form_goes_to_a_file_as_to_standard_output() {
     let folder = Folder::new();
-    for form in [&[][..], &["--json"], &["--records"]] {
-        let printed = folder.output(&[&["unpack", "two.asmap"], form].concat());
-        let written = folder.output(&[&["unpack", "two.asmap", "-o", "list"], form].concat());
-        assert_eq!((status(&written), written.stdout.len()), (0, 0), "{form:?}");
-        assert_eq!(fs::read(folder.path("list")).expect("it was written"), printed.stdout, "{form:?}");
+    for (list, form) in LISTS.iter().flat_map(|&list| [&[][..], &["--json"], &["--records"]].map(|form| (list, form))) {
+        let printed = folder.output(&[&[list, "two.asmap"], form].concat());
+        let written = folder.output(&[&[list, "two.asmap", "-o", "list"], form].concat());
+        assert_eq!((status(&written), written.stdout.len()), (0, 0), "{list} {form:?}");
+        assert_eq!(fs::read(folder.path("list")).expect("it was written"), printed.stdout, "{list} {form:?}");
+        assert!(!printed.stdout.is_empty(), "{list} {form:?}");
     }
 }
 
@@ -334,15 +308,17 @@ fn a_reader_that_goes_away_is_no_error_and_a_full_disk_is_one() {
             .spawn()
             .expect("the command runs")
     };
-    for form in ["--json", "--records"] {
-        let mut child = run(&["unpack", form, "large.asmap"], Stdio::piped());
-        drop(child.stdout.take());
-        let output = child.wait_with_output().expect("it ends");
-        assert_eq!((status(&output), said(&output)), (0, ""), "{form}");
+    for list in LISTS {
+        for form in ["--json", "--records"] {
+            let mut child = run(&[list, form, "large.asmap"], Stdio::piped());
+            drop(child.stdout.take());
+            let output = child.wait_with_output().expect("it ends");
+            assert_eq!((status(&output), said(&output)), (0, ""), "{list} {form}");
+        }
+        let full = fs::File::create("/dev/full").expect("Linux has it");
+        let output = run(&[list, "large.asmap"], full.into()).wait_with_output().expect("it ends");
+        stored(&format!("{list}_full"), &output);
     }
-    let full = fs::File::create("/dev/full").expect("Linux has it");
-    let output = run(&["unpack", "large.asmap"], full.into()).wait_with_output().expect("it ends");
-    stored("unpack_full", &output);
 }
 
 #[test]
@@ -350,12 +326,14 @@ fn inputs_that_cannot_be_read() {
     let folder = Folder::new();
     folder.write("empty", "");
     for (name, file) in [("missing", "nothing.here"), ("folder", "."), ("empty", "empty")] {
-        stored(&format!("unpack_{name}"), &folder.output(&["unpack", file]));
+        LISTS.iter().for_each(|list| stored(&format!("{list}_{name}"), &folder.output(&[list, file])));
         stored(&format!("pack_{name}"), &folder.output(&["pack", file]));
         stored(&format!("pack_records_{name}"), &folder.output(&["pack", "--records", file]));
     }
-    stored("unpack_two_forms", &folder.output(&["unpack", "--json", "--records", "two.asmap"]));
-    stored("unpack_no_map", &folder.output(&["unpack"]));
+    for list in LISTS {
+        stored(&format!("{list}_two_forms"), &folder.output(&[list, "--json", "--records", "two.asmap"]));
+        stored(&format!("{list}_no_map"), &folder.output(&[list]));
+    }
     stored("pack_no_list", &folder.output(&["pack"]));
 }
 
@@ -365,8 +343,10 @@ fn a_map_cut_at_any_byte_is_not_listed() {
     let map = large_map(4, 7);
     for length in 0..map.len() {
         folder.write("a.asmap", &map[..length]);
-        let output = folder.output(&["unpack", "a.asmap"]);
-        assert_eq!((status(&output), output.stdout.len()), (1, 0), "the first {length} bytes");
-        assert!(said(&output).contains("is refused, "), "the first {length} bytes: {}", said(&output));
+        for list in LISTS {
+            let output = folder.output(&[list, "a.asmap"]);
+            assert_eq!((status(&output), output.stdout.len()), (1, 0), "{list}, the first {length} bytes");
+            assert!(said(&output).contains("is refused, "), "{list}, the first {length} bytes: {}", said(&output));
+        }
     }
 }

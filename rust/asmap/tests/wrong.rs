@@ -1,4 +1,5 @@
-//! Wrong input for `asmap check`, `walk` and `trace`: files that are none, too large or cut, and addresses that are none.
+//! Wrong input for `asmap check`, `walk` and `trace`, and cut maps for `list`: files that are none, too large or cut, and addresses
+//! that are none.
 mod common;
 use common::{large_map, stored, text, Folder};
 use std::ffi::OsStr;
@@ -117,7 +118,7 @@ fn met_at(words: &str) -> Option<usize> {
 }
 
 #[test]
-fn a_map_cut_at_any_page_is_refused_and_never_walked_quietly() {
+fn a_map_cut_at_any_page_is_refused_and_never_walked_or_listed_quietly() {
     let folder = Folder::new();
     let map = large_map(15, 1);
     assert!(map.len() > 100_000);
@@ -131,8 +132,8 @@ fn a_map_cut_at_any_page_is_refused_and_never_walked_quietly() {
         let named = ["page.asmap: refused 2: the map ends where", "page.asmap: refused 4: a code is cut by"];
         assert!(named.iter().any(|reason| words.starts_with(reason)) && words.contains("\n  usually  "), "{cut}: {words}");
         assert!(met_at(words).is_some_and(|bit| bit <= 8 * cut && bit + 57 > 8 * cut), "{cut}: {words}");
-        for subcommand in [["walk", "page.asmap", "1.2.3.4"], ["trace", "page.asmap", "1.2.3.4"]] {
-            let output = folder.output(&subcommand);
+        for subcommand in [&["walk", "page.asmap", "1.2.3.4"][..], &["trace", "page.asmap", "1.2.3.4"], &["list", "page.asmap"]] {
+            let output = folder.output(subcommand);
             assert_eq!((output.status.code(), text(&output.stdout)), (Some(1), ""), "{cut}");
             assert!(text(&output.stderr).starts_with("asmap: page.asmap is refused, "), "{cut}");
         }

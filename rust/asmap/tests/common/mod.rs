@@ -80,11 +80,32 @@ pub fn text(bytes: &[u8]) -> &str {
     std::str::from_utf8(bytes).expect("the output is UTF-8")
 }
 
+/// The exit status.
+pub fn status(output: &Output) -> i32 {
+    output.status.code().expect("the command ended by itself")
+}
+
+/// What was said on standard error.
+pub fn said(output: &Output) -> &str {
+    text(&output.stderr)
+}
+
+/// The names in a folder, sorted.
+pub fn names(folder: &Folder) -> Vec<String> {
+    let entries = fs::read_dir(folder.path(".")).expect("the folder is there");
+    let mut names: Vec<String> = entries.map(|entry| entry.expect("an entry").file_name().into_string().expect("a name")).collect();
+    names.sort();
+    names
+}
+
 /// Holds an output to `tests/stored/NAME.txt`, byte for byte: the exit status, standard output and standard error.
 pub fn stored(name: &str, output: &Output) {
-    let status = output.status.code().expect("the command ended by itself");
-    let found =
-        format!("exit status {status}\n--- standard output\n{}--- standard error\n{}", text(&output.stdout), text(&output.stderr));
+    let found = format!(
+        "exit status {}\n--- standard output\n{}--- standard error\n{}",
+        status(output),
+        text(&output.stdout),
+        said(output)
+    );
     let file = Path::new(env!("CARGO_MANIFEST_DIR")).join("tests/stored").join(format!("{name}.txt"));
     if std::env::var_os("ASMAP_WRITE").is_some_and(|value| value == "1") {
         fs::write(&file, &found).expect("a stored output can be written");
@@ -169,4 +190,25 @@ pub fn large_map(depth: u32, seed: u64) -> Vec<u8> {
     let map = tree(depth, &mut Draws(seed)).pack();
     corbastrigo::sanity_check(&map).expect("the map is accepted");
     map
+}
+
+/// 128 jumps that are all open at the last one: each skips what is below it. The list is made from its innermost RETURN outward.
+pub fn deep_map() -> Vec<u8> {
+    let bits = |opcode, operand| codes::encode_instruction(opcode, operand).expect("an instruction").len as u32;
+    let (mut list, mut inner) = (String::from("RETURN 1\n"), bits(0, 1));
+    for number in 2..130 {
+        list = format!("JUMP {inner}\n{list}RETURN {number}\n");
+        inner += bits(1, inner) + bits(0, number);
+    }
+    let output = asmap().args(["pack", "-"]).write_stdin(list).output().expect("the command runs");
+    let size = inner.div_ceil(8);
+    assert_eq!(said(&output), format!("asmap: the map is accepted: {size} bytes, 257 instructions, depth 128\n"));
+    output.stdout
+}
+
+/// Maps of every shape: document 01's, the smallest, one of 128 open jumps, and drawn ones.
+pub fn maps() -> Vec<Vec<u8>> {
+    let mut maps = vec![TWO_PREFIXES.to_vec(), LOOPBACK.to_vec(), vec![0; 3], deep_map()];
+    maps.extend((0..60).map(|seed| large_map(1 + seed as u32 % 8, seed)));
+    maps
 }
