@@ -84,10 +84,11 @@ fn fields(object: &Value) -> Vec<&String> {
 }
 
 /// The sections of the page that name the fields, and a command line that prints them.
-const OBJECTS: [(&[&str], &[&str]); 8] = [
+const OBJECTS: [(&[&str], &[&str]); 9] = [
     (&["check"], &["check", "two.asmap", "cut.asmap"]),
     (&["walk"], &["walk", "two.asmap", "1.2.3.4"]),
     (&["walk", "trace"], &["trace", "two.asmap", "1.2.3.4"]),
+    (&["list"], &["list", "two.asmap"]),
     (&["unpack"], &["unpack", "two.asmap"]),
     (&["pack"], &["pack", "-o", "new.asmap", "list.txt"]),
     (&["group"], &["group", "1.2.3.4"]),
