@@ -41,6 +41,6 @@ for name in $(sed -n 's/^| `\([a-z_0-9]*\/specs\/[A-Za-z]*\)` | [0-9]* |.*/\1/p'
     [ -f "crates/$name.antt" ] || complain "it names $name, which is not there"
 done
 logic=$(rt version | sed 's/.* logic //')
-grep -q "\`rattle-kit-[0-9a-z]* logic $logic\`" README.md || { echo "pages: README.md names another toolchain than $(rt version)" && failed=1; }
+grep -q "\`rattle-kit-[0-9a-z-]* logic $logic\`" README.md || { echo "pages: README.md names another toolchain than $(rt version)" && failed=1; }
 [ "$failed" = 0 ] || exit 1
 echo "pages: $page names every edit and every file of definitions ($total lines)"
