@@ -1,3 +1,4 @@
 pub mod List
 pub mod Promise
+pub mod Examples
 pub mod models
