@@ -9,7 +9,7 @@
 ghost use mathlib.Core.Path.{_≡_};
 ghost use mathlib.Core.Bool.{true, false};
 ghost use mathlib.Core.List.{List};
-ghost use Prim.Native.Nat.{ℕ, _^_, _*_, _≤_, _<_};
+ghost use Prim.Native.Nat.{ℕ, _≤_, _<_};
 ghost use lib.ListN.{length};
 ghost use Rattle.asmap_program.specs.Map.{limit, RETURN, JUMP, MATCH, DEFAULT};
 ghost use Rattle.asmap_codes.specs.Row.{asnRow, jumpRow, matchRow};

@@ -19,7 +19,7 @@ use Rattle.asmap_program.specs.Walk.{Walked, Walker, Compared, Equal, Different
 use Rattle.asmap_program.proofs.Tree.{program, forward}
 use Rattle.asmap_program.proofs.Demand.{walk-at}
 use Rattle.prefix_records.specs.Tiling.{Piece, Tiles, Block, JustOne, numberOf, Bits}
-use Rattle.asmap_listing.specs.Listing.{piece, Spot, aside, sides, listWhole, listOn, listFrom, listing}
+use Rattle.asmap_listing.specs.Listing.{piece, Lister, aside, sides, listWhole, listOn, listFrom, listing}
 use Rattle.prefix_records.proofs.TilingLaws.{block-halves, in-low, in-high, here}
 
 -- ---- a MATCH
@@ -82,12 +82,12 @@ module _ (a : ℕ → ℕ) (bits : Bits a) (w : ℕ) where
 
 -- ---- a tree
 
-abbrev pub spot : ℕ → ℕ → ℕ → ℕ → Spot
+abbrev pub spot : ℕ → ℕ → ℕ → ℕ → Lister
 spot at u path d = record { at = at; used = u; path = path; default = d }
 
 module _ (m : Map) where
   -- the list at an instruction
-  pub list-at : (n k : ℕ) (s : Spot) (i : Instruction) → m .fetch (s .at) ≡ Whole i → i .opcode ≡ k
+  pub list-at : (n k : ℕ) (s : Lister) (i : Instruction) → m .fetch (s .at) ≡ Whole i → i .opcode ≡ k
       → listFrom m (suc n) s ≡ listWhole (listFrom m n) s i k
   unfolding listFrom
   list-at n k s i f e =

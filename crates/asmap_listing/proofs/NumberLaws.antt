@@ -9,7 +9,7 @@ use Rattle.asmap_program.specs.declared.Instruction.{Instruction}
 use Rattle.asmap_program.specs.Map.{endOf, Fetched, Whole, CutOpcode, CutOperand, Map, bitOf, lengthOf}
 use Rattle.prefix_records.specs.Tiling.{Piece}
 use Rattle.prefix_records.proofs.PlaceLaws.{At}
-use Rattle.asmap_listing.specs.Listing.{piece, Spot, listStart, aside, sides, listWhole, listOn, listFrom, listing}
+use Rattle.asmap_listing.specs.Listing.{piece, Lister, listStart, aside, sides, listWhole, listOn, listFrom, listing}
 
 -- each number is below n
 abbrev Below : ℕ → List Piece → Type 0
@@ -31,8 +31,8 @@ below-sides n d rest h k zero v path u = k path
 below-sides n d rest h k (suc l) v path u =
     below-aside n (eqb (bitOf v l) 1) (piece (2 * path + (1 - bitOf v l)) (suc u) d) _ h (below-sides n d rest h k l v (2 * path + bitOf v l) (suc u))
 
-below-whole : (n : ℕ) (k : Spot → List Piece) → ((s : Spot) → s .default < n → Below n (k s))
-    → (s : Spot) → s .default < n → (i : Instruction) → i .operand < n → (c : ℕ) → Below n (listWhole k s i c)
+below-whole : (n : ℕ) (k : Lister → List Piece) → ((s : Lister) → s .default < n → Below n (k s))
+    → (s : Lister) → s .default < n → (i : Instruction) → i .operand < n → (c : ℕ) → Below n (listWhole k s i c)
 below-whole n k more s h i l zero = (l, tt)
 below-whole n k more s h i l (suc zero) = below-append n (k _) (k _) (more _ h) (more _ h)
 below-whole n k more s h i l (suc (suc zero)) =
@@ -40,13 +40,13 @@ below-whole n k more s h i l (suc (suc zero)) =
 below-whole n k more s h i l (suc (suc (suc c))) = more _ l
 
 module _ (m : Map) (n : ℕ) (small : (p : ℕ) (i : Instruction) → m .fetch p ≡ Whole i → i .operand < n) where
-  below-on : (k : Spot → List Piece) → ((s : Spot) → s .default < n → Below n (k s)) → (s : Spot) → s .default < n
+  below-on : (k : Lister → List Piece) → ((s : Lister) → s .default < n → Below n (k s)) → (s : Lister) → s .default < n
       → (f : Fetched) → m .fetch (s .at) ≡ f → Below n (listOn k s f)
   below-on k more s h (Whole i) e = below-whole n k more s h i (small (s .at) i e) (i .opcode)
   below-on k more s h CutOpcode e = tt
   below-on k more s h (CutOperand op) e = tt
 
-  below-from : (f : ℕ) (s : Spot) → s .default < n → Below n (listFrom m f s)
+  below-from : (f : ℕ) (s : Lister) → s .default < n → Below n (listFrom m f s)
   unfolding listFrom
   below-from zero s h = tt
   below-from (suc f) s h = below-on (listFrom m f) (λ s′ h′. below-from f s′ h′) s h (m .fetch (s .at)) refl

@@ -1,5 +1,6 @@
 -- What a map lists (document 02, CR 1): a piece for each RETURN, and one for the side that differs at each bit of a MATCH. A function over
--- what can be read at each place, with the map's bits as fuel, as the walk is; of any map, accepted or not, and of any width.
+-- what can be read at each place, with the map's bits as fuel, as the walk is; of any map, accepted or not. A piece is a prefix, whatever the
+-- width of the addresses: the width comes in where pieces are held against addresses (`prefix_records/specs/Tiling`).
 -- Assumes nothing.
 use Prim.Native.Nat.{ℕ, zero, suc, _+_, _-_, _*_}
 use mathlib.Core.Bool.{Bool, true, false}
@@ -9,18 +10,19 @@ use Rattle.asmap_program.specs.declared.Instruction.{Instruction}
 use Rattle.asmap_program.specs.Map.{endOf, targetOf, Fetched, Whole, CutOpcode, CutOperand, Map, bitOf, lengthOf}
 use Rattle.prefix_records.specs.Tiling.{Piece}
 
+-- The piece of the u bits of `path`, with the number n.
 abbrev pub piece : ℕ → ℕ → ℕ → Piece
 piece path u n = record { prefix = path; length = u; number = n }
 
--- Where a listing stands: the place, the address bits used so far, their number, and the default.
-pub record Spot : Type 0 where
+-- Where a listing stands: the place, how many address bits are used, the number that they make (its path), and the default.
+pub record Lister : Type 0 where
   pub at : ℕ
   pub used : ℕ
   pub path : ℕ
   pub default : ℕ
 
 -- The start: map bit 0, no address bit used, default 0.
-abbrev pub listStart : Spot
+abbrev pub listStart : Lister
 listStart = record { at = 0; used = 0; path = 0; default = 0 }
 
 -- A side that differs, and what follows on the other side: a MATCH bit of 1 has it before what follows, a bit of 0 after it.
@@ -35,9 +37,9 @@ sides d rest zero v path u = rest path
 sides d rest (suc n) v path u =
     aside (eqb (bitOf v n) 1) (piece (2 * path + (1 - bitOf v n)) (suc u) d) (sides d rest n v (2 * path + bitOf v n) (suc u))
 
--- At an instruction read whole, by its opcode, k being the list from a spot on. RETURN gives one piece. JUMP gives its end's list and then
+-- At an instruction read whole, by its opcode, k being the list from a state on. RETURN gives one piece. JUMP gives its end's list and then
 -- its target's, both with the default that held at it. DEFAULT sets the default.
-abbrev pub listWhole : (Spot → List Piece) → Spot → Instruction → ℕ → List Piece
+abbrev pub listWhole : (Lister → List Piece) → Lister → Instruction → ℕ → List Piece
 listWhole k s i zero = piece (s .path) (s .used) (i .operand) ∷ []
 listWhole k s i (suc zero) =
     k (record { at = endOf i; used = suc (s .used); path = 2 * s .path; default = s .default })
@@ -49,15 +51,16 @@ listWhole k s i (suc (suc zero)) =
 listWhole k s i (suc (suc (suc n))) = k (record { at = endOf i; used = s .used; path = s .path; default = i .operand })
 
 -- By what can be read here; a cut code gives nothing (an accepted map has none).
-abbrev pub listOn : (Spot → List Piece) → Spot → Fetched → List Piece
+abbrev pub listOn : (Lister → List Piece) → Lister → Fetched → List Piece
 listOn k s (Whole i) = listWhole k s i (i .opcode)
 listOn k s CutOpcode = []
 listOn k s (CutOperand op) = []
 
 module _ (m : Map) where
-  unfoldable pub listFrom : ℕ → Spot → List Piece
+  -- The list from a state on. Each instruction goes forward by a bit of the map at least, so with f for each bit none is wanting.
+  unfoldable pub listFrom : ℕ → Lister → List Piece
   listFrom zero s = []
-  listFrom (suc f) s = listOn (λ (s′ : Spot). listFrom f s′) s (m .fetch (s .at))
+  listFrom (suc f) s = listOn (λ (s′ : Lister). listFrom f s′) s (m .fetch (s .at))
 
   -- The listing of a map.
   unfoldable pub listing : List Piece

@@ -1,5 +1,6 @@
 -- The listing as one pass over the instructions in order of place, for code: what is still to come is a stack. A leaf is a piece without
--- its prefix: pieces tile, so each begins where the one before it ends.
+-- its prefix: pieces tile, so each begins where the one before it ends. Nothing of it has to be believed: `proofs/ScanLaws.antt` shows that
+-- it gives the listing's pieces.
 -- Assumes nothing.
 use Prim.Native.Nat.{ℕ, zero, suc, _+_, _-_, _*_, _<_}
 use mathlib.Core.Bool.{Bool, true, false}
