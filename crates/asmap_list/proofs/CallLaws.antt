@@ -25,7 +25,7 @@ use Rattle.asmap_listing.proofs.AddressLaws.{bytes-are}
 use Rattle.asmap_listing.proofs.ScanLaws.{listing-scanned}
 use Rattle.asmap_listing.proofs.CountLaws.{listing-counted}
 use Rattle.asmap_list.specs.List.{listAs, listOf}
-use Rattle.asmap_list.specs.Promise.{Whole, Covers}
+use Rattle.asmap_list.specs.Promise.{Covers}
 use Rattle.asmap_list.specs.models.Listed.{Listed}
 
 -- what the calls learn where the check accepts with n pieces counted

@@ -18,7 +18,7 @@ use Rattle.prefix_records.specs.models.Cursor.{valueOf, Behind, recordAt}
 use Rattle.prefix_records.proofs.TilingLaws.{tiles-le}
 use Rattle.prefix_records.proofs.RecordLaws.{record-at}
 use Rattle.asmap_listing.specs.Listing.{listing}
-use Rattle.asmap_listing.specs.models.Scan.{Leaf, leaf, leaves, bitwise, scanStart, scanned}
+use Rattle.asmap_listing.specs.models.Scan.{Leaf, leaf, leaves, bitwise}
 use Rattle.asmap_list_step.specs.declared.Spot.{Spot}
 use Rattle.asmap_list_step.specs.models.Step.{stackOf, ahead, rest, Sane, Onward}
 use Rattle.asmap_list.specs.models.Listed.{Listed}
@@ -82,7 +82,7 @@ below-top first past size c top e p h l = omega arith
 room-left : (v first size past top : ℕ) → v ≡ first → past ≡ first + size → past < top → v + size < top
 room-left v first size past top e p h = omega arith
 
-module _ (map out₀ : List ℕ) (count : ℕ) (out bits numbers : List ℕ) (s : Spot) (a : Address) (k : ℕ) (t : Standing map out₀ count out bits numbers s a k) where
+module _ {map out₀ : List ℕ} {count : ℕ} {out bits numbers : List ℕ} {s : Spot} {a : Address} {k : ℕ} (t : Standing map out₀ count out bits numbers s a k) where
   pub gives-length : (l n : ℕ) (ls : List Leaf) → rest map s bits numbers ≡ leaf l n ∷ ls → l ≤ 128
   gives-length l n ls e =
       let f = first-piece (t .pieces) l n ls (t .scans ∙ e) in

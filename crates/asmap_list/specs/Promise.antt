@@ -1,11 +1,11 @@
 -- What a listing promises of every map that the check accepts, over the width w in address bits (document 02, CR 1): "records rise by address",
 -- "every address lies in just one, and that one carries the walk's number".
 -- Assumes nothing.
-use Prim.Native.Nat.{ℕ, _^_, _<_}
+use Prim.Native.Nat.{ℕ, _^_}
 use mathlib.Core.Path.{_≡_}
 use mathlib.Core.List.{List}
 use Rattle.asmap_program.specs.declared.Verdict.the-variants.{Accepted}
-use Rattle.asmap_program.specs.Map.{Map, addressBit}
+use Rattle.asmap_program.specs.Map.{addressBit}
 use Rattle.asmap_program.specs.Walk.{walk}
 use Rattle.asmap_codes.specs.Instruction.{mapOf}
 use Rattle.asmap_check.specs.Check.{checkOf}

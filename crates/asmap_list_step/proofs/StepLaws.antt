@@ -9,7 +9,7 @@ use lib.ListN.{length, getD, set, length-set}
 use lib.Seq.{getD-set-same, getD-set-other}
 use borrow.Author.Tests.{lt-ltb, le-ltb, lt-leb, le-leb}
 use Rattle.asmap_program.specs.declared.Instruction.{Instruction}
-use Rattle.asmap_program.specs.Map.{RETURN, JUMP, MATCH, DEFAULT, endOf, Fetched, bitOf, lengthOf}
+use Rattle.asmap_program.specs.Map.{RETURN, JUMP, MATCH, DEFAULT, Fetched, bitOf, lengthOf}
 use Rattle.asmap_program.proofs.Length.{length-below}
 use Rattle.asmap_codes.specs.Row.{typeRow, operandRow, span}
 use Rattle.asmap_codes.specs.Code.{codeAt}
@@ -17,10 +17,10 @@ use Rattle.asmap_codes.specs.declared.Code.the-variants.{Value, Cut}
 use Rattle.asmap_codes.specs.Instruction.{mapOf}
 use Rattle.asmap_codes.proofs.Inside.{value-at, long-operand}
 use Rattle.asmap_codes.proofs.MapLaws.{laws, fetch-cut, fetch-operand}
-use Rattle.asmap_listing.specs.models.Scan.{Leaf, leaf, Entry, Side, Half, Scan, popped, taken, given, bitwise, enough, scanWhole, scanOn, scanned, bitOfEntry, Rising}
-use Rattle.asmap_listing.proofs.ScanLaws.{scanned-step, scanned-at, stack-bound}
+use Rattle.asmap_listing.specs.models.Scan.{Leaf, leaf, Entry, Side, Half, Scan, popped, taken, given, bitwise, enough, scanWhole, scanOn, scanned, Rising}
+use Rattle.asmap_listing.proofs.ScanLaws.{scanned-step, stack-bound}
 use Rattle.asmap_list_step.specs.declared.Spot.{Spot}
-use Rattle.asmap_list_step.specs.models.Step.{entryIf, entryOf, stackOf, ahead, rest, one, weight, Sane, Onward, Reads}
+use Rattle.asmap_list_step.specs.models.Step.{entryIf, entryOf, stackOf, ahead, rest, one, Sane, Onward, Reads}
 
 -- ---- the stack in its arrays
 

@@ -1,19 +1,19 @@
 -- Addresses as numbers and by their bits: each number below 2 ^ w is an address, and an address lies in a piece exactly where its first bits
 -- are the piece's prefix. So of an accepted map's listing, for each number below 2 ^ w.
 -- Assumes nothing.
-use Prim.Native.Nat.{ℕ, zero, suc, _+_, _-_, _*_, _/_, _%_, _^_, _≤_, _<_}
+use Prim.Native.Nat.{ℕ, zero, suc, _+_, _-_, _*_, _/_, _^_, _≤_, _<_}
 use mathlib.Core.Bool.{Bool, true, false, _&&_}
 use mathlib.Core.Path.{_≡_, refl, sym, ap, subst, _∙_}
 use mathlib.Core.List.{List}
 use native.Mathlib.Nat.{mod-lt, div-eq-of-lt, div-div-eq-div-mul, div-one, pow-suc, mul-le-mul-right}
 use native.Mathlib.Omega.{arith}
 use lib.Dec.{leb, ltb, eqb}
-use borrow.Author.Tests.{lt-ltb, le-ltb, le-leb, lt-leb, eq-eqb, ne-eqb, ltb-true, ltb-false, eqb-true, eqb-false}
+use borrow.Author.Tests.{lt-ltb, le-ltb, le-leb, lt-leb, ltb-true, ltb-false, eqb-true, eqb-false}
 use Rattle.asmap_program.specs.Map.{Map, Laws, addressBit, bitOf}
 use Rattle.asmap_program.specs.Check.{check}
 use Rattle.asmap_program.specs.Walk.{walk}
 use Rattle.asmap_program.specs.declared.Verdict.the-variants.{Accepted}
-use Rattle.prefix_records.specs.Tiling.{Piece, firstOf, pastOf, holds, JustOne, numberOf, Bits}
+use Rattle.prefix_records.specs.Tiling.{Piece, holds, JustOne, numberOf, Bits}
 use Rattle.asmap_listing.specs.Listing.{listing}
 use Rattle.prefix_records.proofs.TilingLaws.{placed-in}
 use Rattle.asmap_listing.proofs.ListingLaws.{listing-walks}

@@ -2,19 +2,19 @@
 -- number of its walk. By induction on the tree.
 -- Assumes nothing.
 use Prim.Native.Nat.{ℕ, zero, suc, _+_, _-_, _*_, _^_, _≤_, _<_}
-use mathlib.Core.Bool.{Bool, true, false, cond}
+use mathlib.Core.Bool.{cond}
 use mathlib.Core.Path.{_≡_, refl, sym, ap, subst, _∙_}
 use mathlib.Core.List.{List, [], _∷_, _++_}
 use native.Mathlib.Nat.{add-zero, add-suc, suc-add, mod-lt, zero-mul, one-mul}
 use native.Mathlib.Omega.{arith}
 use lib.Dec.{eqb}
-use borrow.Author.Tests.{lt-ltb, le-leb, eqb-true, eqb-false}
+use borrow.Author.Tests.{lt-ltb, le-leb}
 use Rattle.asmap_program.specs.declared.Instruction.{Instruction}
 use Rattle.asmap_program.specs.declared.Previous.{Previous}
 use Rattle.asmap_program.specs.declared.Verdict.the-variants.{Accepted}
 use Rattle.asmap_program.specs.Map.{RETURN, JUMP, MATCH, DEFAULT, endOf, targetOf, Fetched, Whole, Map, Laws, bitOf, lengthOf}
 use Rattle.asmap_program.specs.Check.{check}
-use Rattle.asmap_program.specs.Tree.{Tree, return, jump, match, default, Program}
+use Rattle.asmap_program.specs.Tree.{Tree, return, jump, match, default}
 use Rattle.asmap_program.specs.Walk.{Walked, Walker, Compared, Equal, Different, compared, enough, meeting, goOn, walkFrom, walk}
 use Rattle.asmap_program.proofs.Tree.{program, forward}
 use Rattle.asmap_program.proofs.Demand.{walk-at}

@@ -3,7 +3,7 @@
 -- Assumes nothing.
 use Prim.Native.Nat.{ℕ, zero, suc, _+_, _-_, _*_, _≤_, _<_}
 use mathlib.Core.Bool.{Bool, true, false}
-use mathlib.Core.Path.{_≡_, refl, sym, ap, subst, _∙_}
+use mathlib.Core.Path.{_≡_, refl, sym, ap, _∙_}
 use mathlib.Core.List.{List, [], _∷_, _++_, append-assoc, append-nil}
 use native.Mathlib.Nat.{add-zero, add-suc, suc-add}
 use native.Mathlib.Omega.{arith}
@@ -18,7 +18,7 @@ use Rattle.asmap_program.specs.Check.{check}
 use Rattle.asmap_program.specs.Tree.{Tree, return, jump, match, default}
 use Rattle.asmap_program.proofs.Tree.{program, forward}
 use Rattle.prefix_records.specs.Tiling.{Piece}
-use Rattle.asmap_listing.specs.Listing.{piece, Lister, aside, sides, listFrom, listing}
+use Rattle.asmap_listing.specs.Listing.{piece, aside, sides, listFrom, listing}
 use Rattle.asmap_listing.specs.models.Scan.{Leaf, leaf, leaves, Entry, Side, Half, Scan, scanStart, popped, taken, given, bitwise, enough, scanWhole, scanOn, scanFrom, scanned, bitOfEntry, Rising}
 use Rattle.asmap_listing.proofs.ListingLaws.{spot, list-at}
 

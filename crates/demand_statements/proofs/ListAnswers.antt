@@ -28,7 +28,7 @@ use Rattle.prefix_records.proofs.PlaceLaws.{At, at-place, first-at, next-at, la
 use Rattle.asmap_listing.specs.Listing.{listing}
 use Rattle.asmap_listing.proofs.NumberLaws.{number-below}
 use Rattle.asmap_list.specs.List.{listAs, listOf, bytesOf, neededOf}
-use Rattle.asmap_list.specs.Promise.{Whole, Covers}
+use Rattle.asmap_list.specs.Promise.{Covers}
 use Rattle.answers.specs.Outcome.{handed, Hands}
 use Rattle.answers.specs.Maps.{walkMade, bytesWritten, bytesNeeded, Writes}
 use Rattle.answers.specs.Promise.{Demand3, Finished}
@@ -36,7 +36,7 @@ use Rattle.answers.proofs.NeverZeroMaps.{map-numbers, list-numbers, length-numb
 use Rattle.demand_statements.specs.AnyInput.{Lists, Needs}
 use Rattle.demand_statements.specs.Listed.{address, first, prefix, past, number, Tiled, InOne, ListedWalk, ListedWithRoom}
 use Rattle.demand_statements.proofs.AnswerLaws.{kept, numbered, refused-as, done-as}
-use Rattle.demand_statements.proofs.TripLaws.{Wrote, wrote, has-room, no-room, left-alone}
+use Rattle.demand_statements.proofs.TripLaws.{wrote, has-room, no-room, left-alone}
 use Rattle.demand_statements.proofs.WalkLaws.{sixteen-bytes}
 use Rattle.demand_statements.proofs.MapAnswers.{at-most-10, check-or-14}
 use Rattle.demand_statements.proofs.ListBytes.{Reads, reads, in-front, address-number}

@@ -11,7 +11,7 @@ use Rattle.byte_numbers.proofs.NumberLaws.{small-bytes}
 use Rattle.byte_numbers.proofs.Buffers.{sets-append-at}
 use Rattle.prefix_records.specs.declared.Address.{Address}
 use Rattle.prefix_records.specs.Tiling.{Piece, firstOf}
-use Rattle.prefix_records.specs.Record.{addressBytes, recordOf, recordsOf}
+use Rattle.prefix_records.specs.Record.{recordOf, recordsOf}
 use Rattle.prefix_records.specs.models.Cursor.{valueOf, recordAt}
 
 pub length-records : (ps : List Piece) → length (recordsOf ps) ≡ 24 * length ps

@@ -1,12 +1,9 @@
 -- `asmap_list::list_bytes` meets its contract: 24 bytes for each piece that the check counted.
 -- Assumes nothing.
 use borrow.Author.Needs.{needs}
-use mathlib.Core.Path.{_≡_, _∙_, sym, ap, subst}
+use mathlib.Core.Path.{_∙_, sym, ap, subst}
 use native.Mathlib.Omega.{arith}
-use Prim.Native.Nat.{ℕ}
-use Rattle.asmap_check.specs.declared.Counted.{Counted}
 use Rattle.asmap_check.specs.models.Counted.{Few}
-use Rattle.asmap_records.specs.Output.{Result}
 use Rattle.asmap_list.specs.declared.Needed.the-variants.{Bytes}
 use Rattle.asmap_list.specs.List.{bytesOf}
 use Rattle.asmap_list.proofs.CallLaws.{Counts, counts, refuses}

@@ -3,9 +3,8 @@
 -- Assumes nothing.
 use borrow.Author.Needs.{needs}
 use native.Mathlib.Omega.{arith}
-use mathlib.Core.Path.{_≡_, _∙_, refl, sym, ap, subst}
-use Prim.Native.Nat.{ℕ, _+_, _*_, _≤_}
-use Rattle.asmap_list_step.specs.models.Step.{weight, Stepped, rest}
+use mathlib.Core.Path.{_≡_, subst}
+use Rattle.asmap_list_step.specs.models.Step.{weight, Stepped}
 use Rattle.asmap_list_step.specs.declared.Turn.{Turn}
 use Rattle.asmap_list.proofs.PutLaws.{Standing, start-standing, gives-length, gives-standing, goes-standing, ends-standing, done-standing}
 use Rattle.asmap_list.proofs.put_listing.Statement.{statement}
@@ -17,6 +16,13 @@ Inv-loop map count out₀ bits₀ numbers₀ s₀ a₀ k₀ out bits numbers s a
 abbrev μ-loop : tie.MeasureT-loop
 μ-loop map count out₀ bits₀ numbers₀ s₀ a₀ k₀ out bits numbers s a k = weight map s
 
+-- what a step came to, as r, said once: after `step`
+stepped : (k : tie.After-step Inv-loop μ-loop) (r : Turn) → k .step .result ≡ r
+    → Stepped (k .before .before .before .before .before .before .before .before .before .before .args .map .now) (k .before .before .before .before .loop .s) (k .before .before .before .before .loop .bits) (k .before .before .before .before .loop .numbers) (k .step .last .1 .1 .0) (k .step .last .1 .1 .1 .0) r
+stepped k r e =
+    let l = k .before .before .before .before .loop in
+    subst (Stepped (k .before .before .before .before .before .before .before .before .before .before .args .map .now) (l .s) (l .bits) (l .numbers) (k .step .last .1 .1 .0) (k .step .last .1 .1 .1 .0)) e (k .step .ensures)
+
 stack-bits-requires : tie.Need-stack-bits-requires Inv-loop μ-loop
 stack-bits-requires c κs = search needs
 
@@ -27,7 +33,9 @@ start-requires : tie.Need-start-requires Inv-loop μ-loop
 start-requires c κs = search needs
 
 loop-holds : tie.Need-loop-holds Inv-loop μ-loop
-loop-holds c = let k = c .before .before .before .before .before in start-standing (k .args .map .now) (k .args .out .now) _ _ (k .args .count) _ (k .pre .2) (c .before .before .stack-bits .ensures) (c .before .stack-numbers .ensures) (c .start .ensures)
+loop-holds c =
+    let k = c .before .before .before .before .before in
+    start-standing (k .args .map .now) (k .args .out .now) _ _ (k .args .count) _ (k .pre .2) (c .before .before .stack-bits .ensures) (c .before .stack-numbers .ensures) (c .start .ensures)
 
 slice-aggregate-step : tie.Need-slice-aggregate-step Inv-loop μ-loop
 slice-aggregate-step c = c .before .before .loop .inv .sane .rooms .0
@@ -38,35 +46,42 @@ slice-aggregate-step-2 c = c .before .before .before .loop .inv .sane .rooms .1
 step-requires : tie.Need-step-requires Inv-loop μ-loop
 step-requires c κs = (c .before .before .before .before .before .before .before .before .before .pre .0, c .before .before .before .loop .inv .sane)
 
+-- ---- a piece
+
 enum-known-turn : tie.Need-enum-known-turn Inv-loop μ-loop
 enum-known-turn c = search needs
 
 mul-put-record : tie.Need-mul-put-record Inv-loop μ-loop
-mul-put-record c = omega (arith, c .before .before .before .before .before .before .before .before .before .loop-test .taken, c .before .before .before .before .before .before .before .before .before .before .before .before .before .before .before .before .pre .1, c .before .before .before .before .before .before .before .before .before .before .before .before .before .before .before .before .good)
+mul-put-record c = let k = c .before .before .before .before .before .before .before .before .before .before .before .before .before .before .before .before in omega (arith, c .before .before .before .before .before .before .before .before .before .loop-test .taken, k .pre .1, k .good)
 
 put-record-requires : tie.Need-put-record-requires Inv-loop μ-loop
 put-record-requires c κs = omega (arith, c .before .before .before .before .before .before .before .before .before .loop-test .taken, c .before .before .before .before .before .before .before .before .before .before .before .before .before .before .before .before .pre .1, c .before .before .before .before .before .before .before .before .before .before .loop .inv .long)
 
 behind-requires : tie.Need-behind-requires Inv-loop μ-loop
-behind-requires c κs = let o = subst (λ (r : Turn). Stepped (c .before .before .before .before .before .before .before .before .before .before .before .before .before .before .before .before .before .before .before .args .map .now) (c .before .before .before .before .before .before .before .before .before .before .before .before .before .loop .s) (c .before .before .before .before .before .before .before .before .before .before .before .before .before .loop .bits) (c .before .before .before .before .before .before .before .before .before .before .before .before .before .loop .numbers) (c .before .before .before .before .before .before .before .before .before .step .last .1 .1 .0) (c .before .before .before .before .before .before .before .before .before .step .last .1 .1 .1 .0) r) (c .before .before .before .before .before .turn .given .1) (c .before .before .before .before .before .before .before .before .before .step .ensures) in gives-length (c .before .before .before .before .before .before .before .before .before .before .before .before .before .before .before .before .before .before .before .args .map .now) (c .before .before .before .before .before .before .before .before .before .before .before .before .before .before .before .before .before .before .before .args .out .now) (c .before .before .before .before .before .before .before .before .before .before .before .before .before .before .before .before .before .before .before .args .count) (c .before .before .before .before .before .before .before .before .before .before .before .before .before .loop .out) (c .before .before .before .before .before .before .before .before .before .before .before .before .before .loop .bits) (c .before .before .before .before .before .before .before .before .before .before .before .before .before .loop .numbers) (c .before .before .before .before .before .before .before .before .before .before .before .before .before .loop .s) (c .before .before .before .before .before .before .before .before .before .before .before .before .before .loop .a) (c .before .before .before .before .before .before .before .before .before .before .before .before .before .loop .k) (c .before .before .before .before .before .before .before .before .before .before .before .before .before .loop .inv) (c .before .before .before .before .before .turn .given .0 .0) (c .before .before .before .before .before .turn .given .0 .1 .0) _ (o .same)
+behind-requires c κs = gives-length (c .before .before .before .before .before .before .before .before .before .before .before .before .before .loop .inv) _ _ _ (stepped (c .before .before .before .before .before .before .before .before .before) _ (c .before .before .before .before .before .turn .given .1) .same)
 
 add-k : tie.Need-add-k Inv-loop μ-loop
-add-k c = omega (arith, c .before .before .before .before .before .before .before .before .before .before .before .before .before .loop-test .taken, c .before .before .before .before .before .before .before .before .before .before .before .before .before .before .before .before .before .before .before .before .pre .1, c .before .before .before .before .before .before .before .before .before .before .before .before .before .before .before .before .before .before .before .before .good)
+add-k c = let k = c .before .before .before .before .before .before .before .before .before .before .before .before .before .before .before .before .before .before .before .before in omega (arith, c .before .before .before .before .before .before .before .before .before .before .before .before .before .loop-test .taken, k .pre .1, k .good)
 
 loop-less : tie.Need-loop-less Inv-loop μ-loop
-loop-less c = let o = subst (λ (r : Turn). Stepped (c .before .before .before .before .before .before .before .before .before .before .before .before .before .before .before .before .before .before .before .before .args .map .now) (c .before .before .before .before .before .before .before .before .before .before .before .before .before .before .loop .s) (c .before .before .before .before .before .before .before .before .before .before .before .before .before .before .loop .bits) (c .before .before .before .before .before .before .before .before .before .before .before .before .before .before .loop .numbers) (c .before .before .before .before .before .before .before .before .before .before .step .last .1 .1 .0) (c .before .before .before .before .before .before .before .before .before .before .step .last .1 .1 .1 .0) r) (c .before .before .before .before .before .before .turn .given .1) (c .before .before .before .before .before .before .before .before .before .before .step .ensures) in o .less
+loop-less c = stepped (c .before .before .before .before .before .before .before .before .before .before) _ (c .before .before .before .before .before .before .turn .given .1) .less
 
 loop-again : tie.Need-loop-again Inv-loop μ-loop
-loop-again c = gives-standing (c .before .before .before .before .before .before .before .before .before .before .before .before .before .before .before .before .before .before .before .before .args .map .now) (c .before .before .before .before .before .before .before .before .before .before .before .before .before .before .before .before .before .before .before .before .args .out .now) (c .before .before .before .before .before .before .before .before .before .before .before .before .before .before .before .before .before .before .before .before .args .count) (c .before .before .before .before .before .before .before .before .before .before .before .before .before .before .loop .out) (c .before .before .before .before .before .before .before .before .before .before .before .before .before .before .loop .bits) (c .before .before .before .before .before .before .before .before .before .before .before .before .before .before .loop .numbers) (c .before .before .before .before .before .before .before .before .before .before .before .before .before .before .loop .s) (c .before .before .before .before .before .before .before .before .before .before .before .before .before .before .loop .a) (c .before .before .before .before .before .before .before .before .before .before .before .before .before .before .loop .k) (c .before .before .before .before .before .before .before .before .before .before .before .before .before .before .loop .inv) (c .before .before .before .before .before .before .turn .given .0 .0) (c .before .before .before .before .before .before .turn .given .0 .1 .0) (c .before .before .before .before .before .before .turn .given .0 .1 .1 .0) _ _ _ _ (subst (λ (r : Turn). Stepped (c .before .before .before .before .before .before .before .before .before .before .before .before .before .before .before .before .before .before .before .before .args .map .now) (c .before .before .before .before .before .before .before .before .before .before .before .before .before .before .loop .s) (c .before .before .before .before .before .before .before .before .before .before .before .before .before .before .loop .bits) (c .before .before .before .before .before .before .before .before .before .before .before .before .before .before .loop .numbers) (c .before .before .before .before .before .before .before .before .before .before .step .last .1 .1 .0) (c .before .before .before .before .before .before .before .before .before .before .step .last .1 .1 .1 .0) r) (c .before .before .before .before .before .before .turn .given .1) (c .before .before .before .before .before .before .before .before .before .before .step .ensures)) (c .behind .ensures) (c .before .before .before .put-record .ensures)
+loop-again c =
+    gives-standing (c .before .before .before .before .before .before .before .before .before .before .before .before .before .before .loop .inv) _ _ _ _ _ _ _ (stepped (c .before .before .before .before .before .before .before .before .before .before) _ (c .before .before .before .before .before .before .turn .given .1)) (c .behind .ensures) (c .before .before .before .put-record .ensures)
+
+-- ---- no piece
 
 enum-known-turn-2 : tie.Need-enum-known-turn-2 Inv-loop μ-loop
 enum-known-turn-2 c = search needs
 
 loop-less-2 : tie.Need-loop-less-2 Inv-loop μ-loop
-loop-less-2 c = let o = subst (λ (r : Turn). Stepped (c .before .before .before .before .before .before .before .before .before .before .before .before .before .before .before .args .map .now) (c .before .before .before .before .before .before .before .before .before .loop .s) (c .before .before .before .before .before .before .before .before .before .loop .bits) (c .before .before .before .before .before .before .before .before .before .loop .numbers) (c .before .before .before .before .before .step .last .1 .1 .0) (c .before .before .before .before .before .step .last .1 .1 .1 .0) r) (c .before .turn2 .given .1) (c .before .before .before .before .before .step .ensures) in o .less
+loop-less-2 c = stepped (c .before .before .before .before .before) _ (c .before .turn2 .given .1) .less
 
 loop-again-2 : tie.Need-loop-again-2 Inv-loop μ-loop
-loop-again-2 c = goes-standing (c .before .before .before .before .before .before .before .before .before .before .before .before .before .before .before .args .map .now) (c .before .before .before .before .before .before .before .before .before .before .before .before .before .before .before .args .out .now) (c .before .before .before .before .before .before .before .before .before .before .before .before .before .before .before .args .count) (c .before .before .before .before .before .before .before .before .before .loop .out) (c .before .before .before .before .before .before .before .before .before .loop .bits) (c .before .before .before .before .before .before .before .before .before .loop .numbers) (c .before .before .before .before .before .before .before .before .before .loop .s) (c .before .before .before .before .before .before .before .before .before .loop .a) (c .before .before .before .before .before .before .before .before .before .loop .k) (c .before .before .before .before .before .before .before .before .before .loop .inv) (c .before .turn2 .given .0 .0) _ _ (subst (λ (r : Turn). Stepped (c .before .before .before .before .before .before .before .before .before .before .before .before .before .before .before .args .map .now) (c .before .before .before .before .before .before .before .before .before .loop .s) (c .before .before .before .before .before .before .before .before .before .loop .bits) (c .before .before .before .before .before .before .before .before .before .loop .numbers) (c .before .before .before .before .before .step .last .1 .1 .0) (c .before .before .before .before .before .step .last .1 .1 .1 .0) r) (c .before .turn2 .given .1) (c .before .before .before .before .before .step .ensures))
+loop-again-2 c = goes-standing (c .before .before .before .before .before .before .before .before .before .loop .inv) _ _ _ (stepped (c .before .before .before .before .before) _ (c .before .turn2 .given .1))
+
+-- ---- the end
 
 enum-told : tie.Need-enum-told Inv-loop μ-loop
 enum-told c = search needs
@@ -75,13 +90,13 @@ same-length : tie.Need-same-length Inv-loop μ-loop
 same-length c = c .before .before .before .before .before .before .before .before .loop .inv .long
 
 returns : tie.Need-returns Inv-loop μ-loop
-returns c = ends-standing (c .before .before .before .before .before .before .before .before .before .before .before .before .before .before .args .map .now) (c .before .before .before .before .before .before .before .before .before .before .before .before .before .before .args .out .now) (c .before .before .before .before .before .before .before .before .before .before .before .before .before .before .args .count) (c .before .before .before .before .before .before .before .before .loop .out) (c .before .before .before .before .before .before .before .before .loop .bits) (c .before .before .before .before .before .before .before .before .loop .numbers) (c .before .before .before .before .before .before .before .before .loop .s) (c .before .before .before .before .before .before .before .before .loop .a) (c .before .before .before .before .before .before .before .before .loop .k) (c .before .before .before .before .before .before .before .before .loop .inv) (subst (λ (r : Turn). Stepped (c .before .before .before .before .before .before .before .before .before .before .before .before .before .before .args .map .now) (c .before .before .before .before .before .before .before .before .loop .s) (c .before .before .before .before .before .before .before .before .loop .bits) (c .before .before .before .before .before .before .before .before .loop .numbers) (c .before .before .before .before .step .last .1 .1 .0) (c .before .before .before .before .step .last .1 .1 .1 .0) r) (c .enum-told .given .1) (c .before .before .before .before .step .ensures))
+returns c = ends-standing (c .before .before .before .before .before .before .before .before .loop .inv) (stepped (c .before .before .before .before) _ (c .enum-told .given .1))
 
 same-length-2 : tie.Need-same-length-2 Inv-loop μ-loop
 same-length-2 c = c .before .loop .inv .long
 
 returns-2 : tie.Need-returns-2 Inv-loop μ-loop
-returns-2 c = done-standing (c .before .before .before .before .before .before .before .args .map .now) (c .before .before .before .before .before .before .before .args .out .now) (c .before .before .before .before .before .before .before .args .count) (c .before .loop .out) (c .before .loop .bits) (c .before .loop .numbers) (c .before .loop .s) (c .before .loop .a) (c .before .loop .k) (c .before .loop .inv) (c .loop-test .left)
+returns-2 c = done-standing (c .before .loop .inv) (c .loop-test .left)
 
 pub put-listing-spec : {M : Type 1} → statement M
 put-listing-spec =

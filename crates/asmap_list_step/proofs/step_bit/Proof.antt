@@ -1,7 +1,8 @@
--- `asmap_list_step::step_bit` meets its contract, by the rows on a bit of a MATCH. Assumes nothing.
+-- `asmap_list_step::step_bit` meets its contract, by the rows on a bit of a MATCH.
+-- Assumes nothing.
 use borrow.Author.Needs.{needs}
-use mathlib.Core.Path.{_≡_, refl}
-use Prim.Native.Nat.{ℕ, suc, _+_, _-_, _≤_}
+use mathlib.Core.Path.{refl}
+use Prim.Native.Nat.{_+_, _-_}
 use native.Mathlib.Omega.{arith}
 use Rattle.asmap_list_step.proofs.StepLaws.{depth-bound, bit-gives, bit-goes}
 use Rattle.asmap_list_step.proofs.step_bit.Statement.{statement}

@@ -9,7 +9,7 @@ use Rattle.asmap_program.specs.Map.{MATCH}
 use Rattle.asmap_codes.specs.Row.{matchRow}
 use Rattle.asmap_codes.specs.Code.{codeAt}
 use Rattle.asmap_row_decoder.proofs.WindowLaws.{row-window}
-use Rattle.asmap_list_step.proofs.StepLaws.{from-near, operand-cut, stood, at-match, at-match-full}
+use Rattle.asmap_list_step.proofs.StepLaws.{from-near, operand-cut, at-match, at-match-full}
 use Rattle.asmap_list_step.proofs.step_match.Statement.{statement}
 use Rattle.asmap_list_step.proofs.step_match.Tie as tie
 

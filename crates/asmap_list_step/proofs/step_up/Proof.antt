@@ -1,7 +1,8 @@
--- `asmap_list_step::step_up` meets its contract, by the rows on the stack's turn. Assumes nothing.
+-- `asmap_list_step::step_up` meets its contract, by the rows on the stack's turn.
+-- Assumes nothing.
 use borrow.Author.Needs.{needs}
-use mathlib.Core.Path.{_≡_, refl}
-use Prim.Native.Nat.{ℕ, suc, _-_, _≤_}
+use mathlib.Core.Path.{refl}
+use Prim.Native.Nat.{_-_}
 use native.Mathlib.Omega.{arith}
 use Rattle.asmap_list_step.proofs.StepLaws.{depth-bound, up-ends, up-goes, up-gives}
 use Rattle.asmap_list_step.proofs.step_up.Statement.{statement}

@@ -2,9 +2,9 @@
 -- its prefix: pieces tile, so each begins where the one before it ends. Nothing of it has to be believed: `proofs/ScanLaws.antt` shows that
 -- it gives the listing's pieces.
 -- Assumes nothing.
-use Prim.Native.Nat.{ℕ, zero, suc, _+_, _-_, _*_, _<_}
+use Prim.Native.Nat.{ℕ, zero, suc, _+_, _-_, _<_}
 use mathlib.Core.Bool.{Bool, true, false}
-use mathlib.Core.List.{List, [], _∷_, _++_}
+use mathlib.Core.List.{List, [], _∷_}
 use lib.Dec.{eqb, ltb, leb}
 use Rattle.asmap_program.specs.declared.Instruction.{Instruction}
 use Rattle.asmap_program.specs.Map.{endOf, Fetched, Whole, CutOpcode, CutOperand, Map, bitOf, lengthOf}

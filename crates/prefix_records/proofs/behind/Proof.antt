@@ -2,8 +2,6 @@
 -- Assumes nothing.
 use borrow.Author.Needs.{needs}
 use native.Mathlib.Omega.{arith}
-use mathlib.Core.Path.{_∙_, sym}
-use lib.Pow.{pow-mono}
 use Prim.Native.Nat.{_-_}
 use Rattle.prefix_records.proofs.CursorLaws.{behind-whole, behind-high, behind-carry, behind-low}
 use Rattle.prefix_records.proofs.behind.Statement.{statement}

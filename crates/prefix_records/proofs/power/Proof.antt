@@ -1,7 +1,6 @@
 -- `prefix_records::power` meets its contract.
 -- Assumes nothing.
 use borrow.Author.Needs.{needs}
-use native.Mathlib.Omega.{arith}
 use Rattle.prefix_records.proofs.CursorLaws.{power-of}
 use Rattle.prefix_records.proofs.power.Statement.{statement}
 use Rattle.prefix_records.proofs.power.Tie as tie
