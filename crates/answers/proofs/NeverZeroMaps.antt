@@ -13,7 +13,6 @@ use Rattle.asmap_program.specs.Map.{limit, Map, Fetched, Whole, CutOpcode, CutO
 use Rattle.asmap_program.specs.Check.{State, Open, Outcome, Next, Done, Refuse, guard, closing, stepWhole, stepOn, step, after, run, start, check, stopOf}
 use Rattle.asmap_codes.specs.Instruction.{mapOf}
 use Rattle.asmap_check.specs.Check.{unlessLong, checkOf, reasonOf, stopsUnlessLong, stoppedOf}
-use Rattle.asmap_check.specs.declared.Stopped.{Stopped}
 use Rattle.asmap_check.specs.declared.Stopped.the-variants.{At}
 use Rattle.asmap_walk.specs.declared.Ending.{Ending}
 use Rattle.asmap_walk.specs.declared.Interpreted.the-variants.{Ended}
@@ -131,15 +130,12 @@ module _ (P : ℕ → Type 0) where
   bytes-numbers : (k : ℕ) (r : Result) → P 14 → Makes r → Refuses P (bytesWritten (answerOf (within k r)))
   bytes-numbers k r short h = numbered-answer (within k r) (goes-on _ (λ l. refused (ltb k (length l)) 14 _ short tt) r h)
 
-  unpack-as : (m : List ℕ) (w : ℕ) (v : Verdict) → Refuses P (mapChecked v) → Makes (unpackAs m w v)
+  -- made by the check's verdict: refused as it says
+  by-verdict : (made : Verdict → Result) → ((c d : ℕ) → Makes (made (Accepted c d))) → ((n : ℕ) → P n → Makes (made (Refused n)))
+      → (v : Verdict) → Refuses P (mapChecked v) → Makes (made v)
   unfolding Refuses mapChecked
-  unpack-as m w (Accepted c d) h = tt
-  unpack-as m w (Refused n) h = h
-
-  list-as : (m : List ℕ) (v : Verdict) → Refuses P (mapChecked v) → Makes (listAs m v)
-  unfolding Refuses mapChecked
-  list-as m (Accepted c d) h = tt
-  list-as m (Refused n) h = h
+  by-verdict made a b (Accepted c d) h = a c d
+  by-verdict made a b (Refused n) h = b n h
 
   numbered-length : (r : Result) → Makes r → Refuses P (bytesNeeded (bytesOf r))
   unfolding Refuses bytesNeeded
@@ -149,16 +145,16 @@ module _ (P : ℕ → Type 0) where
   -- the check's; where it is written, then 14
   pub list-numbers : (k : ℕ) (m : List ℕ) (w : ℕ) → P 14 → Refuses P (mapChecked (checkOf m w)) → Refuses P (bytesWritten (answerOf (within k (listOf m w))))
   unfolding listOf
-  list-numbers k m w short h = bytes-numbers k (listOf m w) short (list-as m (checkOf m w) h)
+  list-numbers k m w short h = bytes-numbers k (listOf m w) short (by-verdict (listAs m) (λ c d. tt) (λ n p. p) (checkOf m w) h)
 
   pub length-numbers : (m : List ℕ) (w : ℕ) → Refuses P (mapChecked (checkOf m w)) → Refuses P (bytesNeeded (neededOf m w))
   unfolding listOf
-  length-numbers m w h = numbered-length (listOf m w) (list-as m (checkOf m w) h)
+  length-numbers m w h = numbered-length (listOf m w) (by-verdict (listAs m) (λ c d. tt) (λ n p. p) (checkOf m w) h)
 
   -- the check's, then 14
   pub unpack-numbers : (k : ℕ) (m : List ℕ) (w : ℕ) → P 14 → Refuses P (mapChecked (checkOf m w)) → Refuses P (bytesWritten (answerOf (within k (unpackOf m w))))
   unfolding unpackOf
-  unpack-numbers k m w short h = bytes-numbers k (unpackOf m w) short (unpack-as m w (checkOf m w) h)
+  unpack-numbers k m w short h = bytes-numbers k (unpackOf m w) short (by-verdict (unpackAs m w) (λ c d. tt) (λ n p. p) (checkOf m w) h)
 
   module _ (one : P 1) (range : P 15) (wrong : P 16) where
     record-makes : (l : List ℕ) (at : ℕ) → Makes (recordBits l at)

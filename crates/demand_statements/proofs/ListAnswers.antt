@@ -2,7 +2,6 @@
 -- Assumes nothing.
 use Prim.Native.Nat.{ℕ, zero, suc, _+_, _-_, _*_, _%_, _^_, _≤_, _<_}
 use mathlib.Core.Path.{_≡_, refl, sym, ap, subst, _∙_}
-use mathlib.Core.Logic.{_⊎_, inl, inr}
 use mathlib.Core.List.{List, [], _∷_}
 use native.Mathlib.Nat.{suc-mul, mul-mod-left}
 use native.Mathlib.Omega.{arith}
@@ -16,7 +15,7 @@ use Rattle.asmap_codes.specs.Instruction.{mapOf}
 use Rattle.asmap_codes.proofs.MapLaws.{map-fetch}
 use Rattle.asmap_check.specs.Check.{checkOf}
 use Rattle.asmap_walk.specs.Interpret.{walkOf, interpretOf}
-use Rattle.asmap_records.specs.Output.{Result, Made, No, within, answerOf}
+use Rattle.asmap_records.specs.Output.{Result, Made, No}
 use Rattle.asmap_records.proofs.OutputLaws.{made-same}
 use Rattle.asmap_records.proofs.Reading.{stands}
 use Rattle.byte_numbers.proofs.NumberLaws.{AllBytes}
@@ -30,15 +29,15 @@ use Rattle.asmap_listing.proofs.NumberLaws.{number-below}
 use Rattle.asmap_list.specs.List.{listAs, listOf, bytesOf, neededOf}
 use Rattle.asmap_list.specs.Promise.{Covers}
 use Rattle.answers.specs.Outcome.{handed, Hands}
-use Rattle.answers.specs.Maps.{walkMade, bytesWritten, bytesNeeded, Writes}
+use Rattle.answers.specs.Maps.{walkMade, bytesNeeded, Writes}
 use Rattle.answers.specs.Promise.{Demand3, Finished}
 use Rattle.answers.proofs.NeverZeroMaps.{map-numbers, list-numbers, length-numbers}
 use Rattle.demand_statements.specs.AnyInput.{Lists, Needs}
 use Rattle.demand_statements.specs.Listed.{address, first, prefix, past, number, Tiled, InOne, ListedWalk, ListedWithRoom}
 use Rattle.demand_statements.proofs.AnswerLaws.{kept, numbered, refused-as, done-as}
-use Rattle.demand_statements.proofs.TripLaws.{wrote, has-room, no-room, left-alone}
+use Rattle.demand_statements.proofs.TripLaws.{wrote, has-room, no-room}
 use Rattle.demand_statements.proofs.WalkLaws.{sixteen-bytes}
-use Rattle.demand_statements.proofs.MapAnswers.{at-most-10, check-or-14}
+use Rattle.demand_statements.proofs.MapAnswers.{at-most-10, CheckOr14, by-check}
 use Rattle.demand_statements.proofs.ListBytes.{Reads, reads, in-front, address-number}
 
 -- ---- any input
@@ -52,13 +51,9 @@ unfolding listOf
 made m c d e = ap (listAs m) e
 
 pub lists : (m o o′ : List ℕ) {r written written′ : ℕ} → Writes (listOf m 128) o o′ r (written ∷ []) (written′ ∷ []) → Lists m o o′ r written written′
-unfolding bytesWritten
-lists m o o′ w = record {
-  numbers = check-or-14 (numbered (λ n. (n ≤ 10) ⊎ (n ≡ 14)) _ (list-numbers (λ n. (n ≤ 10) ⊎ (n ≡ 14)) (length o) m 128 (inr refl) (map-numbers (λ n. (n ≤ 10) ⊎ (n ≡ 14)) (λ n l k. inl k) m 128 (inl (omega arith)))) (w .hands));
-  refused = λ n e. refused-as _ (ap (λ (x : Result). bytesWritten (answerOf (within (length o) x))) (not-made m n e)) (w .hands);
-  past = λ z. wrote (listOf m 128) w z .past;
-  untouched = left-alone (listOf m 128) w;
-}
+lists m o o′ w =
+    let b = by-check m o o′ (listOf m 128) (not-made m) (list-numbers CheckOr14 (length o) m 128) w in
+    record { numbers = b .numbers; refused = b .refused; past = b .past; untouched = b .untouched }
 
 pub needs : (m : List ℕ) {r : ℕ} {entry exit : List ℕ} → Hands (bytesNeeded (neededOf m 128)) r entry exit → Needs m r entry exit
 unfolding bytesNeeded

@@ -9,7 +9,7 @@ use native.Mathlib.Omega.{arith}
 use native.Mathlib.Decide.{decLe}
 use borrow.Author.Tests.{lt-ltb, le-ltb, ltb-false, eq-eqb, ne-eqb}
 use lib.Dec.{ltb, eqb}
-use lib.ListN.{length}
+use lib.ListN.{length, drop}
 use Rattle.asmap_program.specs.declared.Verdict.{Verdict}
 use Rattle.asmap_program.specs.declared.Verdict.the-variants.{Accepted, Refused}
 use Rattle.asmap_program.specs.Map.{limit}
@@ -31,6 +31,7 @@ use Rattle.asmap_records.specs.Pack.{packBits, packOf}
 use Rattle.asmap_records.proofs.OutputLaws.{made-same}
 use Rattle.answers.specs.Outcome.{handed, IsDone, Hands}
 use Rattle.answers.specs.Maps.{mapChecked, checkStopped, kindNumber, endNumbers, walkMade, bytesWritten, Writes}
+use Rattle.answers.proofs.Handing.{Refuses}
 use Rattle.answers.proofs.NeverZeroMaps.{check-numbers, map-numbers, unpack-numbers, pack-numbers}
 use Rattle.demand_statements.specs.AnyInput.{Checks, Stops, Told, Walks, Unpacks, Packs}
 use Rattle.demand_statements.proofs.AnswerLaws.{kept, numbered, refused-as, done-as, handed-out, refused-by}
@@ -150,7 +151,7 @@ walks m a h =
 
 -- ---- unpack and pack
 
-pub check-or-14 : {r : ℕ} → (r ≡ 0) ⊎ ((r ≤ 10) ⊎ (r ≡ 14)) → (r ≤ 10) ⊎ (r ≡ 14)
+check-or-14 : {r : ℕ} → (r ≡ 0) ⊎ ((r ≤ 10) ⊎ (r ≡ 14)) → (r ≤ 10) ⊎ (r ≡ 14)
 check-or-14 (inl z) = inl (omega arith)
 check-or-14 (inr k) = k
 
@@ -158,19 +159,42 @@ not-made : (m : List ℕ) (n : ℕ) → checkOf m 128 ≡ Refused n → unpackOf
 unfolding unpackOf
 not-made m n e = rw e
 
-pub unpacks : (m o o′ : List ℕ) {r written written′ : ℕ} → Writes (unpackOf m 128) o o′ r (written ∷ []) (written′ ∷ []) → Unpacks m o o′ r written written′
+-- A call that writes what is made by the check's verdict, in a room as long as o.
+pub record ByCheck (m o o′ : List ℕ) (r written written′ : ℕ) : Type 0 where
+  pub numbers : (r ≤ 10) ⊎ (r ≡ 14)
+  pub refused : (n : ℕ) → checkOf m 128 ≡ Refused n → r ≡ n
+  pub past : r ≡ 0 → drop written′ o′ ≡ drop written′ o
+  pub untouched : (r ≡ 0 → ⊥) → (o′ ≡ o) × (written′ ≡ written)
+
+-- a number that the check, or a room too short, gives
+abbrev pub CheckOr14 : ℕ → Type 0
+CheckOr14 n = (n ≤ 10) ⊎ (n ≡ 14)
+
+pub by-check : (m o o′ : List ℕ) {r written written′ : ℕ} (made : Result) → ((n : ℕ) → checkOf m 128 ≡ Refused n → made ≡ No n)
+    → (CheckOr14 14 → Refuses CheckOr14 (mapChecked (checkOf m 128)) → Refuses CheckOr14 (bytesWritten (answerOf (within (length o) made))))
+    → Writes made o o′ r (written ∷ []) (written′ ∷ []) → ByCheck m o o′ r written written′
 unfolding bytesWritten
-unpacks m o o′ {r} {written} {written′} w = record {
-  numbers = check-or-14 (numbered (λ n. (n ≤ 10) ⊎ (n ≡ 14)) _ (unpack-numbers (λ n. (n ≤ 10) ⊎ (n ≡ 14)) (length o) m 128 (inr refl) (map-numbers (λ n. (n ≤ 10) ⊎ (n ≡ 14)) (λ n l k. inl k) m 128 (inl (omega arith)))) (w .hands));
-  refused = λ n e. refused-as _ (ap (λ (x : Result). bytesWritten (answerOf (within (length o) x))) (not-made m n e)) (w .hands);
-  answered = λ c d e k.
-      let z = unpack-answers m o o′ c d e k w in
-      let u = wrote (unpackOf m 128) w z in
-      (z, u .many ∙ ap length (made-same (sym (unpack-made m c d e) ∙ u .these)) ∙ unpack-size m c d e);
-  no-room = λ c d e k. no-room (unpackOf m 128) _ o o′ (unpack-made m c d e) (omega (arith, unpack-size m c d e)) w;
-  past = λ z. wrote (unpackOf m 128) w z .past;
-  untouched = left-alone (unpackOf m 128) w;
+by-check m o o′ made unmade numbers w = record {
+  numbers = check-or-14 (numbered CheckOr14 _ (numbers (inr refl) (map-numbers CheckOr14 (λ n l k. inl k) m 128 (inl (omega arith)))) (w .hands));
+  refused = λ n e. refused-as _ (ap (λ (x : Result). bytesWritten (answerOf (within (length o) x))) (unmade n e)) (w .hands);
+  past = λ z. wrote made w z .past;
+  untouched = left-alone made w;
 }
+
+pub unpacks : (m o o′ : List ℕ) {r written written′ : ℕ} → Writes (unpackOf m 128) o o′ r (written ∷ []) (written′ ∷ []) → Unpacks m o o′ r written written′
+unpacks m o o′ {r} {written} {written′} w =
+    let b = by-check m o o′ (unpackOf m 128) (not-made m) (unpack-numbers CheckOr14 (length o) m 128) w in
+    record {
+      numbers = b .numbers;
+      refused = b .refused;
+      answered = λ c d e k.
+          let z = unpack-answers m o o′ c d e k w in
+          let u = wrote (unpackOf m 128) w z in
+          (z, u .many ∙ ap length (made-same (sym (unpack-made m c d e) ∙ u .these)) ∙ unpack-size m c d e);
+      no-room = λ c d e k. no-room (unpackOf m 128) _ o o′ (unpack-made m c d e) (omega (arith, unpack-size m c d e)) w;
+      past = b .past;
+      untouched = b .untouched;
+    }
 
 no-whole : (rs : List ℕ) → length rs % 16 ≢ 0 → packOf rs ≡ No 16
 unfolding packOf packBits refuse
