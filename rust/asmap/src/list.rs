@@ -61,7 +61,7 @@ mod tests {
     use super::*;
 
     #[test]
-    fn prefixes_are_written_as_core_writes_them() {
+    fn a_prefix_is_written_as_a_network() {
         for (address, length, written) in [
             ("::", 0, "::/0"),
             ("::fffe:0:0", 95, "::fffe:0:0/95"),
