@@ -6,7 +6,7 @@ ghost use Prim.Native.Nat.{_+_, _*_, _≤_};
 ghost use lib.ListN.{length, take, drop};
 ghost use lib.Seq.{sets};
 ghost use Rattle.byte_numbers.specs.Numbers.{big8, bytes4, number4};
-ghost use Rattle.byte_numbers.specs.models.Word.{Word};
+ghost use Rattle.byte_numbers.specs.models.Word.{Word, digits};
 
 // ---- numbers of four bytes
 
@@ -34,23 +34,6 @@ pub fn put_number(out: &mut [u8], at: usize, x: u32)
     out[at + 1] = (x / 256 % 256) as u8;
     out[at + 2] = (x / 65536 % 256) as u8;
     out[at + 3] = (x / 16777216 % 256) as u8;
-}
-
-// ---- numbers of eight bytes
-
-// A number put into the eight bytes from a place on, the highest byte first.
-pub fn put_big(out: &mut [u8], at: usize, x: u64)
-    requires { ⌜ at + 8 ≤ length (now out) ⌝ }
-    ensures { λ r. ⌜ now (out .exit) ≡ sets (now (out .entry)) at (big8 x) ⌝ }
-{
-    out[at] = (x / 72057594037927936 % 256) as u8;
-    out[at + 1] = (x / 281474976710656 % 256) as u8;
-    out[at + 2] = (x / 1099511627776 % 256) as u8;
-    out[at + 3] = (x / 4294967296 % 256) as u8;
-    out[at + 4] = (x / 16777216 % 256) as u8;
-    out[at + 5] = (x / 65536 % 256) as u8;
-    out[at + 6] = (x / 256 % 256) as u8;
-    out[at + 7] = (x % 256) as u8;
 }
 
 // ---- several bytes as one number
@@ -99,4 +82,52 @@ pub fn half_at(bytes: &[u8], at: usize) -> u64
     ensures { λ r. ⌜ Word r (take 4 (drop at (now (bytes .entry)))) ⌝ }
 {
     join4(bytes[at], bytes[at + 1], bytes[at + 2], bytes[at + 3])
+}
+
+// ---- numbers of eight bytes
+
+// A number put into the eight bytes from a place on, the lowest byte first.
+fn put_little(out: &mut [u8], at: usize, x: u64)
+    requires { ⌜ at + 8 ≤ length (now out) ⌝ }
+    ensures { λ r. ⌜ now (out .exit) ≡ sets (now (out .entry)) at (digits 8 x) ⌝ }
+{
+    let x1 = x / 256;
+    let x2 = x1 / 256;
+    let x3 = x2 / 256;
+    let x4 = x3 / 256;
+    let x5 = x4 / 256;
+    let x6 = x5 / 256;
+    out[at] = (x % 256) as u8;
+    out[at + 1] = (x1 % 256) as u8;
+    out[at + 2] = (x2 % 256) as u8;
+    out[at + 3] = (x3 % 256) as u8;
+    out[at + 4] = (x4 % 256) as u8;
+    out[at + 5] = (x5 % 256) as u8;
+    out[at + 6] = (x6 % 256) as u8;
+    out[at + 7] = (x6 / 256 % 256) as u8;
+}
+
+// A number with its bytes the other way round.
+fn turned(x: u64) -> u64
+    ensures { λ r. ⌜ Word r (big8 x) ⌝ }
+{
+    join8(
+        (x / 72057594037927936 % 256) as u8,
+        (x / 281474976710656 % 256) as u8,
+        (x / 1099511627776 % 256) as u8,
+        (x / 4294967296 % 256) as u8,
+        (x / 16777216 % 256) as u8,
+        (x / 65536 % 256) as u8,
+        (x / 256 % 256) as u8,
+        (x % 256) as u8,
+    )
+}
+
+// A number put into the eight bytes from a place on, the highest byte first. Turned and put lowest first it compiles to one store of eight bytes, also
+// where two of them follow each other; eight bytes put highest first stay eight stores there.
+pub fn put_big(out: &mut [u8], at: usize, x: u64)
+    requires { ⌜ at + 8 ≤ length (now out) ⌝ }
+    ensures { λ r. ⌜ now (out .exit) ≡ sets (now (out .entry)) at (big8 x) ⌝ }
+{
+    put_little(out, at, turned(x));
 }

@@ -1,7 +1,7 @@
 -- Bytes as one number, the first lowest: how the code compares several bytes at a time.
 -- Assumes nothing.
 use mathlib.Core.Path.{_≡_}
-use Prim.Native.Nat.{ℕ, _+_, _*_, _<_}
+use Prim.Native.Nat.{ℕ, zero, suc, _+_, _*_, _/_, _%_, _<_}
 use mathlib.Core.List.{List, [], _∷_}
 
 abbrev pub number : List ℕ → ℕ
@@ -16,3 +16,8 @@ Bytes (b ∷ bs) = (b < 256) × Bytes bs
 pub record Word (w : ℕ) (bs : List ℕ) : Type 0 where
   pub value : w ≡ number bs
   pub small : Bytes bs
+
+-- so many bytes of a number, the lowest first
+abbrev pub digits : ℕ → ℕ → List ℕ
+digits zero x = []
+digits (suc n) x = x % 256 ∷ digits n (x / 256)
