@@ -11,7 +11,7 @@ use Rattle.byte_numbers.proofs.NumberLaws.{small-bytes}
 use Rattle.byte_numbers.proofs.Buffers.{sets-append-at}
 use Rattle.prefix_records.specs.declared.Address.{Address}
 use Rattle.prefix_records.specs.Tiling.{Piece, firstOf}
-use Rattle.prefix_records.specs.Record.{recordOf, recordsOf}
+use Rattle.prefix_records.specs.Record.{addressBytes, recordOf, recordsOf}
 use Rattle.prefix_records.specs.models.Cursor.{valueOf, recordAt}
 
 pub length-records : (ps : List Piece) → length (recordsOf ps) ≡ 24 * length ps
@@ -30,10 +30,13 @@ record-sets o at l n a h =
     ∙ sets-append-at (sets o at x) (at + 8) (at + 16) y (z ++ bytes4 n) (omega arith)
     ∙ sets-append-at (sets (sets o at x) (at + 8) y) (at + 16) (at + 20) z (bytes4 n) (omega arith))
 
+-- an address's bytes, from its halves
+pub address-at : (x : ℕ) (a : Address) → valueOf a ≡ x → a .low < 2 ^ 64 → addressBytes x ≡ big8 (a .high) ++ big8 (a .low)
+address-at x a e h =
+    let f : x / 2 ^ 64 ≡ a .high = ap (λ (v : ℕ). v / 2 ^ 64) (sym e) ∙ high (a .high) 64 h in
+    let g : x % 2 ^ 64 ≡ a .low = ap (λ (v : ℕ). v % 2 ^ 64) (sym e) ∙ low (a .high) 64 h in
+    ap (λ (v : ℕ). big8 v ++ big8 (x % 2 ^ 64)) f ∙ ap (λ (v : ℕ). big8 (a .high) ++ big8 v) g
+
 -- the record of a piece, by the address at which it begins
 pub record-at : (p : Piece) (a : Address) → valueOf a ≡ firstOf 128 p → a .low < 2 ^ 64 → recordOf p ≡ recordAt a (p .length) (p .number)
-record-at p a e h =
-    let f : firstOf 128 p / 2 ^ 64 ≡ a .high = ap (λ (v : ℕ). v / 2 ^ 64) (sym e) ∙ high (a .high) 64 h in
-    let g : firstOf 128 p % 2 ^ 64 ≡ a .low = ap (λ (v : ℕ). v % 2 ^ 64) (sym e) ∙ low (a .high) 64 h in
-    ap (λ (v : ℕ). (big8 v ++ big8 (firstOf 128 p % 2 ^ 64)) ++ (p .length ∷ 0 ∷ 0 ∷ 0 ∷ []) ++ bytes4 (p .number)) f
-    ∙ ap (λ (v : ℕ). (big8 (a .high) ++ big8 v) ++ (p .length ∷ 0 ∷ 0 ∷ 0 ∷ []) ++ bytes4 (p .number)) g
+record-at p a e h = ap (λ (v : List ℕ). v ++ (p .length ∷ 0 ∷ 0 ∷ 0 ∷ []) ++ bytes4 (p .number)) (address-at (firstOf 128 p) a e h)

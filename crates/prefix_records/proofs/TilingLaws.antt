@@ -29,7 +29,7 @@ halves w u path h =
     )
 
 -- a piece has an address
-some : (w : ℕ) (p : Piece) → firstOf w p < pastOf w p
+pub some : (w : ℕ) (p : Piece) → firstOf w p < pastOf w p
 some w p = omega (arith, suc-mul (p .prefix) (2 ^ (w - p .length)), pow-pos (w - p .length))
 
 -- ---- tilings
@@ -52,7 +52,7 @@ block-halves w u path h xs ys s t =
 -- ---- the same pieces among longer addresses
 
 -- a prefix's first address of more bits has zeros behind the one of fewer
-wider : (w v x l : ℕ) → l ≤ w → w ≤ v → x * 2 ^ (v - l) ≡ x * 2 ^ (w - l) * 2 ^ (v - w)
+pub wider : (w v x l : ℕ) → l ≤ w → w ≤ v → x * 2 ^ (v - l) ≡ x * 2 ^ (w - l) * 2 ^ (v - w)
 wider w v x l h k =
     let e : v - l ≡ (w - l) + (v - w) = omega arith in
     ap (λ (n : ℕ). x * 2 ^ n) e ∙ ap (λ (n : ℕ). x * n) (pow-add 2 (w - l) (v - w)) ∙ sym (mul-assoc x (2 ^ (w - l)) (2 ^ (v - w)))
@@ -75,7 +75,7 @@ tiles-all w v h ps t =
 
 -- ---- where an address lies
 
-and-false : (b : Bool) → (b && false) ≡ false
+pub and-false : (b : Bool) → (b && false) ≡ false
 and-false true = refl
 and-false false = refl
 

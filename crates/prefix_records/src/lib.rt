@@ -19,7 +19,7 @@ fn power(k: u8) -> u64
     1 << k
 }
 
-// The address behind a piece that begins at an address. Behind the last piece there is none, and what is handed back then is not used.
+// The address behind a piece that begins at an address. Behind the last piece there is none, and 0 is handed back.
 pub fn behind(a: Address, length: u8) -> Address
     requires { ⌜ length ≤ 128 ⌝ }
     ensures { λ r. ⌜ Behind a length r ⌝ }

@@ -9,9 +9,12 @@ use Rattle.prefix_records.specs.declared.Address.{Address}
 abbrev pub valueOf : Address → ℕ
 valueOf a = a .high * 2 ^ 64 + a .low
 
--- r is the address behind a piece of prefix length l that begins at a, where there is one
+-- r is the address behind a piece of prefix length l that begins at a; 0 stands for the one behind all addresses
 abbrev pub Behind : Address → ℕ → Address → Type 0
-Behind a l r = (valueOf a + 2 ^ (128 - l) < 2 ^ 128 → valueOf r ≡ valueOf a + 2 ^ (128 - l)) × (r .low < 2 ^ 64)
+Behind a l r =
+    (valueOf a + 2 ^ (128 - l) < 2 ^ 128 → valueOf r ≡ valueOf a + 2 ^ (128 - l))
+    × (r .low < 2 ^ 64)
+    × (valueOf a + 2 ^ (128 - l) ≡ 2 ^ 128 → valueOf r ≡ 0)
 
 -- the record of a piece that begins at an address
 abbrev pub recordAt : Address → ℕ → ℕ → List ℕ
