@@ -1,7 +1,6 @@
 -- What the loop that writes a listing knows, turn by turn, over numbers and lists alone. 2 ^ 128 is a variable where it is compared.
 -- Assumes nothing.
 use Prim.Native.Nat.{ℕ, suc, _+_, _-_, _*_, _^_, _≤_, _<_}
-use mathlib.Core.Bool.{false}
 use mathlib.Core.Path.{_≡_, refl, sym, ap, subst, _∙_}
 use mathlib.Core.List.{List, [], _∷_}
 use native.Mathlib.Nat.{suc-mul}
@@ -18,9 +17,10 @@ use Rattle.prefix_records.specs.models.Cursor.{valueOf, Behind, recordAt}
 use Rattle.prefix_records.proofs.TilingLaws.{tiles-le}
 use Rattle.prefix_records.proofs.RecordLaws.{record-at}
 use Rattle.asmap_listing.specs.Listing.{listing}
-use Rattle.asmap_listing.specs.models.Scan.{Leaf, leaf, leaves, bitwise}
+use Rattle.asmap_listing.specs.models.Scan.{Leaf, leaf, leaves}
 use Rattle.asmap_list_step.specs.declared.Spot.{Spot}
-use Rattle.asmap_list_step.specs.models.Step.{stackOf, ahead, rest, Sane, Onward}
+use Rattle.asmap_list_step.specs.models.Step.{rest, Sane, Onward}
+use Rattle.asmap_list_step.proofs.StepLaws.{startSpot, start-sane, start-rest}
 use Rattle.asmap_list.specs.models.Listed.{Listed}
 
 pub record Standing (map out₀ : List ℕ) (count : ℕ) (out bits numbers : List ℕ) (s : Spot) (a : Address) (k : ℕ) : Type 0 where
@@ -36,16 +36,14 @@ pub record Standing (map out₀ : List ℕ) (count : ℕ) (out bits numbers : Li
   pub long : length out ≡ length out₀
 
 pub start-standing : (map out bits numbers : List ℕ) (count : ℕ) (s : Spot) → Listed map count → 128 ≡ length bits → 128 ≡ length numbers
-    → s ≡ record { at = 0; used = 0; default = 0; value = 0; left = 0; depth = 0; up = false }
-    → Standing map out count out bits numbers s (record { high = 0; low = 0 }) 0
-unfolding ahead bitwise stackOf
+    → s ≡ startSpot → Standing map out count out bits numbers s (record { high = 0; low = 0 }) 0
 start-standing map out bits numbers count s l b n e =
     rw e
     record {
       pieces = listing (mapOf map);
       cursor = 0;
-      sane = record { inside = omega arith; bits = omega arith; short = omega arith; rising = tt; rooms = (b, n) };
-      scans = sym (l .scans);
+      sane = start-sane map bits numbers b n;
+      scans = sym (start-rest map bits numbers ∙ l .scans);
       tiles = l .tiles;
       place = λ _. refl;
       half = omega arith;
@@ -55,7 +53,7 @@ start-standing map out bits numbers count s l b n e =
     }
 
 -- the pieces that leaves come from
-first-piece : (ps : List Piece) (l n : ℕ) (ls : List Leaf) → leaves ps ≡ leaf l n ∷ ls
+pub first-piece : (ps : List Piece) (l n : ℕ) (ls : List Leaf) → leaves ps ≡ leaf l n ∷ ls
     → (p : Piece) × (qs : List Piece) × (ps ≡ p ∷ qs) × (p .length ≡ l) × (p .number ≡ n) × (leaves qs ≡ ls)
 unfolding leaves
 first-piece [] l n ls e = let z : _≡_ {A = ℕ} 0 1 = cc in absurd (omega arith)
@@ -63,7 +61,7 @@ first-piece (p ∷ qs) l n ls e =
     let q : leaf (p .length) (p .number) ≡ leaf l n = cc in
     (p, qs, refl, ap (λ (x : Leaf). x .length) q, ap (λ (x : Leaf). x .number) q, cc)
 
-no-piece : (ps : List Piece) → leaves ps ≡ [] → ps ≡ []
+pub no-piece : (ps : List Piece) → leaves ps ≡ [] → ps ≡ []
 unfolding leaves
 no-piece [] e = refl
 no-piece (p ∷ qs) e = let z : _≡_ {A = ℕ} 0 1 = cc in absurd (omega arith)
@@ -72,14 +70,14 @@ none-left : (ps : List Piece) → length ps ≡ 0 → ps ≡ []
 none-left [] e = refl
 none-left (p ∷ qs) e = absurd (omega arith)
 
-some : (p : Piece) → pastOf 128 p ≡ firstOf 128 p + 2 ^ (128 - p .length)
-some p = omega (arith, suc-mul (p .prefix) (2 ^ (128 - p .length)))
+pub past-size : (p : Piece) → pastOf 128 p ≡ firstOf 128 p + 2 ^ (128 - p .length)
+past-size p = omega (arith, suc-mul (p .prefix) (2 ^ (128 - p .length)))
 
 -- `top` stands for 2 ^ 128, which is past what omega reads
-below-top : (first past size c top : ℕ) → first ≡ c → past ≡ first + size → 0 < size → past ≤ top → c < top
+pub below-top : (first past size c top : ℕ) → first ≡ c → past ≡ first + size → 0 < size → past ≤ top → c < top
 below-top first past size c top e p h l = omega arith
 
-room-left : (v first size past top : ℕ) → v ≡ first → past ≡ first + size → past < top → v + size < top
+pub room-left : (v first size past top : ℕ) → v ≡ first → past ≡ first + size → past < top → v + size < top
 room-left v first size past top e p h = omega arith
 
 module _ {map out₀ : List ℕ} {count : ℕ} {out bits numbers : List ℕ} {s : Spot} {a : Address} {k : ℕ} (t : Standing map out₀ count out bits numbers s a k) where
@@ -98,7 +96,7 @@ module _ {map out₀ : List ℕ} {count : ℕ} {out bits numbers : List ℕ} {s 
       let p = f .0 in
       let g : Tiles 128 (t .cursor) (2 ^ 128) (p ∷ f .1) = subst (Tiles 128 (t .cursor) (2 ^ 128)) (f .2) (t .tiles) in
       let y = tiles-le 128 (pastOf 128 p) (2 ^ 128) (f .1) (g .2) in
-      let x : pastOf 128 p ≡ firstOf 128 p + 2 ^ (128 - l) = some p ∙ ap (λ (v : ℕ). firstOf 128 p + 2 ^ (128 - v)) (f .3) in
+      let x : pastOf 128 p ≡ firstOf 128 p + 2 ^ (128 - l) = past-size p ∙ ap (λ (v : ℕ). firstOf 128 p + 2 ^ (128 - v)) (f .3) in
       let z : valueOf a ≡ firstOf 128 p = t .place (below-top (firstOf 128 p) (pastOf 128 p) (2 ^ (128 - l)) (t .cursor) (2 ^ 128) (g .0) x (pow-pos (128 - l)) y) ∙ sym (g .0) in
       let q : 24 * k + 24 ≡ 24 * (k + 1) = omega arith in
       let c : k + suc (length (f .1)) ≡ count = ap (λ (v : List Piece). k + length v) (sym (f .2)) ∙ t .counted in
@@ -118,12 +116,6 @@ module _ {map out₀ : List ℕ} {count : ℕ} {out bits numbers : List ℕ} {s 
             ∙ ap (λ (v : List ℕ). sets v (24 * (k + 1)) (recordsOf (f .1))) (sym w);
         long = ap length w ∙ length-sets out (24 * k) (recordAt a l n) ∙ t .long;
       }
-
-  pub goes-standing : (s′ : Spot) (bits′ numbers′ : List ℕ)
-      → Onward map s s′ bits′ numbers′ (rest map s bits numbers) (rest map s′ bits′ numbers′)
-      → Standing map out₀ count out bits′ numbers′ s′ a k
-  goes-standing s′ bits′ numbers′ o =
-      record { pieces = t .pieces; cursor = t .cursor; sane = o .sane; scans = t .scans ∙ o .same; tiles = t .tiles; place = t .place; half = t .half; counted = t .counted; stream = t .stream; long = t .long }
 
   pub ends-standing : rest map s bits numbers ≡ [] → out ≡ sets out₀ 0 (recordsOf (listing (mapOf map)))
   ends-standing e = sym (t .stream ∙ ap (λ (v : List Piece). sets out (24 * k) (recordsOf v)) (no-piece (t .pieces) (t .scans ∙ e)))

@@ -13,7 +13,7 @@ ghost use Rattle.asmap_list.specs.List.{listOf, neededOf};
 ghost use Rattle.asmap_list.specs.Promise.{Covers};
 ghost use Rattle.asmap_list.specs.models.Listed.{Listed};
 use asmap_check::Counted;
-use asmap_list_step::Turn;
+use asmap_list_step::Next;
 use asmap_records::Answer;
 use prefix_records::Address;
 
@@ -23,46 +23,26 @@ pub enum Needed {
     Refused(u8),
 }
 
-// The stack's arrays, as functions with a contract: a loop that starts from a long array written out carries it through every goal.
-fn stack_bits() -> [u8; 128]
-    ensures { λ r. ⌜ 128 ≡ length r ⌝ }
-{
-    [0; 128]
-}
-
-fn stack_numbers() -> [u32; 128]
-    ensures { λ r. ⌜ 128 ≡ length r ⌝ }
-{
-    [0; 128]
-}
-
 // The records of a map's listing, which has `count` pieces, at an output's front. The address is carried along: each piece begins where the
 // one before it ends.
 fn put_listing(map: &[u8], count: usize, out: &mut [u8])
     requires { ⌜ (length (now map) ≤ limit) × (24 * count ≤ length (now out)) × Listed (now map) count ⌝ }
     ensures { λ r. ⌜ now (out .exit) ≡ sets (now (out .entry)) 0 (recordsOf (listing (mapOf (now (map .entry))))) ⌝ }
 {
-    let mut bits = stack_bits();
-    let mut numbers = stack_numbers();
+    let mut bits = asmap_list_step::stack_bits();
+    let mut numbers = asmap_list_step::stack_numbers();
     let mut s = asmap_list_step::start();
     let mut a = Address { high: 0, low: 0 };
     let mut k: usize = 0;
     while k < count {
-        let turn = asmap_list_step::step(map, s, &mut bits, &mut numbers);
-        match turn {
-            Turn::Gives(length, number, next) => {
-                prefix_records::put_record(out, 24 * k, a, length, number);
-                a = prefix_records::behind(a, length);
-                k += 1;
-                s = next;
-            }
-            Turn::Goes(next) => {
-                s = next;
-            }
-            Turn::Ends => {
-                return;
-            }
-        }
+        let got = asmap_list_step::next_piece(map, s, &mut bits, &mut numbers);
+        let Next::Piece(length, number, next) = got else {
+            return;
+        };
+        prefix_records::put_record(out, 24 * k, a, length, number);
+        a = prefix_records::behind(a, length);
+        k += 1;
+        s = next;
     }
 }
 

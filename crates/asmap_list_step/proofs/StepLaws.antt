@@ -17,10 +17,10 @@ use Rattle.asmap_codes.specs.declared.Code.the-variants.{Value, Cut}
 use Rattle.asmap_codes.specs.Instruction.{mapOf}
 use Rattle.asmap_codes.proofs.Inside.{value-at, long-operand}
 use Rattle.asmap_codes.proofs.MapLaws.{laws, fetch-cut, fetch-operand}
-use Rattle.asmap_listing.specs.models.Scan.{Leaf, leaf, Entry, Side, Half, Scan, popped, taken, given, bitwise, enough, scanWhole, scanOn, scanned, Rising}
+use Rattle.asmap_listing.specs.models.Scan.{Leaf, leaf, Entry, Side, Half, Scan, popped, taken, given, bitwise, enough, scanWhole, scanOn, scanStart, scanned, Rising}
 use Rattle.asmap_listing.proofs.ScanLaws.{scanned-step, stack-bound}
 use Rattle.asmap_list_step.specs.declared.Spot.{Spot}
-use Rattle.asmap_list_step.specs.models.Step.{entryIf, entryOf, stackOf, ahead, rest, one, Sane, Onward, Reads}
+use Rattle.asmap_list_step.specs.models.Step.{entryIf, entryOf, stackOf, ahead, rest, one, weight, Sane, Onward, Reads}
 
 -- ---- the stack in its arrays
 
@@ -259,3 +259,44 @@ module _ (map : List ℕ) (s : Spot) (bs ns : List ℕ) (sane : Sane map s bs ns
           sane = record { inside = stood .inside; bits = omega (arith, sane .bits); short = omega arith; rising = sane .rising; rooms = sane .rooms };
           less = omega (arith, stood .start, stood .inside);
         }
+
+-- ---- the start
+
+abbrev pub startSpot : Spot
+startSpot = record { at = 0; used = 0; default = 0; value = 0; left = 0; depth = 0; up = false }
+
+pub start-sane : (map bs ns : List ℕ) → 128 ≡ length bs → 128 ≡ length ns → Sane map startSpot bs ns
+unfolding stackOf
+start-sane map bs ns b n = record { inside = omega arith; bits = omega arith; short = omega arith; rising = tt; rooms = (b, n) }
+
+-- all of the pass is still to come
+pub start-rest : (map bs ns : List ℕ) → rest map startSpot bs ns ≡ scanned (mapOf map) 128 0 scanStart
+unfolding ahead bitwise stackOf
+start-rest map bs ns = refl
+
+-- ---- steps up to a piece
+
+-- the loop from s₀ with the arrays bs₀ and ns₀ stands at s with bs and ns, and has given nothing yet
+pub record Going (map : List ℕ) (s₀ : Spot) (bs₀ ns₀ : List ℕ) (s : Spot) (bs ns : List ℕ) : Type 0 where
+  pub same : rest map s₀ bs₀ ns₀ ≡ rest map s bs ns
+  pub sane : Sane map s bs ns
+  pub less : weight map s ≤ weight map s₀
+  pub rooms : (128 ≡ length bs₀) × (128 ≡ length ns₀)
+
+pub going-start : (map : List ℕ) (s : Spot) (bs ns : List ℕ) → Sane map s bs ns → Going map s bs ns s bs ns
+going-start map s bs ns h = record { same = refl; sane = h; less = omega arith; rooms = h .rooms }
+
+module _ {map : List ℕ} {s₀ : Spot} {bs₀ ns₀ : List ℕ} {s : Spot} {bs ns : List ℕ} (g : Going map s₀ bs₀ ns₀ s bs ns) where
+  pub going-on : {s′ : Spot} {bs′ ns′ : List ℕ} → Onward map s s′ bs′ ns′ (rest map s bs ns) (rest map s′ bs′ ns′) → Going map s₀ bs₀ ns₀ s′ bs′ ns′
+  going-on o = record { same = g .same ∙ o .same; sane = o .sane; less = omega (arith, o .less, g .less); rooms = g .rooms }
+
+  pub going-gives : {l n : ℕ} {s′ : Spot} {bs′ ns′ : List ℕ} → Onward map s s′ bs′ ns′ (rest map s bs ns) (leaf l n ∷ rest map s′ bs′ ns′)
+      → Onward map s₀ s′ bs′ ns′ (rest map s₀ bs₀ ns₀) (leaf l n ∷ rest map s′ bs′ ns′)
+  going-gives o = record { same = g .same ∙ o .same; sane = o .sane; less = omega (arith, o .less, g .less) }
+
+  pub going-ends : rest map s bs ns ≡ [] → rest map s₀ bs₀ ns₀ ≡ []
+  going-ends e = g .same ∙ e
+
+  -- the arrays stay as long as they were
+  pub going-rooms : {s′ : Spot} {bs′ ns′ : List ℕ} → Sane map s′ bs′ ns′ → (length bs′ ≡ length bs₀) × (length ns′ ≡ length ns₀)
+  going-rooms h = (sym (h .rooms .0) ∙ g .rooms .0, sym (h .rooms .1) ∙ g .rooms .1)

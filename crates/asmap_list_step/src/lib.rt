@@ -1,5 +1,6 @@
 // The listing of a map as a step over a state (document 02, CR 1): a step reads an instruction, takes a bit of a MATCH, or takes up what is still to
-// come, and gives at most one piece. Whoever lists a map loops over it; whoever compares two maps can step through both side by side.
+// come, and gives at most one piece; steps up to a piece are `next_piece`. Whoever lists a map loops over that; whoever compares two maps goes through
+// both side by side.
 //
 // Pieces tile, so a step hands back no address: a piece begins where the one before it ends. Nor is a target kept: what a JUMP skips ends
 // where its target is, and so the second half begins where the first one ended.
@@ -14,7 +15,7 @@ ghost use lib.ListN.{length};
 ghost use Rattle.asmap_program.specs.Map.{limit, RETURN, JUMP, MATCH, DEFAULT};
 ghost use Rattle.asmap_codes.specs.Row.{asnRow, jumpRow, matchRow};
 ghost use Rattle.asmap_row_decoder.specs.models.InWindow.{Holds};
-ghost use Rattle.asmap_list_step.specs.models.Step.{Sane, Stepped, Reads};
+ghost use Rattle.asmap_list_step.specs.models.Step.{Sane, Stepped, Passed, Reads};
 use asmap_codes::Code;
 
 // Where a listing stands, in numbers only. at: the place of the next instruction. used: the address bits used. default: the default. value, left:
@@ -35,6 +36,25 @@ pub enum Turn {
     Gives(u8, u32, Spot),
     Goes(Spot),
     Ends,
+}
+
+// The next piece, with its prefix length and number, and where the listing stands then; or none, at the listing's end.
+pub enum Next {
+    Piece(u8, u32, Spot),
+    Over,
+}
+
+// The stack's arrays, as functions with a contract: a loop that starts from a long array written out carries it through every goal.
+pub fn stack_bits() -> [u8; 128]
+    ensures { λ r. ⌜ 128 ≡ length r ⌝ }
+{
+    [0; 128]
+}
+
+pub fn stack_numbers() -> [u32; 128]
+    ensures { λ r. ⌜ 128 ≡ length r ⌝ }
+{
+    [0; 128]
 }
 
 // At map bit 0, no address bit used, default 0.
@@ -249,7 +269,7 @@ fn step_at(map: &[u8], s: Spot, bits: &mut [u8], numbers: &mut [u32]) -> Turn
 }
 
 // One step from a state that steps come to, of a map within the limit. Both arrays have 128 places.
-pub fn step(map: &[u8], s: Spot, bits: &mut [u8], numbers: &mut [u32]) -> Turn
+fn step(map: &[u8], s: Spot, bits: &mut [u8], numbers: &mut [u32]) -> Turn
     requires { ⌜ (length (now map) ≤ limit) × Sane (now map) s (now bits) (now numbers) ⌝ }
     ensures { λ r. ⌜ Stepped (now (map .entry)) s (now (bits .entry)) (now (numbers .entry)) (now (bits .exit)) (now (numbers .exit)) r ⌝ }
 {
@@ -260,4 +280,26 @@ pub fn step(map: &[u8], s: Spot, bits: &mut [u8], numbers: &mut [u32]) -> Turn
         return step_at(map, s, bits, numbers);
     }
     step_bit(map, s, bits, numbers)
+}
+
+// Steps up to the next piece. All calls of `step` come through here, so that it is compiled once, into this loop, with the state in registers.
+pub fn next_piece(map: &[u8], from: Spot, bits: &mut [u8], numbers: &mut [u32]) -> Next
+    requires { ⌜ (length (now map) ≤ limit) × Sane (now map) from (now bits) (now numbers) ⌝ }
+    ensures { λ r. ⌜ Passed (now (map .entry)) from (now (bits .entry)) (now (numbers .entry)) (now (bits .exit)) (now (numbers .exit)) r ⌝ }
+{
+    let mut s = from;
+    loop {
+        let turn = step(map, s, bits, numbers);
+        match turn {
+            Turn::Gives(len, number, next) => {
+                return Next::Piece(len, number, next);
+            }
+            Turn::Goes(next) => {
+                s = next;
+            }
+            Turn::Ends => {
+                return Next::Over;
+            }
+        }
+    }
 }

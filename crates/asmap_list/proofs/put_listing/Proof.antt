@@ -1,12 +1,12 @@
--- `asmap_list::put_listing` meets its contract: each step is one of the pass over the map, and what is written and what is still to come are the
+-- `asmap_list::put_listing` meets its contract: each piece is the next of the pass over the map, and what is written and what is still to come are the
 -- listing's records.
 -- Assumes nothing.
 use borrow.Author.Needs.{needs}
 use native.Mathlib.Omega.{arith}
 use mathlib.Core.Path.{_≡_, subst}
-use Rattle.asmap_list_step.specs.models.Step.{weight, Stepped}
-use Rattle.asmap_list_step.specs.declared.Turn.{Turn}
-use Rattle.asmap_list.proofs.PutLaws.{Standing, start-standing, gives-length, gives-standing, goes-standing, ends-standing, done-standing}
+use Rattle.asmap_list_step.specs.models.Step.{weight, Passed}
+use Rattle.asmap_list_step.specs.declared.Next.{Next}
+use Rattle.asmap_list.proofs.PutLaws.{Standing, start-standing, gives-length, gives-standing, ends-standing, done-standing}
 use Rattle.asmap_list.proofs.put_listing.Statement.{statement}
 use Rattle.asmap_list.proofs.put_listing.Tie as tie
 
@@ -16,12 +16,12 @@ Inv-loop map count out₀ bits₀ numbers₀ s₀ a₀ k₀ out bits numbers s a
 abbrev μ-loop : tie.MeasureT-loop
 μ-loop map count out₀ bits₀ numbers₀ s₀ a₀ k₀ out bits numbers s a k = weight map s
 
--- what a step came to, as r, said once: after `step`
-stepped : (k : tie.After-step Inv-loop μ-loop) (r : Turn) → k .step .result ≡ r
-    → Stepped (k .before .before .before .before .before .before .before .before .before .before .args .map .now) (k .before .before .before .before .loop .s) (k .before .before .before .before .loop .bits) (k .before .before .before .before .loop .numbers) (k .step .last .1 .1 .0) (k .step .last .1 .1 .1 .0) r
-stepped k r e =
+-- what the next piece came to, as r, said once: after `next_piece`
+passed : (k : tie.After-next-piece Inv-loop μ-loop) (r : Next) → k .next-piece .result ≡ r
+    → Passed (k .before .before .before .before .before .before .before .before .before .before .args .map .now) (k .before .before .before .before .loop .s) (k .before .before .before .before .loop .bits) (k .before .before .before .before .loop .numbers) (k .next-piece .last .1 .1 .0) (k .next-piece .last .1 .1 .1 .0) r
+passed k r e =
     let l = k .before .before .before .before .loop in
-    subst (Stepped (k .before .before .before .before .before .before .before .before .before .before .args .map .now) (l .s) (l .bits) (l .numbers) (k .step .last .1 .1 .0) (k .step .last .1 .1 .1 .0)) e (k .step .ensures)
+    subst (Passed (k .before .before .before .before .before .before .before .before .before .before .args .map .now) (l .s) (l .bits) (l .numbers) (k .next-piece .last .1 .1 .0) (k .next-piece .last .1 .1 .1 .0)) e (k .next-piece .ensures)
 
 stack-bits-requires : tie.Need-stack-bits-requires Inv-loop μ-loop
 stack-bits-requires c κs = search needs
@@ -37,19 +37,19 @@ loop-holds c =
     let k = c .before .before .before .before .before in
     start-standing (k .args .map .now) (k .args .out .now) _ _ (k .args .count) _ (k .pre .2) (c .before .before .stack-bits .ensures) (c .before .stack-numbers .ensures) (c .start .ensures)
 
-slice-aggregate-step : tie.Need-slice-aggregate-step Inv-loop μ-loop
-slice-aggregate-step c = c .before .before .loop .inv .sane .rooms .0
+slice-aggregate-next-piece : tie.Need-slice-aggregate-next-piece Inv-loop μ-loop
+slice-aggregate-next-piece c = c .before .before .loop .inv .sane .rooms .0
 
-slice-aggregate-step-2 : tie.Need-slice-aggregate-step-2 Inv-loop μ-loop
-slice-aggregate-step-2 c = c .before .before .before .loop .inv .sane .rooms .1
+slice-aggregate-next-piece-2 : tie.Need-slice-aggregate-next-piece-2 Inv-loop μ-loop
+slice-aggregate-next-piece-2 c = c .before .before .before .loop .inv .sane .rooms .1
 
-step-requires : tie.Need-step-requires Inv-loop μ-loop
-step-requires c κs = (c .before .before .before .before .before .before .before .before .before .pre .0, c .before .before .before .loop .inv .sane)
+next-piece-requires : tie.Need-next-piece-requires Inv-loop μ-loop
+next-piece-requires c κs = (c .before .before .before .before .before .before .before .before .before .pre .0, c .before .before .before .loop .inv .sane)
 
 -- ---- a piece
 
-enum-known-turn : tie.Need-enum-known-turn Inv-loop μ-loop
-enum-known-turn c = search needs
+enum-known-got : tie.Need-enum-known-got Inv-loop μ-loop
+enum-known-got c = search needs
 
 mul-put-record : tie.Need-mul-put-record Inv-loop μ-loop
 mul-put-record c = let k = c .before .before .before .before .before .before .before .before .before .before .before .before .before .before .before .before in omega (arith, c .before .before .before .before .before .before .before .before .before .loop-test .taken, k .pre .1, k .good)
@@ -58,28 +58,17 @@ put-record-requires : tie.Need-put-record-requires Inv-loop μ-loop
 put-record-requires c κs = omega (arith, c .before .before .before .before .before .before .before .before .before .loop-test .taken, c .before .before .before .before .before .before .before .before .before .before .before .before .before .before .before .before .pre .1, c .before .before .before .before .before .before .before .before .before .before .loop .inv .long)
 
 behind-requires : tie.Need-behind-requires Inv-loop μ-loop
-behind-requires c κs = gives-length (c .before .before .before .before .before .before .before .before .before .before .before .before .before .loop .inv) _ _ _ (stepped (c .before .before .before .before .before .before .before .before .before) _ (c .before .before .before .before .before .turn .given .1) .same)
+behind-requires c κs = gives-length (c .before .before .before .before .before .before .before .before .before .before .before .before .before .loop .inv) _ _ _ (passed (c .before .before .before .before .before .before .before .before .before) _ (c .before .before .before .before .before .got .given .1) .same)
 
 add-k : tie.Need-add-k Inv-loop μ-loop
 add-k c = let k = c .before .before .before .before .before .before .before .before .before .before .before .before .before .before .before .before .before .before .before .before in omega (arith, c .before .before .before .before .before .before .before .before .before .before .before .before .before .loop-test .taken, k .pre .1, k .good)
 
 loop-less : tie.Need-loop-less Inv-loop μ-loop
-loop-less c = stepped (c .before .before .before .before .before .before .before .before .before .before) _ (c .before .before .before .before .before .before .turn .given .1) .less
+loop-less c = passed (c .before .before .before .before .before .before .before .before .before .before) _ (c .before .before .before .before .before .before .got .given .1) .less
 
 loop-again : tie.Need-loop-again Inv-loop μ-loop
 loop-again c =
-    gives-standing (c .before .before .before .before .before .before .before .before .before .before .before .before .before .before .loop .inv) _ _ _ _ _ _ _ (stepped (c .before .before .before .before .before .before .before .before .before .before) _ (c .before .before .before .before .before .before .turn .given .1)) (c .behind .ensures) (c .before .before .before .put-record .ensures)
-
--- ---- no piece
-
-enum-known-turn-2 : tie.Need-enum-known-turn-2 Inv-loop μ-loop
-enum-known-turn-2 c = search needs
-
-loop-less-2 : tie.Need-loop-less-2 Inv-loop μ-loop
-loop-less-2 c = stepped (c .before .before .before .before .before) _ (c .before .turn2 .given .1) .less
-
-loop-again-2 : tie.Need-loop-again-2 Inv-loop μ-loop
-loop-again-2 c = goes-standing (c .before .before .before .before .before .before .before .before .before .loop .inv) _ _ _ (stepped (c .before .before .before .before .before) _ (c .before .turn2 .given .1))
+    gives-standing (c .before .before .before .before .before .before .before .before .before .before .before .before .before .before .loop .inv) _ _ _ _ _ _ _ (passed (c .before .before .before .before .before .before .before .before .before .before) _ (c .before .before .before .before .before .before .got .given .1)) (c .behind .ensures) (c .before .before .before .put-record .ensures)
 
 -- ---- the end
 
@@ -90,7 +79,7 @@ same-length : tie.Need-same-length Inv-loop μ-loop
 same-length c = c .before .before .before .before .before .before .before .before .loop .inv .long
 
 returns : tie.Need-returns Inv-loop μ-loop
-returns c = ends-standing (c .before .before .before .before .before .before .before .before .loop .inv) (stepped (c .before .before .before .before) _ (c .enum-told .given .1))
+returns c = ends-standing (c .before .before .before .before .before .before .before .before .loop .inv) (passed (c .before .before .before .before) _ (c .enum-told .given .1))
 
 same-length-2 : tie.Need-same-length-2 Inv-loop μ-loop
 same-length-2 c = c .before .loop .inv .long
@@ -108,21 +97,18 @@ put-listing-spec =
     stack-numbers-requires
     start-requires
     loop-holds
-    slice-aggregate-step
-    slice-aggregate-step-2
-    step-requires
-    enum-known-turn
+    slice-aggregate-next-piece
+    slice-aggregate-next-piece-2
+    next-piece-requires
+    enum-known-got
+    enum-told
+    same-length
+    returns
     mul-put-record
     put-record-requires
     behind-requires
     add-k
     loop-less
     loop-again
-    enum-known-turn-2
-    loop-less-2
-    loop-again-2
-    enum-told
-    same-length
-    returns
     same-length-2
     returns-2)

@@ -16,6 +16,8 @@ use Rattle.asmap_listing.specs.models.Scan.{Leaf, leaf, Entry, Side, Half, Scan
 use Rattle.asmap_list_step.specs.declared.Spot.{Spot}
 use Rattle.asmap_list_step.specs.declared.Turn.{Turn}
 use Rattle.asmap_list_step.specs.declared.Turn.the-variants.{Gives, Goes, Ends}
+use Rattle.asmap_list_step.specs.declared.Next.{Next}
+use Rattle.asmap_list_step.specs.declared.Next.the-variants.{Piece, Over}
 
 -- An entry of the arrays: a JUMP's second half is kept as its bit, a side that differs as its bit and 128 more.
 unfoldable pub entryIf : Bool → ℕ → ℕ → Entry
@@ -64,6 +66,11 @@ abbrev pub Stepped : List ℕ → Spot → List ℕ → List ℕ → List ℕ �
 Stepped map s bs ns bs′ ns′ (Gives l n s′) = Onward map s s′ bs′ ns′ (rest map s bs ns) (leaf l n ∷ rest map s′ bs′ ns′)
 Stepped map s bs ns bs′ ns′ (Goes s′) = Onward map s s′ bs′ ns′ (rest map s bs ns) (rest map s′ bs′ ns′)
 Stepped map s bs ns bs′ ns′ Ends = rest map s bs ns ≡ []
+
+-- Steps from s up to a piece.
+abbrev pub Passed : List ℕ → Spot → List ℕ → List ℕ → List ℕ → List ℕ → Next → Type 0
+Passed map s bs ns bs′ ns′ (Piece l n s′) = Onward map s s′ bs′ ns′ (rest map s bs ns) (leaf l n ∷ rest map s′ bs′ ns′)
+Passed map s bs ns bs′ ns′ Over = rest map s bs ns ≡ []
 
 -- At s the opcode op is read, and its operand starts at `from`.
 abbrev pub Reads : List ℕ → Spot → ℕ → ℕ → Type 0
