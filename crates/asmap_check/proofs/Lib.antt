@@ -4,3 +4,4 @@ pub mod Standing
 pub mod Turn
 pub mod Core
 pub mod Examples
+pub mod Reasons
