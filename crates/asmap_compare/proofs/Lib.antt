@@ -1,0 +1,4 @@
+pub mod NoteLaws
+pub mod PairLaws
+pub mod MergeLaws
+pub mod CallLaws
