@@ -1,4 +1,4 @@
--- Which numbers check, walk, unpack, pack and the listing refuse with; none of them is 0.
+-- Which numbers check, walk, unpack, pack, the listing and the comparison refuse with; none of them is 0.
 -- Assumes nothing.
 use Prim.Native.Nat.{ℕ, zero, suc, _+_, _/_, _≤_, _<_}
 use mathlib.Core.Bool.{Bool, true, false, not}
@@ -6,13 +6,13 @@ use mathlib.Core.List.{List, [], _∷_}
 use native.Mathlib.Omega.{arith}
 use lib.Dec.{eqb, ltb}
 use lib.ListN.{length, drop}
-use Rattle.asmap_program.specs.declared.Instruction.{Instruction}
 use Rattle.asmap_program.specs.declared.Verdict.{Verdict}
 use Rattle.asmap_program.specs.declared.Verdict.the-variants.{Accepted, Refused}
-use Rattle.asmap_program.specs.Map.{limit, Map, Fetched, Whole, CutOpcode, CutOperand}
-use Rattle.asmap_program.specs.Check.{State, Open, Outcome, Next, Done, Refuse, guard, closing, stepWhole, stepOn, step, after, run, start, check, stopOf}
+use Rattle.asmap_program.specs.Map.{limit, Map}
+use Rattle.asmap_program.specs.Check.{check, stopOf}
 use Rattle.asmap_codes.specs.Instruction.{mapOf}
-use Rattle.asmap_check.specs.Check.{unlessLong, checkOf, reasonOf, stopsUnlessLong, stoppedOf}
+use Rattle.asmap_check.specs.Check.{checkOf, reasonOf, stopsUnlessLong, stoppedOf}
+use Rattle.asmap_check.proofs.Reasons.{Judged, check-judged, map-judged}
 use Rattle.asmap_check.specs.declared.Stopped.the-variants.{At}
 use Rattle.asmap_walk.specs.declared.Ending.{Ending}
 use Rattle.asmap_walk.specs.declared.Interpreted.the-variants.{Ended}
@@ -21,65 +21,27 @@ use Rattle.asmap_records.specs.Output.{Result, Made, No, refuse, on, within, an
 use Rattle.asmap_records.specs.Unpack.{unpackAs, unpackOf}
 use Rattle.asmap_records.specs.Pack.{fieldBits, recordBits, recordsBits, packBits, packOf}
 use Rattle.asmap_list.specs.List.{listAs, listOf, bytesOf, neededOf}
+use Rattle.prefix_changes.specs.Change.{Change}
+use Rattle.asmap_list.specs.declared.Needed.{Needed}
+use Rattle.asmap_compare.specs.Compare.{Comparison, Told, Refuses as Named, changesOf, comparedAs, comparison, recordsMade, compareOf, firstMade, neededWith}
 use Rattle.answers.specs.Maps.{mapChecked, checkStopped, walkMade, bytesWritten, bytesNeeded}
 use Rattle.answers.proofs.Handing.{Counted, Refuses, counted}
 
--- ---- the check: a step that refuses does so with a number from 2 to 10. P: what is shown of it
+-- ---- the check. P: what is shown of its number
 
 module _ (P : ℕ → Type 0) (reason : (n : ℕ) → 2 ≤ n → n ≤ 10 → P n) where
-  abbrev Step : Outcome → Type 0
-  Step (Next i s) = Unit {0}
-  Step (Done i c d) = Unit {0}
-  Step (Refuse n) = P n
-
-  guarded : (b : Bool) (n : ℕ) (o : Outcome) → 2 ≤ n → n ≤ 10 → Step o → Step (guard b n o)
-  unfolding guard
-  guarded true n o l h k = reason n l h
-  guarded false n o l h k = k
-
-  closed : (m : Map) (s : State) (i : Instruction) (opens : List Open) → Step (closing m s i opens)
-  closed m s i [] = guarded _ 6 _ (omega arith) (omega arith) tt
-  closed m s i (o ∷ opens) = guarded _ 7 _ (omega arith) (omega arith) tt
-
-  whole : (m : Map) (s : State) (i : Instruction) (op : ℕ) → Step (stepWhole m s i op)
-  whole m s i zero = guarded _ 5 _ (omega arith) (omega arith) (closed m s i (s .opens))
-  whole m s i (suc zero) = guarded _ 8 _ (omega arith) (omega arith) (guarded _ 9 _ (omega arith) (omega arith) tt)
-  whole m s i (suc (suc zero)) = guarded _ 10 _ (omega arith) (omega arith) (guarded _ 8 _ (omega arith) (omega arith) tt)
-  whole m s i (suc (suc (suc n))) = guarded _ 5 _ (omega arith) (omega arith) tt
-
-  read : (m : Map) (s : State) (f : Fetched) → Step (stepOn m s f)
-  read m s (Whole i) = whole m s i (i .opcode)
-  read m s CutOpcode = reason 4 (omega arith) (omega arith)
-  read m s (CutOperand op) = guarded _ 5 _ (omega arith) (omega arith) (reason 4 (omega arith) (omega arith))
-
-  stepped : (m : Map) (s : State) → Step (step m s)
-  unfolding step
-  stepped m s = guarded _ 2 _ (omega arith) (omega arith) (guarded _ 3 _ (omega arith) (omega arith) (read m s (m .fetch (s .at))))
-
-  judged-after : (k : State → Verdict) → ((s : State) → Refuses P (mapChecked (k s))) → (o : Outcome) → Step o → Refuses P (mapChecked (after k o))
+  judged : (v : Verdict) → Judged P v → Refuses P (mapChecked v)
   unfolding Refuses mapChecked
-  judged-after k h (Next i s) v = h s
-  judged-after k h (Done i c d) v = tt
-  judged-after k h (Refuse n) v = v
-
-  judged-run : (m : Map) (f : ℕ) (s : State) → Refuses P (mapChecked (run m f s))
-  unfolding run Refuses mapChecked
-  judged-run m zero s = reason 2 (omega arith) (omega arith)
-  judged-run m (suc f) s = judged-after (run m f) (λ s′. judged-run m f s′) (step m s) (stepped m s)
+  judged (Accepted c d) h = tt
+  judged (Refused n) h = h
 
   -- a map within the limit
   pub check-numbers : (m : Map) (w : ℕ) → Refuses P (mapChecked (check m w))
-  unfolding check
-  check-numbers m w = judged-run m (m .bits) (start w)
-
-  judged-long : (long : Bool) (v : Verdict) → P 1 → Refuses P (mapChecked v) → Refuses P (mapChecked (unlessLong long v))
-  unfolding Refuses mapChecked
-  judged-long true v one h = one
-  judged-long false v one h = h
+  check-numbers m w = judged (check m w) (check-judged P reason m w)
 
   -- any map: 1 to 10
   pub map-numbers : (m : List ℕ) (w : ℕ) → P 1 → Refuses P (mapChecked (checkOf m w))
-  map-numbers m w one = judged-long (ltb limit (length m)) (check (mapOf m) w) one (check-numbers (mapOf m) w)
+  map-numbers m w one = judged (checkOf m w) (map-judged P reason m w one)
 
 pub map-checked : (m : List ℕ) (w : ℕ) → Counted (mapChecked (checkOf m w))
 map-checked m w = counted (mapChecked (checkOf m w)) (map-numbers (λ n. 0 < n) (λ n l h. omega arith) m w (omega arith))
@@ -151,6 +113,38 @@ module _ (P : ℕ → Type 0) where
   unfolding listOf
   length-numbers m w h = numbered-length (listOf m w) (by-verdict (listAs m) (λ c d. tt) (λ n p. p) (checkOf m w) h)
 
+  -- two maps: what is shown of the old one's number, and of the new one's with 100 more
+  named : (made : Comparison → Result) → ((cs : List Change) → Makes (made (Told cs))) → ((n : ℕ) → P n → Makes (made (Named n)))
+      → (cs : List Change) (v u : Verdict) → Refuses P (mapChecked v) → Refuses (λ n. P (100 + n)) (mapChecked u) → Makes (made (comparedAs cs v u))
+  unfolding Refuses mapChecked
+  named made a b cs (Refused n) u h k = b n h
+  named made a b cs (Accepted c d) (Refused n) h k = b (100 + n) k
+  named made a b cs (Accepted c d) (Accepted c′ d′) h k = a cs
+
+  numbered-need : (c : Comparison) (r : Result) → Makes r → Refuses P (bytesNeeded (bytesOf (recordsMade c))) → Refuses P (bytesNeeded (neededWith c r))
+  unfolding Refuses bytesNeeded
+  numbered-need c (Made l) h k = k
+  numbered-need c (No n) h k = h
+
+  module _ (old new : List ℕ) (w : ℕ) (h : Refuses P (mapChecked (checkOf old w))) (k : Refuses (λ n. P (100 + n)) (mapChecked (checkOf new w))) where
+    records-make-of : Makes (compareOf old new w)
+    unfolding comparison
+    records-make-of = named recordsMade (λ cs. tt) (λ n p. p) (changesOf old new w) (checkOf old w) (checkOf new w) h k
+
+    first-makes : Makes (firstMade (comparison old new w))
+    unfolding comparison
+    first-makes = named firstMade (λ cs. tt) (λ n p. p) (changesOf old new w) (checkOf old w) (checkOf new w) h k
+
+    -- the old map's, the new map's with 100 more, then 14
+    pub compare-numbers : (room : ℕ) → P 14 → Refuses P (bytesWritten (answerOf (within room (compareOf old new w))))
+    compare-numbers room short = bytes-numbers room (compareOf old new w) short records-make-of
+
+    pub find-numbers : (room : ℕ) → P 14 → Refuses P (bytesNeeded (neededWith (comparison old new w) (within room (firstMade (comparison old new w)))))
+    find-numbers room short =
+        numbered-need (comparison old new w) (within room (firstMade (comparison old new w)))
+        (goes-on _ (λ l. refused (ltb room (length l)) 14 _ short tt) (firstMade (comparison old new w)) first-makes)
+        (numbered-length (compareOf old new w) records-make-of)
+
   -- the check's, then 14
   pub unpack-numbers : (k : ℕ) (m : List ℕ) (w : ℕ) → P 14 → Refuses P (mapChecked (checkOf m w)) → Refuses P (bytesWritten (answerOf (within k (unpackOf m w))))
   unfolding unpackOf
@@ -185,3 +179,17 @@ list-needed m w = counted _ (length-numbers (λ n. 0 < n) m w (map-numbers (λ n
 
 pub pack-written : (k : ℕ) (rs : List ℕ) → Counted (bytesWritten (answerOf (within k (packOf rs))))
 pack-written k rs = counted _ (pack-numbers (λ n. 0 < n) (omega arith) (omega arith) (omega arith) k rs (omega arith))
+
+-- no number of either map is 0, and none with 100 more
+never-0 : (m : List ℕ) (w : ℕ) → Refuses (λ n. 0 < n) (mapChecked (checkOf m w))
+never-0 m w = map-numbers (λ n. 0 < n) (λ n l h. omega arith) m w (omega arith)
+
+never-100 : (m : List ℕ) (w : ℕ) → Refuses (λ n. 0 < 100 + n) (mapChecked (checkOf m w))
+never-100 m w = map-numbers (λ n. 0 < 100 + n) (λ n l h. omega arith) m w (omega arith)
+
+pub compare-written : (k : ℕ) (old new : List ℕ) (w : ℕ) → Counted (bytesWritten (answerOf (within k (compareOf old new w))))
+compare-written k old new w = counted _ (compare-numbers (λ n. 0 < n) old new w (never-0 old w) (never-100 new w) k (omega arith))
+
+pub compare-needed : (k : ℕ) (old new : List ℕ) (w : ℕ)
+    → Counted (bytesNeeded (neededWith (comparison old new w) (within k (firstMade (comparison old new w)))))
+compare-needed k old new w = counted _ (find-numbers (λ n. 0 < n) old new w (never-0 old w) (never-100 new w) k (omega arith))

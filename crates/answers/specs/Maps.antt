@@ -1,4 +1,4 @@
--- The numbers that check, walk, unpack and pack hand out (document 01, Check, Walk, Unpack and pack), and the listing (document 02, CR 1).
+-- The numbers that check, walk, unpack and pack hand out (document 01, Check, Walk, Unpack and pack), the listing (document 02, CR 1) and the comparison.
 -- Assumes nothing.
 use Prim.Native.Nat.{ℕ}
 use mathlib.Core.Path.{_≡_}
@@ -18,6 +18,7 @@ use Rattle.asmap_records.specs.declared.Answer.the-variants as records
 use Rattle.asmap_records.specs.Output.{Result, within, answerOf, leaves}
 use Rattle.asmap_list.specs.declared.Needed.{Needed}
 use Rattle.asmap_list.specs.declared.Needed.the-variants as needed
+use Rattle.asmap_compare.specs.Compare.{Comparison, firstMade, neededWith}
 use Rattle.answers.specs.Outcome.{Outcome, Done, No, Hands}
 
 -- A map that was checked: the count of its instructions, and the greatest number of jumps open at once.
@@ -50,7 +51,7 @@ unfoldable pub bytesWritten : Answer → Outcome
 bytesWritten (records.Wrote n) = Done (n ∷ [])
 bytesWritten (records.Refused n) = No n
 
--- A listing whose length was asked for: how many bytes it needs.
+-- A listing or a comparison whose length was asked for: how many bytes it needs.
 unfoldable pub bytesNeeded : Needed → Outcome
 bytesNeeded (needed.Bytes n) = Done (n ∷ [])
 bytesNeeded (needed.Refused n) = No n
@@ -60,3 +61,8 @@ bytesNeeded (needed.Refused n) = No n
 pub record Writes (made : Result) (o o′ : List ℕ) (r : ℕ) (lent left : List ℕ) : Type 0 where
   pub hands : Hands (bytesWritten (answerOf (within (length o) made))) r lent left
   pub output : o′ ≡ leaves (within (length o) made) o
+
+-- A call that asks what a comparison needs, with bytes lent for the first address that differs, which are o at entry and o′ at exit.
+pub record Finds (c : Comparison) (o o′ : List ℕ) (r : ℕ) (lent left : List ℕ) : Type 0 where
+  pub hands : Hands (bytesNeeded (neededWith c (within (length o) (firstMade c)))) r lent left
+  pub output : o′ ≡ leaves (within (length o) (firstMade c)) o

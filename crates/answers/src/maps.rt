@@ -85,7 +85,7 @@ pub fn hand_bytes(got: Answer, written: &mut usize) -> u8
     }
 }
 
-// What asking for a listing's length came to.
+// What asking for the length of a listing or of a comparison came to.
 pub fn hand_needed(got: Needed, bytes: &mut usize) -> u8
     ensures { λ r. ⌜ r ∷ now (bytes .exit) ∷ [] ≡ handed (bytesNeeded got) (now (bytes .entry) ∷ []) ⌝ }
 {

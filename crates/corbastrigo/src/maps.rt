@@ -1,4 +1,4 @@
-// Check, walk, unpack and pack (document 01, Check, Walk, Unpack and pack); the listing (document 02, CR 1).
+// Check, walk, unpack and pack (document 01, Check, Walk, Unpack and pack); the listing (document 02, CR 1); two maps compared.
 ghost use mathlib.Core.List.{_∷_, []};
 ghost use Rattle.asmap_check.specs.Check.{checkOf, stoppedOf};
 ghost use Rattle.asmap_walk.specs.Interpret.{interpretOf};
@@ -6,8 +6,10 @@ ghost use Rattle.asmap_records.specs.Unpack.{unpackOf};
 ghost use Rattle.asmap_records.specs.Pack.{packOf};
 ghost use Rattle.asmap_list.specs.List.{listOf, neededOf};
 ghost use Rattle.asmap_list.specs.Promise.{Covers};
+ghost use Rattle.asmap_compare.specs.Compare.{comparison, compareOf};
+ghost use Rattle.asmap_compare.specs.Promise.{Compares};
 ghost use Rattle.answers.specs.Outcome.{Hands};
-ghost use Rattle.answers.specs.Maps.{mapChecked, checkStopped, walkMade, bytesNeeded, Writes};
+ghost use Rattle.answers.specs.Maps.{mapChecked, checkStopped, walkMade, bytesNeeded, Writes, Finds};
 ghost use Rattle.answers.specs.Promise.{Demand3, CoreVerdict, CoreNumber};
 use answers::maps::hand_bytes;
 use answers::maps::hand_needed;
@@ -93,4 +95,35 @@ pub extern "C" fn corbastrigo_list_bytes(map: &[u8], bytes: &mut usize) -> u8
     ensures { λ r. ⌜ Hands (bytesNeeded (neededOf (now (map .entry)) 128)) r (now (bytes .entry) ∷ []) (now (bytes .exit) ∷ []) ⌝ }
 {
     hand_needed(asmap_list::list_bytes(map), bytes)
+}
+
+// Compares two maps that the check accepts, for every address: a record of 28 bytes for each prefix on which they differ. An address lies in a record
+// exactly where its two walks end with different numbers, and that record carries both. Refusals: the old map's check, 1 to 10; the new map's, 101 to
+// 110, the check's number and 100 more; then 14.
+#[no_mangle]
+pub extern "C" fn corbastrigo_compare(
+    old_map: &[u8],
+    new_map: &[u8],
+    out: &mut [u8],
+    written: &mut usize,
+) -> u8
+    ensures { λ r. ⌜ Writes (compareOf (now («old_map» .entry)) (now («new_map» .entry)) 128) (now (out .entry)) (now (out .exit)) r (now (written .entry) ∷ []) (now (written .exit) ∷ []) ⌝ }
+    ensures compares { λ r. ⌜ Compares (now («old_map» .entry)) (now («new_map» .entry)) 128 ⌝ }
+{
+    hand_bytes(asmap_compare::compare(old_map, new_map, out), written)
+}
+
+// Says how many bytes the comparison of two maps needs, and in 16 bytes the first address that differs: 0 bytes and zeros where none does. Refusals as
+// above, with 14 where fewer than 16 bytes are lent.
+#[no_mangle]
+pub extern "C" fn corbastrigo_compare_bytes(
+    old_map: &[u8],
+    new_map: &[u8],
+    first: &mut [u8],
+    bytes: &mut usize,
+) -> u8
+    ensures { λ r. ⌜ Finds (comparison (now («old_map» .entry)) (now («new_map» .entry)) 128) (now (first .entry)) (now (first .exit)) r (now (bytes .entry) ∷ []) (now (bytes .exit) ∷ []) ⌝ }
+    ensures compares { λ r. ⌜ Compares (now («old_map» .entry)) (now («new_map» .entry)) 128 ⌝ }
+{
+    hand_needed(asmap_compare::compare_bytes(old_map, new_map, first), bytes)
 }
