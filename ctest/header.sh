@@ -1,7 +1,7 @@
 #!/bin/sh
 # The header by itself. It compiles without a warning in every standard of C and C++ that the compilers of this machine know, with its
 # inline function used or not; its version is that of rust/Cargo.toml, as text and as numbers; and its words for the refusals are those of
-# the safe crate, each number's.
+# the safe crate, each number's, and of a new map's refusals those of the check's.
 cd "$(dirname "$0")" || exit 2
 work=$(mktemp -d) || exit 2
 trap 'rm -rf "$work"' EXIT
@@ -37,15 +37,18 @@ version() {
     [ "$numbers" = "$ours" ] || complain "its version's numbers are $numbers, and the version $ours"
 }
 
-# The words of 0, of the refusals that the header numbers, and of all other numbers.
+# The words of 0, of the refusals that the header numbers, of a new map's, and of all other numbers.
 words() {
     cc words.c -o "$work/words" || exit 1
     sed -n 's/^ *CORBASTRIGO_[A-Z_]* = \([0-9]*\).*/\1/p' $header > "$work/numbers"
-    "$work/words" | awk -v numbers="$work/numbers" -v known="$work/known" -v others="$work/others" '
+    "$work/words" | awk -v numbers="$work/numbers" -v known="$work/known" -v others="$work/others" -v ofnew="$work/new" \
+        -v new="$(./macro.sh CORBASTRIGO_NEW_MAP)" -v last="$(sed -n 's/^ *CORBASTRIGO_SHORT_MATCHES = \([0-9]*\).*/\1/p' $header)" '
         BEGIN { while ((getline number < numbers) > 0) has[number] = 1 }
+        new + 0 < $1 + 0 && $1 + 0 <= new + last { $1 -= new; print > ofnew; next }
         { print > (($1 in has) ? known : others) }'
     sed -n 's/^.*[^0-9]\([0-9][0-9]*\)\(:\| =>\) "\(.*\)",$/\1 \3/p' ../rust/corbastrigo/src/refusal.rs > "$work/rust"
     diff "$work/rust" "$work/known" || complain "its words (>) are not those of rust/corbastrigo/src/refusal.rs (<)"
+    head -n "$(wc -l < "$work/new")" "$work/known" | diff - "$work/new" || complain "a new map's refusals (>) say other words than the check's (<)"
     [ "$(head -n 1 "$work/others")" = "0 done" ] || complain "0 does not say done"
     others=$(sed '1d; s/^[0-9]* //' "$work/others" | sort -u)
     [ "$others" = "a reason that this version does not know" ] || complain "numbers that are no refusal say: $others"

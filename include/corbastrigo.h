@@ -1,23 +1,25 @@
 /* Bitcoin's address map (asmap), peer groups and address filters: the calls of libcorbastrigo.a.
  *
- * Every call answers 0 when it is done, or the number of its refusal (below; corbastrigo_reason says it in words). A refused call has
+ * Every call answers 0 when it is done, or the number of its refusal (below; corbastrigo_reason says it in words). Of a call that takes two
+ * maps a number over 100 is the new map's refusal: CORBASTRIGO_NEW_MAP and the number that it has below, 101 to 110. A refused call has
  * written nothing: every number and every place that was lent holds what it held before. Any bytes, lengths and numbers may be handed
  * over. No call keeps a pointer, allocates, or waits.
  *
  * Pointers. A list is a pointer and a number of elements. The pointer is aligned for its elements and has as many behind it; where the
  * number is 0, nothing is read or written through it, and it may be NULL. A pointer to a single number is never NULL. What a call
- * writes to may overlap nothing else that is handed to the same call.
+ * writes to may overlap nothing else that is handed to the same call. What it only reads may: two maps may be the same bytes.
  *
  * Lengths. A length that a call refuses is refused as a number: nothing behind its pointer is looked at. That is so of a map over the
- * limit (1), of addresses (11, 17), of one candidate (13), of candidates that are no multiple of 20 bytes (13), of too many candidates
+ * limit (1, 101), of addresses (11, 17), of one candidate (13), of candidates that are no multiple of 20 bytes (13), of too many candidates
  * or occupied groups (12), of records that are no multiple of 16 bytes (16) and of outputs that are too short (14). The number of
  * records has no limit of its own: they are read up to the first that is wrong.
  *
  * Threads. Any number of threads may be in any calls at once: the archive has no variables. Calls at once may read the same lists; what
  * one of them writes to is its own until it returns.
  *
- * Stack. A call takes less than CORBASTRIGO_STACK_BYTES, a pick less than CORBASTRIGO_PICK_STACK_BYTES. Not counted are memset's own, and
- * the dynamic linker's where it looks memset up at its first call. No call recurses.
+ * Stack. A call takes less than CORBASTRIGO_STACK_BYTES, a comparison of two maps less than CORBASTRIGO_COMPARE_STACK_BYTES, a pick less
+ * than CORBASTRIGO_PICK_STACK_BYTES. Not counted are memset's own, and the dynamic linker's where it looks memset up at its first call. No
+ * call recurses.
  *
  * Platform. x86-64 Linux: ELF, the System V calling convention, any x86-64 processor. The code is position-independent: the archive
  * links into a program, position-independent or not, and into a shared object. Of the C library it wants memset and nothing else.
@@ -71,9 +73,14 @@ enum corbastrigo_refusal {
     CORBASTRIGO_RELAY_LENGTH = 17        /* an addrv2 address of a length that its network has not */
 };
 
-/* What a call's answer says, in English, with no full stop: text for a log or a person. It never is NULL. */
+/* Added to the check's refusal, 1 to 10, where a call takes two maps and the new one is refused. */
+#define CORBASTRIGO_NEW_MAP 100
+
+/* What a call's answer says, in English, with no full stop: text for a log or a person. It never is NULL. Of 101 to 110 it says what it says
+ * of 1 to 10: which of two maps is meant the number tells. */
 CORBASTRIGO_INLINE const char *corbastrigo_reason(uint8_t answer) {
-    switch (answer) {
+    const int of_new = CORBASTRIGO_NEW_MAP < answer && answer <= CORBASTRIGO_NEW_MAP + CORBASTRIGO_SHORT_MATCHES;
+    switch (of_new ? answer - CORBASTRIGO_NEW_MAP : answer) {
     case 0: return "done";
     case CORBASTRIGO_MAP_TOO_LONG: return "the map has more than 16,777,216 bytes";
     case CORBASTRIGO_MAP_ENDS: return "the map ends where an instruction must start";
@@ -103,9 +110,11 @@ CORBASTRIGO_INLINE const char *corbastrigo_reason(uint8_t answer) {
 #define CORBASTRIGO_CANDIDATE_BYTES 20
 #define CORBASTRIGO_RECORD_BYTES 16
 #define CORBASTRIGO_PREFIX_RECORD_BYTES 24
+#define CORBASTRIGO_CHANGE_RECORD_BYTES 28
 
-/* More stack than a call takes, and than a pick takes. */
+/* More stack than a call takes, than a comparison of two maps takes, and than a pick takes. */
 #define CORBASTRIGO_STACK_BYTES 2048
+#define CORBASTRIGO_COMPARE_STACK_BYTES 4096
 #define CORBASTRIGO_PICK_STACK_BYTES 10240
 
 /* Opcodes. */
@@ -177,6 +186,23 @@ uint8_t corbastrigo_list(const uint8_t *map, size_t map_len, uint8_t *out, size_
 
 /* How many bytes the list of a map's prefixes has: 24 for each. Refusals: the check's. */
 uint8_t corbastrigo_list_bytes(const uint8_t *map, size_t map_len, size_t *bytes);
+
+/* Compares what two accepted maps say of every address. Where a prefix of the one's list and a prefix of the other's overlap, one of them
+ * lies in the other, and that one is the piece. Each piece whose two numbers differ gives a record of 28 bytes: 16 address bytes with zeros
+ * past the prefix, the prefix's length in bits, 0 to 128 (1 byte), three zeros, the old map's number and the new map's, little-endian (4
+ * each). Records rise by address and are not joined: an address walks to the same number by both maps just where it lies in none, and
+ * else to the two numbers of the one that it lies in. `out` needs as many bytes as corbastrigo_compare_bytes says. With 28 bytes for each
+ * prefix of both lists, which is always enough, the maps are gone through once after their checks; with fewer the records are counted
+ * first, in one time more. Writes the bytes written; those behind them remain. Refusals: the check's of the old map, 1 to 10, then of the
+ * new one, 101 to 110, then 14. */
+uint8_t corbastrigo_compare(const uint8_t *old_map, size_t old_map_len, const uint8_t *new_map, size_t new_map_len, uint8_t *out,
+                            size_t out_len, size_t *written);
+
+/* How many bytes that comparison has: 28 for each record, 0 where every address walks to the same number by both maps. Writes them, and to
+ * the first 16 bytes of `first` the first address that differs, or zeros where none does; what lies behind them remains. Refusals: as
+ * above, 14 being a `first` of fewer than 16 bytes. */
+uint8_t corbastrigo_compare_bytes(const uint8_t *old_map, size_t old_map_len, const uint8_t *new_map, size_t new_map_len,
+                                  uint8_t *first, size_t first_len, size_t *bytes);
 
 /* ---- Groups and picks. A candidate is 20 bytes: family 4 or 6, a zero, 16 address bytes (family 4: in the mapped form), the port
  * big-endian. `has_map` 0 is without a map: then `map` is not looked at (hand over NULL and 0), and a group is the prefix of the
