@@ -32,8 +32,9 @@ sections() {
 stack() {
     awk -f frames.awk "$work/code" > "$work/stack" || complain "its stack: $(grep unread "$work/stack")"
     cut -d' ' -f1 "$work/stack" | sort | cmp -s - "$work/declared" || complain "the stack of some call was not read"
-    over=$(awk -v pick="$(./macro.sh CORBASTRIGO_PICK_STACK_BYTES)" -v other="$(./macro.sh CORBASTRIGO_STACK_BYTES)" \
-        '$2 + 0 >= ($1 ~ /_select_/ ? pick : other) + 0' "$work/stack")
+    over=$(awk -v pick="$(./macro.sh CORBASTRIGO_PICK_STACK_BYTES)" -v two="$(./macro.sh CORBASTRIGO_COMPARE_STACK_BYTES)" \
+        -v other="$(./macro.sh CORBASTRIGO_STACK_BYTES)" \
+        '$2 + 0 >= ($1 ~ /_select_/ ? pick : $1 ~ /_compare/ ? two : other) + 0' "$work/stack")
     [ -z "$over" ] || complain "it takes as much stack as the header's bound, or more: $over"
     most=$(sort -n -k 2 "$work/stack" | tail -n 1 | cut -d' ' -f2)
 }

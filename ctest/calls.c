@@ -217,6 +217,90 @@ static void lists(void) {
     IS(untouched(list + 2496, 4), 4);
 }
 
+/* Both calls over two maps that are refused, with room and without: the reason comes before an output is looked at. */
+static void refused_pair(const uint8_t *old_map, size_t old_len, const uint8_t *new_map, size_t new_len, int reason) {
+    uint8_t list[28], first[16];
+    size_t written = BEFORE(2), bytes = BEFORE(3);
+    memset(list, BEFORE(1), sizeof list);
+    memset(first, BEFORE(1), sizeof first);
+    IS(corbastrigo_compare(old_map, old_len, new_map, new_len, list, sizeof list, &written), reason);
+    IS(corbastrigo_compare(old_map, old_len, new_map, new_len, list, 0, &written), reason);
+    IS(corbastrigo_compare_bytes(old_map, old_len, new_map, new_len, first, sizeof first, &bytes), reason);
+    IS(corbastrigo_compare_bytes(old_map, old_len, new_map, new_len, first, 0, &bytes), reason);
+    IS(untouched(list, sizeof list), sizeof list);
+    IS(untouched(first, sizeof first), sizeof first);
+    IS(written, BEFORE(2));
+    IS(bytes, BEFORE(3));
+}
+
+/* Each reason of either map; of two that are refused the old one's. */
+static void refused_comparisons(void) {
+    const size_t count = sizeof refused / sizeof *refused;
+    for (size_t i = 0; i < count; i++) {
+        const size_t other = (i + 1) % count;
+        refused_pair(refused[i].map, refused[i].len, lone_return, 3, refused[i].reason);
+        refused_pair(lone_return, 3, refused[i].map, refused[i].len, CORBASTRIGO_NEW_MAP + refused[i].reason);
+        refused_pair(refused[i].map, refused[i].len, refused[other].map, refused[other].len, refused[i].reason);
+    }
+    refused_pair(too_long, sizeof too_long, lone_return, 3, CORBASTRIGO_MAP_TOO_LONG);
+    refused_pair(lone_return, 3, too_long, sizeof too_long, CORBASTRIGO_NEW_MAP + CORBASTRIGO_MAP_TOO_LONG);
+    refused_pair(lone_jump, 1, too_long, sizeof too_long, CORBASTRIGO_MAP_ENDS);
+    refused_pair(too_long, sizeof too_long, lone_jump, 1, CORBASTRIGO_MAP_TOO_LONG);
+}
+
+/* The lone RETURN says 1 of every address, and the map says it of 0.0.0.0/7: its 103 other prefixes are the pieces. */
+static void comparisons(void) {
+    static const uint8_t around[56] = {0, 0, 0, 0, 0, 0, 0, 0, 0, 0, 0xff, 0xfe, 0, 0, 0, 0, 96, 0, 0, 0, 0, 0, 0, 0, 1, 0, 0, 0,
+                                       0, 0, 0, 0, 0, 0, 0, 0, 0, 0, 0xff, 0xff, 2, 0, 0, 0, 103, 0, 0, 0, 2, 0, 0, 0, 1, 0, 0, 0};
+    uint8_t list[2888];
+    size_t written = BEFORE(2);
+    memset(list, BEFORE(1), sizeof list);
+    IS(corbastrigo_compare(two_prefixes, 35, lone_return, 3, list, 2883, &written), CORBASTRIGO_OUTPUT_TOO_SHORT);
+    IS(untouched(list, sizeof list), sizeof list);
+    IS(written, BEFORE(2));
+    IS(corbastrigo_compare(two_prefixes, 35, two_prefixes, 35, list, sizeof list, &written), 0);
+    IS(written, 0);
+    IS(untouched(list, sizeof list), sizeof list);
+    IS(corbastrigo_compare(two_prefixes, 35, lone_return, 3, list, 2884, &written), 0);
+    IS(written, 103 * CORBASTRIGO_CHANGE_RECORD_BYTES);
+    IS(list[16], 81);
+    IS(memcmp(list + 15 * 28, around, 56), 0);
+    IS(list[102 * 28], 0x80);
+    IS(untouched(list + 2884, 4), 4);
+    memset(list, BEFORE(1), sizeof list);
+    IS(corbastrigo_compare(lone_return, 3, two_prefixes, 35, list, sizeof list, &written), 0);
+    IS(written, 2884);
+    IS(memcmp(list + 15 * 28, around, 20), 0);
+    IS(list[16 * 28 + 20], 1);
+    IS(list[16 * 28 + 24], 2);
+    IS(untouched(list + 2884, 4), 4);
+}
+
+/* A bit of the map's last RETURN is turned over, so that 2.0.0.0/7 goes to 1. */
+static void comparison_bytes(void) {
+    uint8_t changed[35], first[20], from[16];
+    size_t bytes = BEFORE(3);
+    memcpy(changed, two_prefixes, 35);
+    changed[34] = 0;
+    memset(first, BEFORE(1), sizeof first);
+    IS(corbastrigo_compare_bytes(two_prefixes, 35, changed, 35, first, 15, &bytes), CORBASTRIGO_OUTPUT_TOO_SHORT);
+    IS(untouched(first, sizeof first), sizeof first);
+    IS(bytes, BEFORE(3));
+    IS(corbastrigo_compare_bytes(two_prefixes, 35, changed, 35, first, 16, &bytes), 0);
+    IS(bytes, CORBASTRIGO_CHANGE_RECORD_BYTES);
+    mapped(from, 2, 0, 0, 0);
+    IS(memcmp(first, from, 16), 0);
+    IS(corbastrigo_compare_bytes(changed, 35, lone_return, 3, first, sizeof first, &bytes), 0);
+    IS(bytes, 102 * CORBASTRIGO_CHANGE_RECORD_BYTES);
+    IS(memcmp(first, none, 1), 0);
+    memset(from, 0, sizeof from);
+    first[15] = BEFORE(1);
+    IS(corbastrigo_compare_bytes(changed, 35, changed, 35, first, sizeof first, &bytes), 0);
+    IS(bytes, 0);
+    IS(memcmp(first, from, 16), 0);
+    IS(untouched(first + 16, 4), 4);
+}
+
 static void groups(void) {
     uint8_t peer[20];
     uint64_t group = BEFORE(1);
@@ -309,6 +393,9 @@ int main(void) {
     records();
     refused_lists();
     lists();
+    refused_comparisons();
+    comparisons();
+    comparison_bytes();
     groups();
     pick(corbastrigo_select_diverse, CORBASTRIGO_MAP_ENDS);
     pick(corbastrigo_select_diverse_unchecked, 0);

@@ -40,6 +40,10 @@ static void long_map(size_t len) {
     IS(corbastrigo_unpack(barred, len, barred, 16, &size), CORBASTRIGO_MAP_TOO_LONG);
     IS(corbastrigo_list(barred, len, barred, 24, &size), CORBASTRIGO_MAP_TOO_LONG);
     IS(corbastrigo_list_bytes(barred, len, &size), CORBASTRIGO_MAP_TOO_LONG);
+    IS(corbastrigo_compare(barred, len, lone_return, 3, barred, 28, &size), CORBASTRIGO_MAP_TOO_LONG);
+    IS(corbastrigo_compare(lone_return, 3, barred, len, barred, 28, &size), CORBASTRIGO_NEW_MAP + CORBASTRIGO_MAP_TOO_LONG);
+    IS(corbastrigo_compare_bytes(barred, len, lone_return, 3, barred, 16, &size), CORBASTRIGO_MAP_TOO_LONG);
+    IS(corbastrigo_compare_bytes(lone_return, 3, barred, len, barred, 16, &size), CORBASTRIGO_NEW_MAP + CORBASTRIGO_MAP_TOO_LONG);
     IS(corbastrigo_netgroup(peer, 20, 1, barred, len, &group), CORBASTRIGO_MAP_TOO_LONG);
     IS(corbastrigo_netgroup_unchecked(peer, 20, 1, barred, len, &group), CORBASTRIGO_MAP_TOO_LONG);
     for (size_t i = 0; i < 2; i++)
@@ -88,6 +92,10 @@ static void refused_lengths(void) {
     IS(corbastrigo_pack(list, 256, barred, 34, &size), CORBASTRIGO_OUTPUT_TOO_SHORT);
     IS(corbastrigo_list(two_prefixes, 35, barred, 2495, &size), CORBASTRIGO_OUTPUT_TOO_SHORT);
     IS(corbastrigo_list(lone_jump, 1, barred, 24, &size), CORBASTRIGO_MAP_ENDS);
+    IS(corbastrigo_compare(two_prefixes, 35, lone_return, 3, barred, 2883, &size), CORBASTRIGO_OUTPUT_TOO_SHORT);
+    IS(corbastrigo_compare(lone_return, 3, lone_jump, 1, barred, 2884, &size), CORBASTRIGO_NEW_MAP + CORBASTRIGO_MAP_ENDS);
+    IS(corbastrigo_compare_bytes(two_prefixes, 35, lone_return, 3, barred, 15, &size), CORBASTRIGO_OUTPUT_TOO_SHORT);
+    IS(corbastrigo_compare_bytes(lone_jump, 1, lone_return, 3, barred, 16, &size), CORBASTRIGO_MAP_ENDS);
 }
 
 /* Without a map the map is not looked at. */
@@ -101,6 +109,20 @@ static void no_map(uint8_t *map, size_t len) {
         IS(selections[i](peers, 80, NULL, 0, 4, 0, map, len, places, 4, taken, 4, &total, &first, &examined, &instructions), 0);
         IS(first, 3);
     }
+}
+
+/* Maps that say the same need no output. */
+static void empty_comparisons(void) {
+    size = BEFORE(1);
+    IS(corbastrigo_compare(NULL, 0, NULL, 0, NULL, 0, &size), CORBASTRIGO_MAP_ENDS);
+    IS(corbastrigo_compare(lone_return, 3, NULL, 0, NULL, 0, &size), CORBASTRIGO_NEW_MAP + CORBASTRIGO_MAP_ENDS);
+    IS(corbastrigo_compare(two_prefixes, 35, lone_return, 3, NULL, 0, &size), CORBASTRIGO_OUTPUT_TOO_SHORT);
+    IS(corbastrigo_compare_bytes(NULL, 0, NULL, 0, NULL, 0, &size), CORBASTRIGO_MAP_ENDS);
+    IS(corbastrigo_compare_bytes(lone_return, 3, NULL, 0, NULL, 0, &size), CORBASTRIGO_NEW_MAP + CORBASTRIGO_MAP_ENDS);
+    IS(corbastrigo_compare_bytes(two_prefixes, 35, lone_return, 3, NULL, 0, &size), CORBASTRIGO_OUTPUT_TOO_SHORT);
+    IS(size, BEFORE(1));
+    IS(corbastrigo_compare(two_prefixes, 35, two_prefixes, 35, NULL, 0, &size), 0);
+    IS(size, 0);
 }
 
 static void empty_lists(void) {
@@ -120,6 +142,7 @@ static void empty_lists(void) {
     IS(corbastrigo_list(two_prefixes, 35, NULL, 0, &size), CORBASTRIGO_OUTPUT_TOO_SHORT);
     IS(corbastrigo_list_bytes(NULL, 0, &size), CORBASTRIGO_MAP_ENDS);
     IS(size, 0);
+    empty_comparisons();
     IS(corbastrigo_prefix_group(NULL, 0, &group), CORBASTRIGO_CANDIDATE);
     IS(corbastrigo_netgroup(NULL, 0, 0, NULL, 0, &group), CORBASTRIGO_CANDIDATE);
     IS(corbastrigo_netgroup(peer, 20, 1, NULL, 0, &group), CORBASTRIGO_MAP_ENDS);

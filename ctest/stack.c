@@ -9,10 +9,11 @@
 #define PAGE 4096
 #define STACK (16 * PAGE)
 #define PAINT 0xa5
-#define OF_A_PICK CORBASTRIGO_PICK_STACK_BYTES
 #define OF_OTHERS CORBASTRIGO_STACK_BYTES
+#define OF_TWO_MAPS CORBASTRIGO_COMPARE_STACK_BYTES
+#define OF_A_PICK CORBASTRIGO_PICK_STACK_BYTES
 
-static uint8_t peers[20 * CORBASTRIGO_MAX_CANDIDATES], records[256], bytes[35], prefixes[2496], small, other, answer;
+static uint8_t peers[20 * CORBASTRIGO_MAX_CANDIDATES], records[256], bytes[35], prefixes[2496], changes[2884], small, other, answer;
 static uint64_t occupied[CORBASTRIGO_MAX_CANDIDATES], taken[CORBASTRIGO_MAX_CANDIDATES], wide;
 static uint16_t places[CORBASTRIGO_MAX_CANDIDATES];
 static uint32_t number, count;
@@ -22,6 +23,7 @@ static size_t size, total, first, examined;
 static const uint8_t embedded[16] = {0, 0x64, 0xff, 0x9b, 0, 1, 0, 0, 0, 0, 0, 0, 8, 8, 8, 8};
 
 #define MAP two_prefixes, sizeof two_prefixes
+#define MAPS MAP, lone_return, sizeof lone_return
 #define PICK (peers, sizeof peers, occupied, CORBASTRIGO_MAX_CANDIDATES, CORBASTRIGO_MAX_CANDIDATES, 1, MAP, places,                    \
               CORBASTRIGO_MAX_CANDIDATES, taken, CORBASTRIGO_MAX_CANDIDATES, &total, &first, &examined, &wide)
 
@@ -44,6 +46,8 @@ static const uint8_t embedded[16] = {0, 0x64, 0xff, 0x9b, 0, 1, 0, 0, 0, 0, 0, 0
     call(pack, OF_OTHERS, (records, sizeof records, bytes, sizeof bytes, &size))                                                       \
     call(list, OF_OTHERS, (MAP, prefixes, sizeof prefixes, &size))                                                                     \
     call(list_bytes, OF_OTHERS, (MAP, &size))                                                                                          \
+    call(compare, OF_TWO_MAPS, (MAPS, changes, sizeof changes, &size))                                                                 \
+    call(compare_bytes, OF_TWO_MAPS, (MAPS, changes, sizeof changes, &size))                                                           \
     call(prefix_group, OF_OTHERS, (peers, 20, &wide))                                                                                  \
     call(netgroup, OF_OTHERS, (peers, 20, 1, MAP, &wide))                                                                              \
     call(netgroup_unchecked, OF_OTHERS, (peers, 20, 1, MAP, &wide))                                                                    \
@@ -82,7 +86,7 @@ static size_t used(uint8_t *stack, void (*make)(void)) {
 }
 
 int main(void) {
-    size_t most[2] = {0, 0}, floor;
+    size_t most[3] = {0, 0, 0}, floor;
     uint8_t *stack = mmap(NULL, STACK, PROT_READ | PROT_WRITE, MAP_PRIVATE | MAP_ANONYMOUS, -1, 0);
     if (stack == MAP_FAILED || mprotect(stack, PAGE, PROT_NONE) != 0)
         return 2;
@@ -93,12 +97,12 @@ int main(void) {
     floor = used(stack, nothing);
     for (size_t i = 0; i < sizeof calls / sizeof *calls; i++) {
         const size_t bytes_used = used(stack, calls[i].make) - floor;
-        size_t *const of_kind = &most[calls[i].bound == OF_A_PICK];
+        size_t *const of_kind = &most[(calls[i].bound > OF_OTHERS) + (calls[i].bound > OF_TWO_MAPS)];
         expect(answer, 0, calls[i].name, __FILE__, __LINE__);
         expect(bytes_used / calls[i].bound, 0, calls[i].name, __FILE__, __LINE__);
         if (*of_kind < bytes_used)
             *of_kind = bytes_used;
     }
-    printf("stack: a pick took %zu bytes, every other call at most %zu\n", most[1], most[0]);
+    printf("stack: a pick took %zu bytes, a comparison %zu, every other call at most %zu\n", most[2], most[1], most[0]);
     return failures != 0;
 }
