@@ -3,6 +3,8 @@ use crate::asmap::pack_le;
 pub use crate::codes::in_range;
 use crate::codes::instruction;
 use crate::document::{check, instruction_at, Refusal, Verdict};
+use maps::rewrite::Program;
+use std::iter::repeat_with;
 
 pub fn record(opcode: u32, operand: u32, place: usize, length: usize) -> Vec<u8> {
     [opcode, operand, place as u32, length as u32].iter().flat_map(|n| n.to_le_bytes()).collect()
@@ -20,6 +22,12 @@ pub fn unpack(map: &[u8]) -> Result<Vec<u8>, Refusal> {
         record(opcode, operand, place, pos - place)
     });
     Ok(records.collect())
+}
+
+/// An accepted map as a program that can be rewritten.
+pub fn program(map: &[u8]) -> Program {
+    let mut place = 0;
+    Program::read(&mut repeat_with(|| instruction_at(&mut place, map)))
 }
 
 pub fn pack(records: &[u8]) -> Result<Vec<u8>, Refusal> {

@@ -1,4 +1,6 @@
-//! Maps built from trees, so that the check accepts them: shapes as real maps have them, the worst shapes, and random ones.
+//! Maps built from trees, so that the check accepts them: shapes as real maps have them, the worst shapes, random ones, and
+//! others rewritten.
+pub mod rewrite;
 pub mod shapes;
 
 /// A generator of random numbers (SplitMix64): the same seed gives the same inputs on every machine.
