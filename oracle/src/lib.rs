@@ -41,6 +41,10 @@ pub const MAPS: [(&str, &[u8]); 11] = [
     ("ASMAP_JUMP_OFF_END", asmap::ASMAP_JUMP_OFF_END),
 ];
 
+/// Document 01's examples of what the check refuses, in hexadecimal.
+pub const EXAMPLES: [&str; 9] =
+    ["", "01", "01 fb 03 00", "fb", "07 00 00", "00 00 00 00", "fd 71 3a 00 00", "01 01", "63 00 00 00"];
+
 /// Bytes written in hexadecimal, with spaces between them.
 pub fn bytes(hex: &str) -> Vec<u8> {
     hex.split_whitespace().map(|byte| u8::from_str_radix(byte, 16).expect("two digits")).collect()

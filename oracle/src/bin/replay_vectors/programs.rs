@@ -5,11 +5,7 @@ use oracle::asmap::{self, pack_le, DEFAULT, JUMP, LONE_RETURN_ASMAP, LOOPBACK_AS
 use oracle::codes::operand_row;
 use oracle::document::{Verdict, Walk};
 use oracle::records::{self, record};
-use oracle::{bytes, instruction, MAPS};
-
-/// Document 01's examples of what the check refuses.
-pub const EXAMPLES: [&str; 9] =
-    ["", "01", "01 fb 03 00", "fb", "07 00 00", "00 00 00 00", "fd 71 3a 00 00", "01 01", "63 00 00 00"];
+use oracle::{bytes, instruction, EXAMPLES, MAPS};
 
 /// One for each place where two of the check's tests could speak, and others that are short.
 const SHORT: [&str; 12] = [

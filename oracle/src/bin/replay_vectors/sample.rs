@@ -1,10 +1,9 @@
 //! Calls over maps made at random and damaged, and addresses around some ranges. The seed is fixed: the list is always the same.
 use crate::list::{List, Picking};
 use crate::peers;
-use crate::programs::EXAMPLES;
 use maps::{shapes, Random};
 use oracle::picks::By;
-use oracle::{bytes, records, MAPS};
+use oracle::{bytes, records, EXAMPLES, MAPS};
 use std::net::Ipv6Addr;
 
 const SEED: u64 = 20_261_115;
