@@ -80,6 +80,23 @@ pub fn list_bytes(map: &[u8]) -> (u8, usize) {
     (answer, bytes)
 }
 
+/// A call that compares two maps and writes bytes.
+type OfTwo = unsafe extern "C" fn(*const u8, usize, *const u8, usize, *mut u8, usize, *mut usize) -> u8;
+
+fn of_two(call: OfTwo, [old, new]: [&[u8]; 2], room: usize) -> (u8, usize, Vec<u8>) {
+    let (mut out, mut number) = (vec![BEFORE; room], BEFORE_SIZE);
+    let answer = unsafe { call(old.as_ptr(), old.len(), new.as_ptr(), new.len(), out.as_mut_ptr(), out.len(), &mut number) };
+    (answer, number, out)
+}
+
+pub fn compare(maps: [&[u8]; 2], room: usize) -> (u8, usize, Vec<u8>) {
+    of_two(sys::corbastrigo_compare, maps, room)
+}
+
+pub fn compare_bytes(maps: [&[u8]; 2], room: usize) -> (u8, usize, Vec<u8>) {
+    of_two(sys::corbastrigo_compare_bytes, maps, room)
+}
+
 pub fn prefix_group(candidate: &[u8]) -> (u8, u64) {
     let mut group = BEFORE64;
     let answer = unsafe { sys::corbastrigo_prefix_group(candidate.as_ptr(), candidate.len(), &mut group) };

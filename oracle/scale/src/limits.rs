@@ -1,12 +1,14 @@
 //! The limits: maps of 16,777,216 bytes and of one more through every call that takes one, records that pack to the limit and past it,
 //! 4,096 and 4,097 candidates and occupied groups.
 use crate::calls::{self, BEFORE, BEFORE32, BEFORE64, BEFORE_SIZE};
+use crate::changes::{Listed, Pair};
 use crate::programs::{known, walks, Known};
 use crate::tally::Tally;
 use crate::{codes, listing, picks, Form};
 use corbastrigo_sys as sys;
 use maps::{shapes, Random};
-use oracle::document::Verdict;
+use oracle::asmap::{RETURN, TWO_PREFIX_ASMAP};
+use oracle::document::{instruction_at, Verdict};
 use oracle::records::record;
 
 const LIMIT: usize = 16_777_216;
@@ -36,6 +38,7 @@ fn one_too_many(tally: &mut Tally, map: &[u8]) {
     tally.same("list", &HUGE, calls::list(map, 64), (1, BEFORE_SIZE, vec![BEFORE; 64]));
     tally.same("list", &HUGE, calls::list(map, 0), (1, BEFORE_SIZE, vec![]));
     tally.same("bytes of a list", &HUGE, calls::list_bytes(map), (1, BEFORE_SIZE));
+    two_with_one_too_many(tally, map);
     let mut candidate = [0; 20];
     candidate[0] = 6;
     let (checked, unchecked) = (sys::corbastrigo_netgroup, sys::corbastrigo_netgroup_unchecked);
@@ -45,6 +48,47 @@ fn one_too_many(tally: &mut Tally, map: &[u8]) {
     tally.same("group", &HUGE, calls::netgroup(checked, &candidate[1..], 1, map), (13, BEFORE64));
     picks::all_ways(tally, &candidate, &[], 1, map, [1, 1]);
     picks::all_ways(tally, &candidate, &[], 1, map, [1, 0]);
+}
+
+/// The same map as the old one, as the new one and as both, and beside a map that is refused.
+fn two_with_one_too_many(tally: &mut Tally, map: &[u8]) {
+    let (sane, jump) = (&[0; 3][..], &[1][..]);
+    for (maps, reason) in [([map, sane], 1), ([sane, map], 101), ([map, map], 1), ([map, jump], 1), ([jump, map], 2)] {
+        for room in [0, 16, 64] {
+            let refused = (reason, BEFORE_SIZE, vec![BEFORE; room]);
+            tally.same("compare", &HUGE, calls::compare(maps, room), refused.clone());
+            tally.same("bytes of a comparison", &HUGE, calls::compare_bytes(maps, room), refused);
+        }
+    }
+}
+
+/// The map with another number in some of its RETURNs: the last bit of a number's code is turned over.
+fn renumbered(map: &[u8], step: usize) -> Vec<u8> {
+    let (mut copy, mut at, mut returns) = (map.to_vec(), 0, 0);
+    // Fewer than 8 bits follow the last RETURN, and more any other instruction.
+    while at + 8 <= 8 * map.len() {
+        let (opcode, _) = instruction_at(&mut at, map);
+        returns += usize::from(opcode == RETURN);
+        if opcode == RETURN && returns % step == 0 {
+            copy[(at - 1) / 8] ^= 1 << ((at - 1) % 8);
+        }
+    }
+    copy
+}
+
+/// The greatest map beside itself with a few other numbers, and beside one that hardly says anything; in the long form in both orders.
+fn greatest_compared(tally: &mut Tally, random: &mut Random, whole: &Known, form: Form) {
+    let changed = renumbered(whole.map, 99_991);
+    let whole = Listed::new(whole);
+    for (other, step) in [(&changed[..], 1), (TWO_PREFIX_ASMAP, form.choose(997, 1))] {
+        let other = known(tally, other);
+        let other = Listed::new(&other);
+        for [old, new] in [[&whole, &other], [&other, &whole]].into_iter().take(form.choose(1, 2)) {
+            let pair = Pair::new(old, new);
+            let found = pair.compare(tally);
+            pair.walked(tally, random, &found, step);
+        }
+    }
 }
 
 /// The listing of the greatest map; in the long form the original walks to both ends of every prefix.
@@ -63,6 +107,7 @@ fn greatest(tally: &mut Tally, random: &mut Random, form: Form) {
     whole.unpack(tally);
     walks(tally, random, &whole, form.choose(2, 50));
     greatest_list(tally, random, &whole, form);
+    greatest_compared(tally, random, &whole, form);
     for at in (8 * LIMIT - 64..8 * LIMIT + 2).chain([usize::MAX]) {
         codes::read_at(tally, &map, at);
     }

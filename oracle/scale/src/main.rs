@@ -4,6 +4,7 @@
 //!
 //!     scale [--long] [--seed N]
 mod calls;
+mod changes;
 mod codes;
 mod filters;
 mod limits;
@@ -57,7 +58,7 @@ fn main() {
     println!("scale: seed {seed}");
     let mut tally = Tally::default();
     type Part = fn(&mut Tally, &mut Random, Form);
-    let parts: [(&str, Part); 9] = [
+    let parts: [(&str, Part); 10] = [
         ("codes", codes::run),
         ("short strings", programs::short_strings),
         ("random bytes", programs::random_bytes),
@@ -67,6 +68,7 @@ fn main() {
         ("filters", filters::run),
         ("safe crate", safe::run),
         ("limits", limits::run),
+        ("two maps", changes::run),
     ];
     for (number, (name, part)) in parts.into_iter().enumerate() {
         let (start, before) = (Instant::now(), tally.compared);

@@ -184,7 +184,7 @@ pub fn walks(tally: &mut Tally, random: &mut Random, known: &Known, count: usize
     }
 }
 
-fn tree(random: &mut Random) -> Vec<u8> {
+pub fn tree(random: &mut Random) -> Vec<u8> {
     match random.below(8) {
         0 => {
             let depth = random.below(129) as u32;
@@ -208,7 +208,7 @@ fn tree(random: &mut Random) -> Vec<u8> {
 }
 
 /// Copies with a bit flipped, cut at a byte, and with bytes behind: all of a small map's, some of a larger one's.
-fn damaged(map: &[u8], random: &mut Random) -> Vec<Vec<u8>> {
+pub fn damaged(map: &[u8], random: &mut Random) -> Vec<Vec<u8>> {
     let all = map.len() <= 48;
     let some = |n: usize, random: &mut Random| all || random.below(n as u64) < 48;
     let mut copies = Vec::new();
