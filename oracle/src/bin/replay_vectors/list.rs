@@ -2,6 +2,7 @@
 use crate::word;
 use maps::Random;
 use oracle::asmap::{self, consume_bit_le, AsMap, INVALID};
+use oracle::changes::{self, Change};
 use oracle::codes::{in_range, instruction, Row, ROWS};
 use oracle::document::{self, Refusal, Verdict, Walk};
 use oracle::filters::message;
@@ -12,7 +13,7 @@ use std::net::{IpAddr, Ipv4Addr, Ipv6Addr};
 use std::panic;
 
 /// The calls in the order in which the program counts them: letter and name.
-pub const CALLS: [(char, &str); 20] = [
+pub const CALLS: [(char, &str); 22] = [
     ('d', "code read"),
     ('e', "code written"),
     ('i', "instruction read"),
@@ -25,6 +26,8 @@ pub const CALLS: [(char, &str); 20] = [
     ('p', "pack"),
     ('l', "list"),
     ('q', "bytes of a list"),
+    ('v', "compare"),
+    ('y', "bytes of a comparison"),
     ('n', "group by prefix"),
     ('g', "group"),
     ('h', "group, map unchecked"),
@@ -167,19 +170,21 @@ impl List {
         walked
     }
 
-    /// A call that writes bytes to an output with so much room.
-    fn writes(&mut self, call: char, input: &[u8], made: Answer, room: usize) {
+    /// A call that writes bytes to an output with so much room. Hands back how many it wrote.
+    fn writes(&mut self, call: char, inputs: &[&[u8]], made: Answer, room: usize) -> Result<usize, Refusal> {
         let fits = made.and_then(|bytes| if bytes.len() > room { Err(14) } else { Ok(bytes) });
         let count = fits.as_ref().map(|bytes| (bytes.len() as u32).to_le_bytes().to_vec()).map_err(|&reason| reason);
-        self.add(call, &[input, &answered(&count), &output(&fits.unwrap_or_default(), room)]);
+        let written = fits.as_ref().map(Vec::len).map_err(|&reason| reason);
+        self.add(call, &[inputs, &[&answered(&count), &output(&fits.unwrap_or_default(), room)]].concat());
+        written
     }
 
     pub fn unpack(&mut self, map: &[u8], room: usize) {
-        self.writes('u', map, records::unpack(map), room);
+        let _ = self.writes('u', &[map], records::unpack(map), room);
     }
 
     pub fn pack(&mut self, records: &[u8], room: usize) {
-        self.writes('p', records, records::pack(records), room);
+        let _ = self.writes('p', &[records], records::pack(records), room);
     }
 
     /// A line for the bytes that a listing needs, and one for each output: `rooms` says how long they are where so many bytes are needed,
@@ -190,9 +195,34 @@ impl List {
         let needed = made.as_ref().map(|bytes| bytes.len().to_le_bytes().to_vec()).map_err(|&reason| reason);
         self.add('q', &[map, &answered(&needed)]);
         for room in rooms(made.as_ref().map_or(RECORD, Vec::len)) {
-            self.writes('l', map, made.clone(), room);
+            let _ = self.writes('l', &[map], made.clone(), room);
         }
         listed
+    }
+
+    /// A comparison into an output with so much room. Hands back how many bytes it wrote.
+    pub fn compare_into(&mut self, maps: [&[u8]; 2], room: usize) -> Result<usize, Refusal> {
+        let made = compared(maps).map(|changes| changes::records(&changes));
+        self.writes('v', &maps, made, room)
+    }
+
+    /// The bytes that a comparison needs, and the first address that differs, into an output with so much room.
+    pub fn compare_bytes(&mut self, maps: [&[u8]; 2], room: usize) -> Result<usize, Refusal> {
+        let told = compared(maps).and_then(|changes| if room < 16 { Err(14) } else { Ok(changes) });
+        let first = told.as_ref().map_or(vec![], |changes| changes::first_of(changes).to_vec());
+        let bytes = told.map(|changes| changes::RECORD * changes.len());
+        self.add('y', &[maps[0], maps[1], &answered(&bytes.map(|bytes| bytes.to_le_bytes().to_vec())), &output(&first, room)]);
+        bytes
+    }
+
+    /// Lines for the bytes that a comparison needs, and for each output: `rooms` says how long they are where so many bytes are needed,
+    /// or, of a map that is refused, a record's.
+    pub fn compare(&mut self, maps: [&[u8]; 2], rooms: fn(usize) -> Vec<usize>) -> Result<Vec<Change>, Refusal> {
+        let needed = self.compare_bytes(maps, 16).unwrap_or(changes::RECORD);
+        for room in rooms(needed) {
+            let _ = self.compare_into(maps, room);
+        }
+        compared(maps)
     }
 
     // ---- peers
@@ -291,6 +321,13 @@ fn listed(map: &[u8]) -> Result<Vec<Prefix>, Refusal> {
     let prefixes = listing::list(map)?;
     listing::hold(map, &prefixes, &mut Random(map.len() as u64));
     Ok(prefixes)
+}
+
+/// Of two maps that are accepted, what differs is held to the original's walk by both.
+fn compared(maps: [&[u8]; 2]) -> Result<Vec<Change>, Refusal> {
+    let changes = changes::compare(maps[0], maps[1])?;
+    changes::hold(maps, &changes, &mut Random(maps.map(<[u8]>::len).iter().sum::<usize>() as u64));
+    Ok(changes)
 }
 
 fn has_map(by: By) -> u8 {

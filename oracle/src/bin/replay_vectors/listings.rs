@@ -45,13 +45,7 @@ fn rows(tables: &mut Tables, name: &str, listed: &Result<Vec<Prefix>, Refusal>, 
         Ok(prefixes) => prefixes,
     };
     tables.row("list", format!("{name}: {} bytes", RECORD * prefixes.len()));
-    let whole = prefixes.len() <= most;
-    let (first, last) = if whole { (&prefixes[..], &[][..]) } else { (&prefixes[..3], &prefixes[prefixes.len() - 3..]) };
-    first.iter().for_each(|prefix| tables.row("list", said(prefix)));
-    if !whole {
-        tables.row("list", format!("  and {} more, then", prefixes.len() - 6));
-    }
-    last.iter().for_each(|prefix| tables.row("list", said(prefix)));
+    tables.ends("list", prefixes.iter().map(said).collect(), most);
 }
 
 /// Each shows something: it stands in the table, and in the list with every output.

@@ -1,6 +1,7 @@
 //! The answers that the program `replay_vectors` works through: with `--list` the list that it reads (crates/replay_vectors/stdin), with
 //! `--table NAME` a table of docs/tables, with `--tables` the names of those, and without a word what the program prints
-//! (crates/replay_vectors/stdout). The answers are the original's and, where it has no say, those of documents 01 and 02.
+//! (crates/replay_vectors/stdout). The answers are the original's and, where it has no say, those of documents 01 and 02 and what follows
+//! from them.
 //!
 //! # The list
 //!
@@ -31,6 +32,8 @@
 //!     p RECORDS ANSWER MAP               pack: bytes written (4)
 //!     l MAP ANSWER PREFIXES              list: bytes written (4)
 //!     q MAP ANSWER                       bytes of a list: how many (8)
+//!     v OLD NEW ANSWER CHANGES           two maps compared: bytes written (4)
+//!     y OLD NEW ANSWER FIRST             bytes of that: how many (8). FIRST holds the first address that differs
 //!     n CANDIDATE ANSWER                 group by prefix: group (8)
 //!     g HAS CANDIDATE MAP ANSWER         group (8). HAS is 1 with a map, and 0 without, where the map is not to be looked at
 //!     h HAS CANDIDATE MAP ANSWER         the same with a map that is not checked
@@ -48,6 +51,7 @@
 //! the letter in `kind_of`, the lengths of its words in `shape_of`, a name where the counts are printed.
 mod addresses;
 mod codes;
+mod comparisons;
 mod list;
 mod listings;
 mod peers;
@@ -72,6 +76,7 @@ fn main() {
     codes::cases(&mut list, &mut tables);
     programs::cases(&mut list, &mut tables);
     listings::cases(&mut list, &mut tables);
+    comparisons::cases(&mut list, &mut tables);
     peers::cases(&mut list, &mut tables);
     addresses::cases(&mut list, &mut tables);
     sample::cases(&mut list);

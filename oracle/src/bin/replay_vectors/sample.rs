@@ -1,6 +1,7 @@
 //! Calls over maps made at random and damaged, and addresses around some ranges. The seed is fixed: the list is always the same.
 use crate::list::{List, Picking};
 use crate::peers;
+use maps::rewrite::Program;
 use maps::{shapes, Random};
 use oracle::picks::By;
 use oracle::{bytes, records, EXAMPLES, MAPS};
@@ -78,6 +79,28 @@ fn programs(list: &mut List, random: &mut Random) {
     }
 }
 
+/// A map with one part of it in the place of another, which is a RETURN.
+fn with_a_return(random: &mut Random, map: &[u8]) -> Vec<u8> {
+    let mut program = records::program(map);
+    let mut number = random.below(program.count() as u64) as usize;
+    let (node, _) = program.at(&mut number, 128).expect("an instruction of the program");
+    *node = Program::Return(1 + random.below(9) as u32);
+    program.bytes()
+}
+
+fn comparisons(list: &mut List, random: &mut Random) {
+    list.heading("maps made at random, compared with others, in other words, with another part, and damaged");
+    for round in 0..36 {
+        let left = if round % 9 == 0 { 128 } else { 1 + random.below(24) as u32 };
+        let [old, other] = [0; 2].map(|_| shapes::random(random, 6, left));
+        let words = records::program(&old).late().spelt(random).halved(128, random).bytes();
+        let (changed, copy) = (with_a_return(random, &old), damaged(random, &old));
+        for maps in [[&old, &other], [&old, &words], [&words, &changed], [&old, &copy], [&copy, &other]] {
+            let _ = list.compare(maps.map(|map| &map[..]), |bytes| vec![bytes + 3]);
+        }
+    }
+}
+
 fn filters(list: &mut List, random: &mut Random) {
     list.heading("addresses around ranges");
     for start in
@@ -109,4 +132,5 @@ pub fn cases(list: &mut List) {
     }
     programs(list, random);
     filters(list, random);
+    comparisons(list, &mut Random(SEED + 1));
 }

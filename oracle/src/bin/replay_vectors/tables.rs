@@ -1,7 +1,7 @@
 //! The tables that teach something, as text: docs/tables/NAME.txt.
 
 /// Each with its first lines, which say what a row holds.
-const TABLES: [(&str, &str); 8] = [
+const TABLES: [(&str, &str); 9] = [
     (
         "codes",
         "The code of the first and the last value of each size of the four rows (document 01, Codes), and of values around each row.\n\
@@ -31,6 +31,15 @@ const TABLES: [(&str, &str); 8] = [
          A RETURN gives one record. Each bit of a MATCH gives one for the side that differs, with the default of that path, 0 until one\n\
          is met. Records rise by address, each begins where the one before it ends, and none are joined.\n\
          Map: the bytes that the listing needs, 24 a record, or its refusal; then each record's prefix and number.",
+    ),
+    (
+        "compare",
+        "What two maps say, compared for every address; list.txt says into which prefixes a map cuts the addresses, and check.txt how maps\n\
+         are written as text. Of two prefixes that overlap, one of each map, the longer lies in the other, and is the piece. A piece whose\n\
+         two numbers differ gives a record; records rise by address and are not joined. Where both maps are refused, the old one's number\n\
+         is told; the new one's is 100 more.\n\
+         Old map, new map: the bytes that the comparison needs, 28 a record, and the first address that differs, or its refusal; then each\n\
+         record's prefix, the old number and the new one. At the end outputs of each length.",
     ),
     (
         "groups",
@@ -64,6 +73,18 @@ impl Tables {
 
     pub fn row(&mut self, table: &'static str, text: String) {
         self.rows.push((table, text));
+    }
+
+    /// Rows of one thing; where there are more than `most`, three of each end.
+    pub fn ends(&mut self, table: &'static str, rows: Vec<String>, most: usize) {
+        let count = rows.len();
+        for (place, row) in rows.into_iter().enumerate() {
+            if count <= most || place < 3 || place + 3 >= count {
+                self.row(table, row);
+            } else if place == 3 {
+                self.row(table, format!("  and {} more, then", count - 6));
+            }
+        }
     }
 
     pub fn names() -> impl Iterator<Item = &'static str> {
