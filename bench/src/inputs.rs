@@ -1,25 +1,37 @@
 //! Maps, addresses and lists of candidates, the same in every run.
-use maps::{shapes, Random};
+use maps::{rewrite, shapes, Random};
 use std::collections::HashSet;
 use std::net::{IpAddr, Ipv4Addr, Ipv6Addr, SocketAddr};
 
 const SEED: u64 = 1;
 
+/// Of another seed: maps of the same shapes and about the same sizes that have nothing else in common.
+const OTHER: u64 = 101;
+
 pub fn real(bytes: usize) -> Vec<u8> {
     shapes::real(&mut Random(SEED), bytes)
 }
 
+pub fn other_real(bytes: usize) -> Vec<u8> {
+    shapes::real(&mut Random(OTHER), bytes)
+}
+
 /// Name and bytes: real shapes by size, then the worst shapes.
 pub fn maps() -> Vec<(String, Vec<u8>)> {
+    shaped(SEED, [&[0, 0, 0], crate::asmap::TWO_PREFIX_ASMAP])
+}
+
+/// The same by a seed; the two smallest are given.
+fn shaped(seed: u64, [lone, small]: [&[u8]; 2]) -> Vec<(String, Vec<u8>)> {
     let mut maps: Vec<(String, Vec<u8>)> = [1_000, 10_000, 100_000, 1_500_000, 16_000_000]
         .iter()
-        .map(|&bytes| real(bytes))
+        .map(|&bytes| shapes::real(&mut Random(seed), bytes))
         .map(|map| (format!("real, {} bytes", map.len()), map))
         .collect();
-    let random = &mut Random(SEED);
+    let random = &mut Random(seed);
     for (name, map) in [
-        ("one RETURN", vec![0, 0, 0]),
-        ("two prefixes", crate::asmap::TWO_PREFIX_ASMAP.to_vec()),
+        ("one RETURN", lone.to_vec()),
+        ("two prefixes", small.to_vec()),
         ("nothing but jumps, 6 deep", shapes::jumps(random, 6)),
         ("nothing but jumps, 18 deep", shapes::jumps(random, 18)),
         ("two-bit matches, 17 deep", shapes::two_bit_matches(random, 17)),
@@ -33,8 +45,44 @@ pub fn maps() -> Vec<(String, Vec<u8>)> {
 
 /// Two more for the listing, since real maps of 1.6 MB have about 850,000 prefixes: one of that size and one of about that many prefixes.
 pub fn listed() -> [(String, Vec<u8>); 2] {
-    let (joined, real) = (shapes::exactly(&mut Random(SEED), 1_600_000), real(2_800_000));
+    listed_by(SEED)
+}
+
+fn listed_by(seed: u64) -> [(String, Vec<u8>); 2] {
+    let (joined, real) = (shapes::exactly(&mut Random(seed), 1_600_000), shapes::real(&mut Random(seed), 2_800_000));
     [(format!("trees joined, {} bytes", joined.len()), joined), (format!("real, {} bytes", real.len()), real)]
+}
+
+/// A map with another number in one RETURN or DEFAULT of so many, and in one at least. It has as many bits, and all else is as it was.
+pub fn renumbered(map: &[u8], one_in: usize) -> Vec<u8> {
+    let mut records = corbastrigo::unpack(map).expect("the shapes are accepted");
+    let has_number = |record: &&mut [u8]| matches!(u32::from(record[0]), maps::RETURN | maps::DEFAULT);
+    let numbers = records.chunks_mut(16).filter(has_number).count();
+    let step = one_in.min(numbers);
+    for record in records.chunks_mut(16).filter(has_number).skip(step / 2).step_by(step) {
+        let number = u32::from_le_bytes(record[4..8].try_into().expect("4 bytes"));
+        record[4..8].copy_from_slice(&rewrite::renumbered(number).to_le_bytes());
+    }
+    corbastrigo::pack(&records).expect("records of a map")
+}
+
+/// A shape's name, a map of it, and the maps that it is compared with, each with its name.
+pub type Compared = (String, Vec<u8>, Vec<(&'static str, Vec<u8>)>);
+
+/// Where a map has so few numbers that one in a thousand is one, that stands once.
+pub fn compared() -> impl Iterator<Item = Compared> {
+    let maps = maps().into_iter().chain(listed());
+    let others = shaped(OTHER, [&[0, 0, 1], crate::asmap::LOOPBACK_ASMAP]).into_iter().chain(listed_by(OTHER));
+    maps.zip(others).map(|((name, map), (_, other))| {
+        let mut with = vec![
+            ("itself", map.clone()),
+            ("one number changed", renumbered(&map, usize::MAX)),
+            ("one in 1,000 numbers changed", renumbered(&map, 1_000)),
+            ("an unrelated one", other),
+        ];
+        with.dedup_by(|(_, next), (_, before)| next == before);
+        (name, map, with)
+    })
 }
 
 pub fn ipv4(random: &mut Random) -> Ipv4Addr {

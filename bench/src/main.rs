@@ -2,9 +2,9 @@
 //! in docs/BENCHMARKS.md.
 //!
 //!     bench                     every part
-//!     bench PART...             some of: check walk records list codes group pick filters growth
+//!     bench PART...             some of: check walk records list compare codes group pick filters growth
 //!     bench --count CALL BYTES  one call of ours alone, many times, for a tool that counts instructions: check, walk, unpack,
-//!                               pack or list
+//!                               pack, list or compare
 #[allow(dead_code)]
 #[path = "../../../shared/docs/src/crates/rbitcoin-net/src/asmap.rs"]
 mod asmap;
@@ -24,6 +24,7 @@ mod error {
     }
 }
 
+mod compare;
 mod inputs;
 mod measure;
 mod parts;
@@ -34,7 +35,7 @@ fn main() {
     if let ["--count", call, bytes] = words[..] {
         return parts::count(call, bytes.parse().expect("a number of bytes"));
     }
-    let all = ["check", "walk", "records", "list", "codes", "group", "pick", "filters", "growth"];
+    let all = ["check", "walk", "records", "list", "compare", "codes", "group", "pick", "filters", "growth"];
     let chosen = if words.is_empty() { &all[..] } else { &words };
     for part in chosen {
         match *part {
@@ -42,6 +43,7 @@ fn main() {
             "walk" => parts::walk(),
             "records" => parts::records(),
             "list" => parts::list(),
+            "compare" => compare::part(),
             "codes" => parts::codes(),
             "group" => parts::group(),
             "pick" => parts::pick(),

@@ -39,6 +39,23 @@ pub fn both(mut ours: impl FnMut(), mut original: impl FnMut()) -> Times {
     times
 }
 
+/// A call whose times are to be taken, so many of it at once.
+pub fn timed(mut call: impl FnMut()) -> impl FnMut(usize) -> f64 {
+    move |times| once(&mut call, times)
+}
+
+/// The times of any number of calls, one after the other in each repeat.
+pub fn in_turn(calls: &mut [&mut dyn FnMut(usize) -> f64]) -> Vec<Vec<f64>> {
+    let often: Vec<usize> = calls.iter_mut().map(|call| (SAMPLE_NS / call(1).max(1.0)).ceil() as usize).collect();
+    let mut times = vec![Vec::new(); calls.len()];
+    for _ in 0..REPEATS {
+        for (place, call) in calls.iter_mut().enumerate() {
+            times[place].push(call(often[place]));
+        }
+    }
+    times
+}
+
 pub fn best(times: &[f64]) -> f64 {
     times.iter().copied().fold(f64::INFINITY, f64::min)
 }
@@ -48,11 +65,16 @@ fn sorted(mut numbers: Vec<f64>) -> Vec<f64> {
     numbers
 }
 
+/// The one over the other: of the best times, then the median, the lowest and the highest of the repeats.
+pub fn ratios(one: &[f64], other: &[f64]) -> [f64; 4] {
+    let each = sorted(one.iter().zip(other).map(|(one, other)| one / other).collect());
+    [best(one) / best(other), each[each.len() / 2], each[0], each[each.len() - 1]]
+}
+
 impl Times {
-    /// Ours over the original's: of the best times, then the median, the lowest and the highest of the repeats.
+    /// Ours over the original's.
     pub fn ratios(&self) -> [f64; 4] {
-        let each = sorted(self.ours.iter().zip(&self.original).map(|(ours, original)| ours / original).collect());
-        [best(&self.ours) / best(&self.original), each[each.len() / 2], each[0], each[each.len() - 1]]
+        ratios(&self.ours, &self.original)
     }
 }
 

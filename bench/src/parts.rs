@@ -1,7 +1,7 @@
 //! The parts of the benchmark.
 use crate::asmap::{self, AsMap};
 use crate::measure::{alone, best, both, head, row};
-use crate::{inputs, netaddr, netgroup};
+use crate::{compare, inputs, netaddr, netgroup};
 use corbastrigo_sys as sys;
 use maps::Random;
 use std::collections::HashSet;
@@ -9,11 +9,11 @@ use std::hint::black_box;
 use std::net::{IpAddr, SocketAddr};
 
 /// A result that the compiler may not leave out.
-fn keep<T>(result: T) {
+pub fn keep<T>(result: T) {
     black_box(result);
 }
 
-fn ours_check(map: &[u8]) -> u32 {
+pub fn ours_check(map: &[u8]) -> u32 {
     let (mut count, mut depth) = (0, 0);
     unsafe { sys::corbastrigo_sanity_check(map.as_ptr(), map.len(), &mut count, &mut depth) };
     count
@@ -96,7 +96,7 @@ pub fn records() {
     }
 }
 
-fn ours_list_bytes(map: &[u8]) -> usize {
+pub fn ours_list_bytes(map: &[u8]) -> usize {
     let mut bytes = 0;
     let answer = unsafe { sys::corbastrigo_list_bytes(map.as_ptr(), map.len(), &mut bytes) };
     assert_eq!(answer, 0, "the shapes are accepted");
@@ -343,6 +343,7 @@ pub fn growth() {
         let time = best(&alone(|| keep(ours_list(black_box(&map), &mut out))));
         println!("| list | {count} records, {} bytes | {:.0} us | {:.2} ns a record |", map.len(), time / 1e3, time / count);
     }
+    compare::growth();
     for (count, taken) in [(512, 512), (1_024, 1_024), (2_048, 2_048), (4_096, 4_096)] {
         let ranked = inputs::candidates(count);
         // Groups that no candidate has, so that every one of them is compared.
@@ -375,6 +376,7 @@ pub fn count(call: &str, bytes: usize) {
             let mut prefixes = vec![1; ours_list_bytes(&map)];
             println!("list: {} records", ours_list(&map, &mut prefixes) / 24);
         }
+        "compare" => compare::count(&map, bytes),
         "walk" => {
             let addresses = inputs::addresses(0, 4_096);
             let counts: u32 = addresses.iter().map(|address| ours_walk(&map, address).1).sum();
