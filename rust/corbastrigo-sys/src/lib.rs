@@ -10,6 +10,12 @@
 #![deny(missing_docs)]
 #![deny(clippy::undocumented_unsafe_blocks)]
 
+/// The bytes of a record of `corbastrigo_compare`: 16 address bytes, the prefix length, three zeros, the old map's number and the new one's.
+pub const CHANGE_RECORD_BYTES: usize = 28;
+
+/// What a comparison adds to the check's reason where it refuses the new map: 101 to 110.
+pub const NEW_MAP: u8 = 100;
+
 /// A code read at a bit of a map.
 pub type Decode = unsafe extern "C" fn(*const u8, usize, usize, *mut u32, *mut usize) -> u8;
 
@@ -93,6 +99,26 @@ extern "C" {
     pub fn corbastrigo_list(map: *const u8, map_len: usize, out: *mut u8, out_len: usize, written: *mut usize) -> u8;
     /// How many bytes that list has.
     pub fn corbastrigo_list_bytes(map: *const u8, map_len: usize, bytes: *mut usize) -> u8;
+    /// Compares two accepted maps for every address: a record of 28 bytes for each piece whose number differs, with both numbers.
+    pub fn corbastrigo_compare(
+        old_map: *const u8,
+        old_len: usize,
+        new_map: *const u8,
+        new_len: usize,
+        out: *mut u8,
+        out_len: usize,
+        written: *mut usize,
+    ) -> u8;
+    /// How many bytes that comparison has, and the first address that differs, in 16 bytes.
+    pub fn corbastrigo_compare_bytes(
+        old_map: *const u8,
+        old_len: usize,
+        new_map: *const u8,
+        new_len: usize,
+        first: *mut u8,
+        first_len: usize,
+        bytes: *mut usize,
+    ) -> u8;
     /// The group of a candidate without a map.
     pub fn corbastrigo_prefix_group(candidate: *const u8, candidate_len: usize, group: *mut u64) -> u8;
     /// The group of a candidate; a map is checked first.
