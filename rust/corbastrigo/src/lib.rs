@@ -4,7 +4,7 @@
 //! The names that a node calls are those of rbitcoin: [`AsMap`], [`netgroup()`], [`select_diverse`], [`prefix_group`],
 //! [`clearnet_unroutable`], [`addrv2_skip_relay`]. Beside them stands what is new: [`sanity_check`] with its reason, count and depth,
 //! [`sanity_check_stop`] with the bit at which it stops, [`interpret`] with its kind of end and counts, [`list`] with every prefix that a
-//! map tells apart, [`unpack`], [`pack`] and the [`codes`].
+//! map tells apart, [`compare`] with every prefix that two maps send elsewhere, [`unpack`], [`pack`] and the [`codes`].
 //!
 //! Nothing here panics or allocates more than a fixed multiple of what it is given. Every call answers, or refuses with a [`Refusal`]
 //! and has written nothing.
@@ -30,6 +30,7 @@
 #![deny(missing_docs)]
 #![deny(clippy::undocumented_unsafe_blocks)]
 
+mod changes;
 pub mod codes;
 mod map;
 mod netaddr;
@@ -39,6 +40,7 @@ mod prefixes;
 mod records;
 mod refusal;
 
+pub use changes::{changes, compare, compare_bytes, compare_into, first_change, Change, CompareError, CHANGE_BYTES};
 pub use map::{interpret, ip16_for_lookup, sanity_check, sanity_check_stop, AsMap, Check, End, Stop, Walk};
 pub use netaddr::{addrv2_skip_relay, clearnet_unroutable};
 pub use netgroup::{netgroup, pick, prefix_group, select_diverse, Candidate, Pick};

@@ -197,6 +197,59 @@ fn every_prefix_is_listed() {
     assert_eq!((number(list(&TWO_PREFIXES[..34])), number(list_bytes(&TWO_PREFIXES[..34]))), (4, 4));
 }
 
+/// The map of two prefixes with a RETURN of 3 in the place of that of 2.
+fn two_and_three() -> Vec<u8> {
+    let mut map = TWO_PREFIXES;
+    // The number stands in the bits 258 to 272, the highest first, one less than it is.
+    map[33] |= 0x80;
+    map[34] &= !0x01;
+    map.to_vec()
+}
+
+#[test]
+fn two_maps_are_compared() {
+    let other = two_and_three();
+    let records = compare(&TWO_PREFIXES, &other).expect("both are accepted");
+    let change = Change { address: ip16_for_lookup(ip("2.0.0.0")), length: 103, old: 2, new: 3 };
+    assert_eq!(changes(&records).collect::<Vec<_>>(), [change]);
+    assert_eq!((records.len(), &records[..]), (CHANGE_BYTES, &change.record()[..]));
+    assert_eq!(compare_bytes(&TWO_PREFIXES, &other), Ok(28));
+    assert_eq!(first_change(&TWO_PREFIXES, &other), Ok(Some(change.address)));
+    let back = Change { old: 3, new: 2, ..change };
+    assert_eq!(changes(&compare(&other, &TWO_PREFIXES).expect("both are accepted")).collect::<Vec<_>>(), [back]);
+    assert_eq!((compare(&other, &other), compare_bytes(&other, &other)), (Ok(vec![]), Ok(0)));
+    assert_eq!(first_change(&other, &other), Ok(None));
+    // A lone RETURN of 1 differs from the first map wherever that says something else: in every prefix but one.
+    assert_eq!(changes(&compare(&TWO_PREFIXES, &[0, 0, 0]).expect("both are accepted")).count(), 103);
+    assert_eq!(changes(&records[1..]).count(), 0);
+    let mut out = [7; 30];
+    assert_eq!(compare_into(&TWO_PREFIXES, &other, &mut out[..27]), Err(CompareError::Other(Refusal::OutputTooShort)));
+    assert_eq!(out, [7; 30]);
+    assert_eq!(compare_into(&TWO_PREFIXES, &other, &mut out), Ok(28));
+    assert_eq!((&out[..28], &out[28..]), (&records[..], &[7; 2][..]));
+}
+
+#[test]
+fn a_map_that_is_refused_is_not_compared_and_it_is_said_which() {
+    let (cut, over) = (&TWO_PREFIXES[..34], vec![0; MAX_MAP_BYTES + 1]);
+    let mut out = [7; 4_000];
+    for (old, new, error, number, words) in [
+        (cut, &TWO_PREFIXES[..], CompareError::Old(Refusal::Cut), 4, "the old map is refused"),
+        (&TWO_PREFIXES, cut, CompareError::New(Refusal::Cut), 104, "the new map is refused"),
+        (cut, &[], CompareError::Old(Refusal::Cut), 4, "the old map is refused"),
+        (&over, cut, CompareError::Old(Refusal::MapTooLong), 1, "the old map is refused"),
+        (&TWO_PREFIXES, &[0x63, 0, 0, 0], CompareError::New(Refusal::ShortMatches), 110, "the new map is refused"),
+    ] {
+        assert_eq!((compare(old, new), compare_bytes(old, new)), (Err(error), Err(error)));
+        assert_eq!((first_change(old, new), compare_into(old, new, &mut out)), (Err(error), Err(error)));
+        assert_eq!((error.number(), error.to_string()), (number, words.to_string()));
+        assert_eq!(error.source().expect("a reason").to_string(), error.refusal().to_string());
+    }
+    let short = compare_into(&TWO_PREFIXES, &[0, 0, 0], &mut []).expect_err("no room");
+    assert_eq!((short.number(), short.to_string()), (14, String::from("the maps were not compared")));
+    assert_eq!(out, [7; 4_000]);
+}
+
 #[test]
 fn codes_are_read_and_written() {
     use codes::*;

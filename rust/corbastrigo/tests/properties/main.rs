@@ -4,6 +4,7 @@
 //! be seen to have left all of it.
 #[path = "../../../../oracle/scale/src/calls.rs"]
 mod calls;
+mod changes;
 mod check;
 mod codes;
 mod maps;

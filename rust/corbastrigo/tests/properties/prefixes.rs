@@ -9,7 +9,7 @@ use corbastrigo::{instructions, interpret, list, prefixes, unpack, Prefix, Refus
 use proptest::prelude::*;
 use proptest::test_runner::TestCaseResult;
 
-fn failed(refusal: Refusal) -> TestCaseError {
+pub fn failed(refusal: Refusal) -> TestCaseError {
     TestCaseError::fail(refusal.to_string())
 }
 
@@ -51,7 +51,7 @@ fn the_prefixes_are_those_of_the_tree() {
 }
 
 /// The first and the last address of a prefix.
-fn ends(prefix: Prefix) -> (u128, u128) {
+pub fn ends(prefix: Prefix) -> (u128, u128) {
     let first = u128::from_be_bytes(prefix.address);
     (first, first | u128::MAX.checked_shr(prefix.length.into()).unwrap_or(0))
 }
@@ -69,7 +69,7 @@ fn tile(listed: &[Prefix]) -> TestCaseResult {
 }
 
 /// A map with the bit at a place turned, where there is one.
-fn turned(mut map: Vec<u8>, place: Option<prop::sample::Index>) -> Vec<u8> {
+pub fn turned(mut map: Vec<u8>, place: Option<prop::sample::Index>) -> Vec<u8> {
     if let Some(place) = place.map(|place| place.index(map.len() * 8)) {
         map[place / 8] ^= 1 << (place % 8);
     }

@@ -91,6 +91,33 @@ pub fn programs() -> impl Strategy<Value = Program> {
 }
 
 impl Program {
+    pub fn jump(zero: Program, one: Program) -> Program {
+        Jump(Box::new(zero), Box::new(one))
+    }
+
+    pub fn default(number: u32, then: Program) -> Program {
+        Default(number, Box::new(then))
+    }
+
+    /// The same program with another number at one of its RETURNs and DEFAULTs.
+    pub fn renumbered(&self, place: prop::sample::Index, number: u32) -> Program {
+        let mut program = self.clone();
+        let mut numbers = program.numbers();
+        let place = place.index(numbers.len());
+        *numbers[place] = number;
+        program
+    }
+
+    /// The numbers of its RETURNs and DEFAULTs, in order.
+    fn numbers(&mut self) -> Vec<&mut u32> {
+        match self {
+            Return(number) => vec![number],
+            Jump(zero, one) => zero.numbers().into_iter().chain(one.numbers()).collect(),
+            Match(_, then) => then.numbers(),
+            Default(number, then) => std::iter::once(number).chain(then.numbers()).collect(),
+        }
+    }
+
     fn parts(&self) -> Vec<&Program> {
         match self {
             Return(_) => vec![],

@@ -1,0 +1,223 @@
+use crate::records::number_at;
+use crate::{Refusal, MAX_MAP_BYTES};
+use corbastrigo_sys as sys;
+use std::alloc::{alloc_zeroed, Layout};
+use std::error::Error;
+use std::fmt;
+
+/// The bytes of a change's record: 16 address bytes, the length, three zeros, the old number and the new one, each of four bytes
+/// little-endian.
+pub const CHANGE_BYTES: usize = sys::CHANGE_RECORD_BYTES;
+
+/// A prefix whose addresses two maps send to different numbers: all of them by the old map to one, by the new map to another.
+#[derive(Clone, Copy, Debug, PartialEq, Eq)]
+pub struct Change {
+    /// The first address in it, IPv4 in its mapped form. The bits past the length are 0.
+    pub address: [u8; 16],
+    /// How many bits all its addresses begin with alike, 0 to 128. Of an IPv4 prefix it is 96 more than one writes.
+    pub length: u8,
+    /// The number that the old map sends its addresses to. 0 is not "unmapped": their walks differ at a MATCH before any DEFAULT was met.
+    pub old: u32,
+    /// The number that the new map sends them to, which is another.
+    pub new: u32,
+}
+
+impl Change {
+    /// The record of a change, as [`compare`] writes it.
+    pub fn record(self) -> [u8; CHANGE_BYTES] {
+        let mut record = [0; CHANGE_BYTES];
+        record[..16].copy_from_slice(&self.address);
+        record[16] = self.length;
+        record[20..24].copy_from_slice(&self.old.to_le_bytes());
+        record[24..].copy_from_slice(&self.new.to_le_bytes());
+        record
+    }
+}
+
+/// The changes that records list, whole records only.
+pub fn changes(records: &[u8]) -> impl Iterator<Item = Change> + '_ {
+    records.chunks_exact(CHANGE_BYTES).map(|record| {
+        let mut address = [0; 16];
+        address.copy_from_slice(&record[..16]);
+        Change { address, length: record[16], old: number_at(record, 20), new: number_at(record, 24) }
+    })
+}
+
+/// Why two maps were not compared, and which of them it lies with. Nothing was written.
+///
+/// ```
+/// use corbastrigo::{compare, CompareError, Refusal};
+///
+/// let error = compare(&[0, 0, 0], &[0, 0]).unwrap_err();
+/// assert_eq!(error, CompareError::New(Refusal::Cut));
+/// assert_eq!((error.refusal().number(), error.number()), (4, 104));
+/// assert_eq!(error.to_string(), "the new map is refused");
+/// ```
+#[derive(Clone, Copy, Debug, PartialEq, Eq, Hash)]
+#[non_exhaustive]
+pub enum CompareError {
+    /// The check refuses the old map. The new one was not looked at.
+    Old(Refusal),
+    /// The check accepts the old map and refuses the new one.
+    New(Refusal),
+    /// Both maps are accepted, and the call is refused for something else: 14, an output that is too short or for which there is no memory.
+    Other(Refusal),
+}
+
+impl CompareError {
+    /// The reason, whichever map it lies with.
+    pub fn refusal(self) -> Refusal {
+        match self {
+            CompareError::Old(refusal) | CompareError::New(refusal) | CompareError::Other(refusal) => refusal,
+        }
+    }
+
+    /// The number that the library answers: the refusal's, and 100 more of the new map's.
+    pub fn number(self) -> u8 {
+        match self {
+            CompareError::New(refusal) => refusal.number().saturating_add(sys::NEW_MAP),
+            CompareError::Old(refusal) | CompareError::Other(refusal) => refusal.number(),
+        }
+    }
+
+    /// What a call answered, as a result: 0 is done.
+    fn check(answer: u8) -> Result<(), CompareError> {
+        let is_check = |number: u8| (1..=10).contains(&number);
+        let of_new = answer.checked_sub(sys::NEW_MAP).filter(|&number| is_check(number));
+        match (of_new.and_then(Refusal::from_number), Refusal::from_number(answer)) {
+            (Some(refusal), _) => Err(CompareError::New(refusal)),
+            (None, Some(refusal)) if is_check(answer) => Err(CompareError::Old(refusal)),
+            (None, Some(refusal)) => Err(CompareError::Other(refusal)),
+            (None, None) => Ok(()),
+        }
+    }
+}
+
+impl fmt::Display for CompareError {
+    fn fmt(&self, f: &mut fmt::Formatter<'_>) -> fmt::Result {
+        f.write_str(match self {
+            CompareError::Old(_) => "the old map is refused",
+            CompareError::New(_) => "the new map is refused",
+            CompareError::Other(_) => "the maps were not compared",
+        })
+    }
+}
+
+impl Error for CompareError {
+    fn source(&self) -> Option<&(dyn Error + 'static)> {
+        match self {
+            CompareError::Old(refusal) | CompareError::New(refusal) | CompareError::Other(refusal) => Some(refusal),
+        }
+    }
+}
+
+/// How many bytes a comparison has, and the first address that differs: zeros where none does.
+fn counted(old: &[u8], new: &[u8]) -> Result<(usize, [u8; 16]), CompareError> {
+    let (mut first, mut bytes) = ([0; 16], 0);
+    // SAFETY: the slices and the array give their own pointers and lengths; array and number are borrowed for the call and are nobody else's.
+    let answer = unsafe {
+        sys::corbastrigo_compare_bytes(
+            old.as_ptr(),
+            old.len(),
+            new.as_ptr(),
+            new.len(),
+            first.as_mut_ptr(),
+            first.len(),
+            &mut bytes,
+        )
+    };
+    CompareError::check(answer)?;
+    Ok((bytes, first))
+}
+
+/// How many bytes the comparison of two maps has. 0 says that every address is sent to the same number by both.
+pub fn compare_bytes(old: &[u8], new: &[u8]) -> Result<usize, CompareError> {
+    counted(old, new).map(|(bytes, _)| bytes)
+}
+
+/// The first address that two maps send to different numbers. `None` says that they send every address to the same number, whatever their
+/// bytes: it is the answer to whether a map can take the place of another, and nothing is written down for it.
+///
+/// ```
+/// use corbastrigo::{first_change, CompareError};
+///
+/// // A RETURN of 1; the same behind a JUMP, on either side; and a MATCH of one bit, 0, with a RETURN of 1 behind it.
+/// let (lone, both, half) = ([0, 0, 0], [0x01, 0, 0, 0, 0, 0], [0x03, 0, 0]);
+/// assert_eq!(first_change(&lone, &both)?, None);
+/// // Where the first bit is 1 the walk of the last differs before any DEFAULT was met, which is 0.
+/// assert_eq!(first_change(&lone, &half)?, Some([0x80, 0, 0, 0, 0, 0, 0, 0, 0, 0, 0, 0, 0, 0, 0, 0]));
+/// # Ok::<(), CompareError>(())
+/// ```
+pub fn first_change(old: &[u8], new: &[u8]) -> Result<Option<[u8; 16]>, CompareError> {
+    counted(old, new).map(|(bytes, first)| (bytes > 0).then_some(first))
+}
+
+/// Compares two accepted maps for every address, as records ([`compare`] says which). The bytes written, or the check's reason with the map
+/// that it refuses, or 14. Bytes past what is written remain.
+///
+/// With room for a record for every prefix of both maps (`list_bytes` of each, a record for 24 bytes of it) the maps are gone through once; with
+/// less they are gone through once more before that, to count.
+pub fn compare_into(old: &[u8], new: &[u8], out: &mut [u8]) -> Result<usize, CompareError> {
+    let mut written = 0;
+    // SAFETY: the slices give their own pointers and lengths; `out` is borrowed alone, and the number is nobody else's.
+    let answer = unsafe {
+        sys::corbastrigo_compare(old.as_ptr(), old.len(), new.as_ptr(), new.len(), out.as_mut_ptr(), out.len(), &mut written)
+    };
+    CompareError::check(answer)?;
+    Ok(written)
+}
+
+/// So many zeros, or nothing where there is no memory for them. The system makes a page of them when it is first written to, so that what a
+/// comparison does not use of a large output costs nothing; zeros written one by one would have every page made.
+fn zeros(length: usize) -> Option<Vec<u8>> {
+    let layout = Layout::array::<u8>(length).ok()?;
+    if length == 0 {
+        return Some(Vec::new());
+    }
+    // SAFETY: the layout has a byte at least.
+    let start = unsafe { alloc_zeroed(layout) };
+    if start.is_null() {
+        return None;
+    }
+    // SAFETY: the bytes were just got from the allocator that vectors use, so many as the vector is told, and all of them are 0.
+    Some(unsafe { Vec::from_raw_parts(start, length, length) })
+}
+
+/// The most bytes that the comparison of two maps can have, by their lengths alone: a record for each prefix of both, and a map of n bytes has
+/// at most 32n / 9. To ask how many there are takes a check of each map, a third more time where little has changed.
+fn most_bytes(old: &[u8], new: &[u8]) -> usize {
+    // What is longer is refused, whatever is lent to it.
+    let prefixes = |map: &[u8]| map.len().min(MAX_MAP_BYTES) * 32 / 9;
+    (prefixes(old) + prefixes(new)) * CHANGE_BYTES
+}
+
+/// Every prefix that two accepted maps send to different numbers, as records, or which of them the check refuses and why.
+///
+/// An address lies in a record just where the two maps send it to different numbers, and that record has both. No record says that they send
+/// every address to the same number, whatever their bytes. The pieces are those of the two lists ([`list`](crate::list())): where two prefixes
+/// overlap the longer is the piece. They rise by address and are not joined.
+///
+/// ```
+/// use corbastrigo::{changes, compare, Change, CompareError};
+///
+/// // A MATCH of one bit, 0, and a RETURN of 7; and the same with a RETURN of 8.
+/// let (seven, eight) = ([0x03, 0x00, 0x18], [0x03, 0x00, 0x38]);
+/// let records = compare(&seven, &eight)?;
+/// let change = Change { address: [0; 16], length: 1, old: 7, new: 8 };
+/// assert_eq!(changes(&records).collect::<Vec<_>>(), [change]);
+/// assert_eq!(records, change.record());
+/// assert_eq!(compare(&seven, &seven)?, []);
+/// # Ok::<(), CompareError>(())
+/// ```
+pub fn compare(old: &[u8], new: &[u8]) -> Result<Vec<u8>, CompareError> {
+    let no_memory = CompareError::Other(Refusal::OutputTooShort);
+    let mut out = match zeros(most_bytes(old, new)) {
+        Some(out) => out,
+        // There may be memory for what it is where there is none for the most that it can be.
+        None => zeros(compare_bytes(old, new)?).ok_or(no_memory)?,
+    };
+    let written = compare_into(old, new, &mut out)?;
+    out.truncate(written);
+    out.shrink_to_fit();
+    Ok(out)
+}
