@@ -30,12 +30,12 @@ pub fn write(
     // A map is always a file, one by the name of `-` too.
     let input = Path::new(".").join(wanted.map);
     if wanted.records {
-        let mut sink = Sink::binary(wanted.output, &input, out)?;
+        let mut sink = Sink::binary(wanted.output, &[&input], out)?;
         sink.bytes(&records)?;
         sink.finish()?;
         return Ok(Status::Done);
     }
-    let mut sink = Sink::text(wanted.output, &input, out)?;
+    let mut sink = Sink::text(wanted.output, &[&input], out)?;
     lines(&map, &records, &mut sink)?;
     sink.finish()?;
     Ok(Status::Done)

@@ -26,7 +26,7 @@ pub fn run(asked: &Pack, out: &mut Out) -> Outcome {
     let verdict = sanity_check(&map);
     let written = verdict.is_ok() || asked.unchecked;
     if written {
-        let mut sink = Sink::binary(asked.output.as_deref(), &asked.list, out)?;
+        let mut sink = Sink::binary(asked.output.as_deref(), &[&asked.list], out)?;
         sink.bytes(&map)?;
         sink.finish()?;
     }

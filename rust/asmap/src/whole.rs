@@ -1,4 +1,4 @@
-//! Output files: each is there whole or not at all, and none is written over its input.
+//! Output files: each is there whole or not at all, and none is written over an input.
 use crate::failure::Failure;
 use crate::files::shown;
 use crate::out::{bar, progress, Out};
@@ -19,14 +19,15 @@ fn input_told(input: &Path) -> io::Result<Metadata> {
     fs::metadata(input)
 }
 
-/// Whether an output that is there is the input, by whatever name: links and a redirected standard input are seen through.
-fn is_input(output: &Metadata, input: &Path) -> bool {
-    input_told(input).is_ok_and(|input| (input.dev(), input.ino()) == (output.dev(), output.ino()))
+/// Whether an output that is there is one of the inputs, by whatever name: links and a redirected standard input are seen through.
+fn is_input(output: &Metadata, inputs: &[&Path]) -> bool {
+    let is = |input: &&Path| input_told(input).is_ok_and(|input| (input.dev(), input.ino()) == (output.dev(), output.ino()));
+    inputs.iter().any(is)
 }
 
 /// The file that an output replaces, where there is one. A link stays, and what it leads to is replaced. A device would be lost if a file
 /// took its name, so only a file is replaced.
-fn replaced(path: &Path, input: &Path) -> Result<Option<(PathBuf, Metadata)>, Failure> {
+fn replaced(path: &Path, inputs: &[&Path]) -> Result<Option<(PathBuf, Metadata)>, Failure> {
     let said = |why: &str| Err(Failure::new(format!("{} {why}", shown(path))));
     let Ok(told) = fs::metadata(path) else {
         return Ok(None);
@@ -37,7 +38,7 @@ fn replaced(path: &Path, input: &Path) -> Result<Option<(PathBuf, Metadata)>, Fa
     if !told.is_file() {
         return said("is no regular file; leave the option out to write to standard output");
     }
-    if is_input(&told, input) {
+    if is_input(&told, inputs) {
         return said("is the input; give the output another name");
     }
     let path = fs::canonicalize(path).map_err(|error| failed(path, &error))?;
@@ -67,9 +68,9 @@ pub struct Whole {
 }
 
 impl Whole {
-    pub fn create(given: &Path, input: &Path) -> Result<Whole, Failure> {
+    pub fn create(given: &Path, inputs: &[&Path]) -> Result<Whole, Failure> {
         let said = |error: io::Error| failed(given, &error);
-        let old = replaced(given, input)?;
+        let old = replaced(given, inputs)?;
         let becomes = old.as_ref().map_or(given, |(path, _)| path);
         let new =
             beside(becomes).ok_or_else(|| Failure::new(format!("{} names no file; give one for the output", shown(given))))?;
@@ -115,19 +116,19 @@ pub enum Sink<'a> {
 }
 
 impl<'a> Sink<'a> {
-    pub fn text(output: Option<&Path>, input: &Path, out: &'a mut Out) -> Result<Sink<'a>, Failure> {
+    pub fn text(output: Option<&Path>, inputs: &[&Path], out: &'a mut Out) -> Result<Sink<'a>, Failure> {
         match output {
-            Some(path) => Ok(Sink::File(Whole::create(path, input)?)),
+            Some(path) => Ok(Sink::File(Whole::create(path, inputs)?)),
             None => Ok(Sink::Standard(out)),
         }
     }
 
     /// For bytes that would only garble a terminal.
-    pub fn binary(output: Option<&Path>, input: &Path, out: &'a mut Out) -> Result<Sink<'a>, Failure> {
+    pub fn binary(output: Option<&Path>, inputs: &[&Path], out: &'a mut Out) -> Result<Sink<'a>, Failure> {
         if output.is_none() && io::stdout().is_terminal() {
             return Err(Failure::new("these bytes are not for a terminal; name a file with -o, or lead them into another program"));
         }
-        Sink::text(output, input, out)
+        Sink::text(output, inputs, out)
     }
 
     pub fn bytes(&mut self, bytes: &[u8]) -> Result<(), Failure> {
