@@ -6,7 +6,7 @@ use crate::files::{self, MapFile};
 use crate::out::{progress, Out, Style};
 use crate::words::counted;
 use corbastrigo::{sanity_check, sanity_check_stop, AsMap, Check as Verdict, Refusal};
-use serde_json::json;
+use serde_json::{json, Value};
 use std::path::Path;
 
 /// Checks every map. One that cannot be read does not keep the others from being checked.
@@ -45,7 +45,7 @@ fn report(path: &Path, file: MapFile, out: &mut Out) -> Outcome {
 
 fn accepted(name: &str, file: MapFile, check: Verdict, out: &mut Out) -> Outcome {
     let map = AsMap::checked(file.bytes).map_err(|refusal| Failure::No(refusal.to_string()))?;
-    let digest: String = map.digest().iter().map(|byte| format!("{byte:02x}")).collect();
+    let digest = digest(&map);
     if out.is_json() {
         out.object(&json!({
             "map": name, "accepted": true, "bytes": map.len(), "digest": digest, "instructions": check.count, "depth": check.depth,
@@ -60,26 +60,39 @@ fn accepted(name: &str, file: MapFile, check: Verdict, out: &mut Out) -> Outcome
     Ok(Status::Done)
 }
 
+/// The digest of a map, in hexadecimal.
+pub fn digest(map: &AsMap) -> String {
+    map.digest().iter().map(|byte| format!("{byte:02x}")).collect()
+}
+
 /// Says why a map was refused, where, and what to do about it.
 fn refused(name: &str, file: &MapFile, refusal: Refusal, out: &mut Out) -> Outcome {
-    let (number, reason, place) = (refusal.number(), refusal.reason(), place(&file.bytes));
-    let (cause, advice) = (usual_cause(refusal, file), advice(refusal));
     if out.is_json() {
-        out.object(&json!({
-            "map": name, "accepted": false, "bytes": file.size, "digest": null, "instructions": null, "depth": null,
-            "refusal": number, "reason": reason, "place": place, "usual_cause": cause, "advice": advice,
-        }))?;
+        out.object(&refusal_object(name, file, refusal))?;
         return Ok(Status::No);
     }
-    let verdict = out.paint(Style::Bad, &format!("refused {number}"));
-    out.line(&format!("{name}: {verdict}: {reason}"))?;
-    out.line(&format!("  size     {}", counted(file.size, "byte", "bytes")))?;
-    if let Some(bit) = place {
-        out.line(&format!("  at       bit {bit}: byte {}, bit {}", bit / 8, bit % 8))?;
-    }
-    out.line(&format!("  usually  {cause}"))?;
-    out.line(&format!("  advice   {advice}"))?;
+    let verdict = out.paint(Style::Bad, &format!("refused {}", refusal.number()));
+    refusal_lines(name, file, refusal, &verdict).iter().try_for_each(|line| out.line(line))?;
     Ok(Status::No)
+}
+
+/// A refused map as an object.
+pub fn refusal_object(name: &str, file: &MapFile, refusal: Refusal) -> Value {
+    json!({
+        "map": name, "accepted": false, "bytes": file.size, "digest": null, "instructions": null, "depth": null,
+        "refusal": refusal.number(), "reason": refusal.reason(), "place": place(&file.bytes),
+        "usual_cause": usual_cause(refusal, file), "advice": advice(refusal),
+    })
+}
+
+/// A refused map as lines, the verdict being `refused` with its number, in whatever colour.
+pub fn refusal_lines(name: &str, file: &MapFile, refusal: Refusal, verdict: &str) -> Vec<String> {
+    let mut lines = vec![format!("{name}: {verdict}: {}", refusal.reason())];
+    lines.push(format!("  size     {}", counted(file.size, "byte", "bytes")));
+    lines.extend(place(&file.bytes).map(|bit| format!("  at       bit {bit}: byte {}, bit {}", bit / 8, bit % 8)));
+    lines.push(format!("  usually  {}", usual_cause(refusal, file)));
+    lines.push(format!("  advice   {}", advice(refusal)));
+    lines
 }
 
 /// The bit at which the check refuses a map: the first of the instruction that it refuses, or the map's end where it wants another. None
