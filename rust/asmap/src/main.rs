@@ -12,6 +12,7 @@ mod grouping;
 mod list;
 mod listing;
 mod man;
+mod network;
 mod out;
 mod pack;
 mod pick;
