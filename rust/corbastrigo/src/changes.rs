@@ -221,3 +221,15 @@ pub fn compare(old: &[u8], new: &[u8]) -> Result<Vec<u8>, CompareError> {
     out.shrink_to_fit();
     Ok(out)
 }
+
+#[cfg(test)]
+mod tests {
+    use super::*;
+
+    #[test]
+    fn zeros_are_zeros_or_none() {
+        assert_eq!(zeros(0), Some(vec![]));
+        assert_eq!(zeros(5), Some(vec![0; 5]));
+        assert_eq!((zeros(isize::MAX as usize), zeros(usize::MAX)), (None, None));
+    }
+}
