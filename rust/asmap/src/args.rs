@@ -14,11 +14,12 @@ Exit status:
   0  done
   1  the answer is no: a map or a record is refused, or what was compared differs
   2  misuse, or a file that cannot be read or written
+  3  of diff: a map is refused, so that nothing was compared
 
 Environment:
   NO_COLOR  set to anything, it keeps colour out; there is none but on a terminal";
 
-/// Bitcoin's address maps (asmap): check them, walk them, see why an address ends where it does
+/// Bitcoin's address maps (asmap): check them, walk them, compare them, see why an address ends where it does
 #[derive(Debug, Parser)]
 #[command(name = "asmap", version, after_help = AFTER, arg_required_else_help = true)]
 pub struct Arguments {
@@ -49,6 +50,20 @@ pub enum Command {
     /// AS0 is not "unmapped": the walk of such an address differed at a MATCH before any DEFAULT was met.
     #[command(after_help = "Examples:\n  asmap list node.asmap\n  asmap list --records -o node.prefixes node.asmap")]
     List(List),
+    /// Say what changes between two maps, for every address
+    ///
+    /// One prefix a line, rising by address, in the form of Bitcoin Core's asmap-tool: 1.2.0.0/16 AS2 # was AS1. They are the fewest
+    /// prefixes that hold every address whose number changes, and no other; those below ::ffff:0:0/96 stand as IPv4. Behind them, in
+    /// lines that begin with #, stands how many addresses that is, and which numbers gain and lose most of them.
+    ///
+    /// The exit status is 0 where no address changes, whatever the maps' bytes, 1 where one does, and 3 where a map is refused: then
+    /// nothing is compared.
+    ///
+    /// AS0 is not "unmapped": the walk of such an address differed at a MATCH before any DEFAULT was met.
+    #[command(
+        after_help = "Examples:\n  asmap diff before.asmap after.asmap\n  asmap diff --addresses peers.json before.asmap after.asmap\n  asmap diff --records -o changes before.asmap after.asmap"
+    )]
+    Diff(Diff),
     /// List a map's instructions
     ///
     /// One instruction a line, in the map's order: RETURN and DEFAULT with an AS number, MATCH with the address bits that it compares, JUMP
@@ -125,6 +140,23 @@ pub struct List {
     /// The file of a map
     pub map: PathBuf,
     /// Write records of 24 bytes instead of text
+    #[arg(long)]
+    pub records: bool,
+    /// Write to this file instead of standard output
+    #[arg(short, long, value_name = "FILE")]
+    pub output: Option<PathBuf>,
+}
+
+#[derive(Args, Debug)]
+pub struct Diff {
+    /// The file of the old map
+    pub old: PathBuf,
+    /// The file of the new map
+    pub new: PathBuf,
+    /// Say also what becomes of the addresses in this file: one a line, or what getnodeaddresses prints; `-` reads standard input
+    #[arg(long, value_name = "FILE")]
+    pub addresses: Option<PathBuf>,
+    /// Write the library's records of 28 bytes instead of text: the pieces as they are, not joined
     #[arg(long)]
     pub records: bool,
     /// Write to this file instead of standard output

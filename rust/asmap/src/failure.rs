@@ -8,6 +8,10 @@ pub enum Status {
     Done,
     /// The answer is no: refused, or it differs. Exit status 1.
     No,
+    /// Two maps differ. Exit status 1, also where nobody reads how.
+    Differs,
+    /// A map is refused, so that two were not compared. Exit status 3, also where nobody reads why.
+    Refused,
 }
 
 impl Status {

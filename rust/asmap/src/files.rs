@@ -102,6 +102,20 @@ impl Lines {
         !self.reader.buffer().contains(&b'\n')
     }
 
+    /// Whether the first byte that is no blank is this one, as far as the first part of the file tells.
+    pub fn starts_with(&mut self, byte: u8) -> Result<bool, Failure> {
+        let part = self.reader.fill_buf().map_err(|error| Failure::new(format!("{} cannot be read: {error}", self.name)))?;
+        Ok(part.trim_ascii_start().first() == Some(&byte))
+    }
+
+    /// All that is left. Nothing where it has more bytes than the limit, which is not read past.
+    pub fn rest(self, limit: usize) -> Result<Option<Vec<u8>>, Failure> {
+        let mut bytes = Vec::new();
+        let read = self.reader.take(limit as u64 + 1).read_to_end(&mut bytes);
+        read.map_err(|error| Failure::new(format!("{} cannot be read: {error}", self.name)))?;
+        Ok((bytes.len() <= limit).then_some(bytes))
+    }
+
     /// A failure of the last line, which is named.
     pub fn at_line(&self, failure: Failure) -> Failure {
         match failure {

@@ -3,12 +3,16 @@
 mod args;
 mod cause;
 mod check;
+mod compared;
+mod diff;
+mod difference;
 mod failure;
 mod files;
 mod filter;
 mod forms;
 mod group;
 mod grouping;
+mod joined;
 mod list;
 mod listing;
 mod man;
@@ -18,6 +22,8 @@ mod pack;
 mod pick;
 mod ranges;
 mod replay;
+mod sampled;
+mod tally;
 mod trace;
 mod unpack;
 mod walk;
@@ -37,6 +43,7 @@ fn run(command: Command, out: &mut Out) -> Outcome {
         Command::Walk(asked) => walk::run(&asked, out),
         Command::Trace(asked) => trace::run(&asked, out),
         Command::List(asked) => list::run(&asked, out),
+        Command::Diff(asked) => diff::run(&asked, out),
         Command::Unpack(asked) => unpack::run(&asked, out),
         Command::Pack(asked) => pack::run(&asked, out),
         Command::Group(asked) => group::run(&asked, out),
@@ -51,7 +58,8 @@ fn run(command: Command, out: &mut Out) -> Outcome {
 fn status(outcome: Outcome) -> u8 {
     match outcome {
         Ok(Status::Done) => 0,
-        Ok(Status::No) => 1,
+        Ok(Status::No | Status::Differs) => 1,
+        Ok(Status::Refused) => 3,
         // Whoever read our output has seen enough.
         Err(Failure::BrokenPipe) => 0,
         Err(Failure::No(message)) => {
@@ -65,10 +73,18 @@ fn status(outcome: Outcome) -> u8 {
     }
 }
 
+/// An outcome when everything has gone out. What two maps come to holds whether or not somebody reads all of it: a reader that goes away
+/// makes no two maps the same.
+fn finished(outcome: Outcome, out: &mut Out) -> Outcome {
+    match (out.finish(), outcome) {
+        (Err(Failure::BrokenPipe), Ok(status @ (Status::Differs | Status::Refused))) => Ok(status),
+        (finished, outcome) => finished.and(outcome),
+    }
+}
+
 fn main() -> ExitCode {
     let arguments = Arguments::parse();
     let mut out = Out::new(arguments.json);
     let outcome = run(arguments.command, &mut out);
-    let outcome = out.finish().and(outcome);
-    ExitCode::from(status(outcome))
+    ExitCode::from(status(finished(outcome, &mut out)))
 }

@@ -117,8 +117,8 @@ pub fn counted(count: u64, one: &str, many: &str) -> String {
 }
 
 /// A number with a comma before every three digits.
-pub fn grouped(number: u64) -> String {
-    let digits = number.to_string();
+pub fn grouped(number: impl Into<u128>) -> String {
+    let digits = number.into().to_string();
     let mut text = String::new();
     for (place, digit) in digits.chars().enumerate() {
         if place > 0 && (digits.len() - place) % 3 == 0 {
@@ -135,7 +135,7 @@ mod tests {
 
     #[test]
     fn digits_are_grouped_by_three() {
-        let found = [0, 12, 999, 1_000, 16_777_216, 10_737_418_240].map(grouped);
+        let found = [0u64, 12, 999, 1_000, 16_777_216, 10_737_418_240].map(grouped);
         assert_eq!(found, ["0", "12", "999", "1,000", "16,777,216", "10,737,418,240"]);
     }
 

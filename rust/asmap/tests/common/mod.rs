@@ -165,29 +165,34 @@ pub fn packed(instructions: &[(u32, u32)]) -> Vec<u8> {
     program.pack()
 }
 
-/// A tree of JUMPs, some below a DEFAULT or a MATCH, with a RETURN at each leaf.
-fn tree(depth: u32, draws: &mut Draws) -> Program {
+/// A tree of JUMPs, some below a DEFAULT or a MATCH, with a RETURN at each leaf, of so many numbers.
+fn tree(depth: u32, numbers: u32, draws: &mut Draws) -> Program {
     let mut program = Program::default();
     if depth == 0 {
-        program.push(0, 1 + draws.below(400_000));
+        program.push(0, 1 + draws.below(numbers));
         return program;
     }
     if draws.below(8) == 0 {
-        program.push(3, 1 + draws.below(400_000));
+        program.push(3, 1 + draws.below(numbers));
     }
     if draws.below(4) == 0 {
         program.push(2, 2 + draws.below(510));
     }
-    let zero = tree(depth - 1, draws);
+    let zero = tree(depth - 1, numbers, draws);
     program.push(1, zero.bits as u32);
     program.append(zero);
-    program.append(tree(depth - 1, draws));
+    program.append(tree(depth - 1, numbers, draws));
     program
 }
 
 /// A map of the shape that real ones have, of 2 to the depth leaves. The check accepts it.
 pub fn large_map(depth: u32, seed: u64) -> Vec<u8> {
-    let map = tree(depth, &mut Draws(seed)).pack();
+    drawn_map(depth, 400_000, seed)
+}
+
+/// The same with so many numbers: with few of them, neighbours often have the same.
+pub fn drawn_map(depth: u32, numbers: u32, seed: u64) -> Vec<u8> {
+    let map = tree(depth, numbers, &mut Draws(seed)).pack();
     corbastrigo::sanity_check(&map).expect("the map is accepted");
     map
 }
