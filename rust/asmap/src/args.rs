@@ -14,7 +14,7 @@ Exit status:
   0  done
   1  the answer is no: a map or a record is refused, or what was compared differs
   2  misuse, or a file that cannot be read or written
-  3  of diff: a map is refused, so that nothing was compared
+  3  of diff and undo-check: a map is refused, so that nothing was compared
 
 Environment:
   NO_COLOR  set to anything, it keeps colour out; there is none but on a terminal";
@@ -64,6 +64,14 @@ pub enum Command {
         after_help = "Examples:\n  asmap diff before.asmap after.asmap\n  asmap diff --addresses peers.json before.asmap after.asmap\n  asmap diff --records -o changes before.asmap after.asmap"
     )]
     Diff(Diff),
+    /// Say whether a map that was brought back can take the place of the old one
+    ///
+    /// The first line begins with SAFE or with DO NOT USE. It is safe where the bytes are the old map's, or where they are others and
+    /// every address has the same number. Else what changes stands below, as `asmap diff` has it.
+    ///
+    /// The exit status is 0 where it is safe, 1 where a number changes, and 3 where a map is refused.
+    #[command(name = "undo-check", after_help = "Example:\n  asmap undo-check before.asmap restored.asmap")]
+    UndoCheck(UndoCheck),
     /// List a map's instructions
     ///
     /// One instruction a line, in the map's order: RETURN and DEFAULT with an AS number, MATCH with the address bits that it compares, JUMP
@@ -162,6 +170,14 @@ pub struct Diff {
     /// Write to this file instead of standard output
     #[arg(short, long, value_name = "FILE")]
     pub output: Option<PathBuf>,
+}
+
+#[derive(Args, Debug)]
+pub struct UndoCheck {
+    /// The file of the map as it was before
+    pub old: PathBuf,
+    /// The file of the map that was brought back
+    pub restored: PathBuf,
 }
 
 #[derive(Args, Debug)]

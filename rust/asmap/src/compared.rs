@@ -79,6 +79,11 @@ pub struct Refused<'a> {
 }
 
 impl Refused<'_> {
+    /// The number and its words.
+    pub fn reason(&self) -> String {
+        format!("refused, {}: {}", self.refusal.number(), self.refusal.reason())
+    }
+
     /// What `asmap check` says of it, as lines.
     pub fn lines(&self) -> Vec<String> {
         refusal_lines(&self.side.name(), &self.side.file, self.refusal, &format!("refused {}", self.refusal.number()))

@@ -2,7 +2,7 @@
 //!
 //! Every line of text that is no prefix begins with `#`, so that a program which reads the prefixes can leave the rest out.
 use crate::compared::Pair;
-use crate::failure::Failure;
+use crate::failure::{Failure, Status};
 use crate::joined::joined;
 use crate::network::Network;
 use crate::sampled::{Moved as MovedAddress, Sampled};
@@ -21,10 +21,10 @@ const MOST: usize = 5;
 
 pub struct Difference {
     names: [String; 2],
-    same_bytes: bool,
+    pub same_bytes: bool,
     records: usize,
     changes: Vec<Change>,
-    tally: Tally,
+    pub tally: Tally,
     sampled: Option<Sampled>,
 }
 
@@ -35,6 +35,14 @@ impl Difference {
         let tally = Tally::of(&changes);
         let [old, new] = pair.bytes();
         Difference { names: pair.names(), same_bytes: old == new, records: records.len() / CHANGE_BYTES, changes, tally, sampled }
+    }
+
+    pub fn status(&self) -> Status {
+        if self.changes.is_empty() {
+            Status::Done
+        } else {
+            Status::Differs
+        }
     }
 
     /// All of it.

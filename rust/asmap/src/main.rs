@@ -25,6 +25,7 @@ mod replay;
 mod sampled;
 mod tally;
 mod trace;
+mod undo_check;
 mod unpack;
 mod walk;
 mod whole;
@@ -44,6 +45,7 @@ fn run(command: Command, out: &mut Out) -> Outcome {
         Command::Trace(asked) => trace::run(&asked, out),
         Command::List(asked) => list::run(&asked, out),
         Command::Diff(asked) => diff::run(&asked, out),
+        Command::UndoCheck(asked) => undo_check::run(&asked, out),
         Command::Unpack(asked) => unpack::run(&asked, out),
         Command::Pack(asked) => pack::run(&asked, out),
         Command::Group(asked) => group::run(&asked, out),

@@ -309,11 +309,18 @@ fn a_reader_that_goes_away_makes_no_maps_the_same_and_a_full_disk_is_an_error() 
         &["diff", "large.asmap", "larger.asmap"][..],
         &["diff", "--json", "large.asmap", "larger.asmap"],
         &["diff", "--records", "large.asmap", "larger.asmap"],
+        &["undo-check", "large.asmap", "larger.asmap"],
+        &["undo-check", "two.asmap", "three.asmap"],
     ] {
         let mut child = child(&folder, arguments, Stdio::piped());
         drop(child.stdout.take());
         let output = child.wait_with_output().expect("it ends");
         assert_eq!((status(&output), said(&output)), (1, ""), "{arguments:?}");
+    }
+    for (arguments, wanted) in [(["undo-check", "two.asmap", "cut.asmap"], 3), (["undo-check", "two.asmap", "two.asmap"], 0)] {
+        let mut child = child(&folder, &arguments, Stdio::piped());
+        drop(child.stdout.take());
+        assert_eq!(status(&child.wait_with_output().expect("it ends")), wanted, "{arguments:?}");
     }
     let full = fs::File::create("/dev/full").expect("Linux has it");
     let output = child(&folder, &["diff", "large.asmap", "larger.asmap"], full.into()).wait_with_output().expect("it ends");

@@ -39,7 +39,9 @@ fn the_manual_page_has_what_the_help_has() {
     let page = answer(&["man"]);
     assert_eq!(page.status.code(), Some(0));
     let page = text(&page.stdout).replace("\\-", "-");
-    for subcommand in ["check", "walk", "trace", "list", "diff", "unpack", "pack", "group", "pick", "filter", "completions"] {
+    for subcommand in
+        ["check", "walk", "trace", "list", "diff", "undo-check", "unpack", "pack", "group", "pick", "filter", "completions"]
+    {
         let help = answer(&[subcommand, "--help"]);
         let help = text(&help.stdout);
         assert!(page.contains(&format!(".SS \"asmap {subcommand} ")), "{subcommand} is missing");
