@@ -16,11 +16,20 @@ fn page(name: &str) -> String {
     fs::read_to_string(page_file(name)).expect("the page is there")
 }
 
-/// What the command lines of the page find: the maps of every test, and these files.
+/// What a node's getnodeaddresses prints, in short.
+const PEERS: &str = r#"[
+  { "time": 1763280000, "services": 3081, "address": "3.4.5.6", "port": 8333, "network": "ipv4" },
+  { "time": 1763280000, "services": 3081, "address": "2001:db8::1", "port": 8333, "network": "ipv6" },
+  { "time": 1763280000, "services": 1033, "address": "fc00::1", "port": 8333, "network": "cjdns" }
+]
+"#;
+
+/// What the command lines of the pages find: the maps of every test, and these files.
 fn folder() -> Folder {
     let folder = Folder::new();
     folder.write("defaults.asmap", packed(&[(3, 1), (1, 41), (3, 2), (2, 2), (0, 7), (2, 2), (0, 8)]));
     folder.write("addresses.txt", "1.2.3.4\n8.8.8.8\n");
+    folder.write("peers.json", PEERS);
     folder.write("candidates.txt", "1.2.3.4:8333\n1.2.9.9:8333\n3.4.0.1:8333\n8.8.8.8:8333   # a resolver\n[2001:db8::1]:8333\n");
     folder
 }
@@ -84,11 +93,14 @@ fn fields(object: &Value) -> Vec<&String> {
 }
 
 /// The sections of the page that name the fields, and a command line that prints them.
-const OBJECTS: [(&[&str], &[&str]); 9] = [
+const OBJECTS: [(&[&str], &[&str]); 12] = [
     (&["check"], &["check", "two.asmap", "cut.asmap"]),
     (&["walk"], &["walk", "two.asmap", "1.2.3.4"]),
     (&["walk", "trace"], &["trace", "two.asmap", "1.2.3.4"]),
     (&["list"], &["list", "two.asmap"]),
+    (&["diff"], &["diff", "--addresses", "peers.json", "two.asmap", "loopback.asmap"]),
+    (&["check", "diff"], &["diff", "two.asmap", "cut.asmap"]),
+    (&["diff", "undo-check"], &["undo-check", "two.asmap", "loopback.asmap"]),
     (&["unpack"], &["unpack", "two.asmap"]),
     (&["pack"], &["pack", "-o", "new.asmap", "list.txt"]),
     (&["group"], &["group", "1.2.3.4"]),
