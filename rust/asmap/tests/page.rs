@@ -24,12 +24,15 @@ const PEERS: &str = r#"[
 ]
 "#;
 
-/// What the command lines of the pages find: the maps of every test, and these files.
+/// What the command lines of the pages find: the maps of every test, the files of docs/story, and these.
 fn folder() -> Folder {
     let folder = Folder::new();
     folder.write("defaults.asmap", packed(&[(3, 1), (1, 41), (3, 2), (2, 2), (0, 7), (2, 2), (0, 8)]));
     folder.write("addresses.txt", "1.2.3.4\n8.8.8.8\n");
     folder.write("peers.json", PEERS);
+    for name in ["node.asmap", "tree.awk", "sample.awk"] {
+        folder.write(name, fs::read(page_file("story").join(name)).expect("docs/story has it"));
+    }
     folder.write("candidates.txt", "1.2.3.4:8333\n1.2.9.9:8333\n3.4.0.1:8333\n8.8.8.8:8333   # a resolver\n[2001:db8::1]:8333\n");
     folder
 }
