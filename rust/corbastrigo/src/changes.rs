@@ -80,14 +80,14 @@ impl CompareError {
         }
     }
 
-    /// What a call answered, as a result: 0 is done.
+    /// What a call answered, as a result: 0 is done. The output comes after both maps, and whatever else is no reason of the new map is one of
+    /// the old one, also a number that this version has no name for.
     fn check(answer: u8) -> Result<(), CompareError> {
-        let is_check = |number: u8| (1..=10).contains(&number);
-        let of_new = answer.checked_sub(sys::NEW_MAP).filter(|&number| is_check(number));
-        match (of_new.and_then(Refusal::from_number), Refusal::from_number(answer)) {
+        let of_new = answer.checked_sub(sys::NEW_MAP).and_then(Refusal::from_number);
+        match (of_new, Refusal::from_number(answer)) {
             (Some(refusal), _) => Err(CompareError::New(refusal)),
-            (None, Some(refusal)) if is_check(answer) => Err(CompareError::Old(refusal)),
-            (None, Some(refusal)) => Err(CompareError::Other(refusal)),
+            (None, Some(refusal @ Refusal::OutputTooShort)) => Err(CompareError::Other(refusal)),
+            (None, Some(refusal)) => Err(CompareError::Old(refusal)),
             (None, None) => Ok(()),
         }
     }
@@ -225,6 +225,20 @@ pub fn compare(old: &[u8], new: &[u8]) -> Result<Vec<u8>, CompareError> {
 #[cfg(test)]
 mod tests {
     use super::*;
+
+    #[test]
+    fn an_answer_says_which_map_it_lies_with() {
+        assert_eq!(CompareError::check(0), Ok(()));
+        for answer in 1..=u8::MAX {
+            let error = CompareError::check(answer).expect_err("refused");
+            assert_eq!(error.number(), answer);
+            match error {
+                CompareError::Old(refusal) => assert!(answer <= 100 && answer != 14 && refusal.number() == answer),
+                CompareError::New(refusal) => assert!(answer > 100 && refusal.number() == answer - 100),
+                CompareError::Other(refusal) => assert!(answer == 14 && refusal == Refusal::OutputTooShort),
+            }
+        }
+    }
 
     #[test]
     fn zeros_are_zeros_or_none() {
