@@ -102,7 +102,9 @@ fn colour_is_for_terminals_and_not_where_no_color_is_set() {
         return;
     }
     let folder = Folder::new();
-    for command in ["check two.asmap cut.asmap", "walk two.asmap 1.2.3.4", "trace two.asmap 1.2.3.4"] {
+    for command in
+        ["check two.asmap cut.asmap", "walk two.asmap 1.2.3.4", "trace two.asmap 1.2.3.4", "undo-check two.asmap cut.asmap"]
+    {
         assert!(on_a_terminal(&folder, command, None).contains("\x1b["), "{command}");
         assert!(on_a_terminal(&folder, command, Some("")).contains("\x1b["), "{command}: an empty NO_COLOR is none");
         assert!(!on_a_terminal(&folder, command, Some("1")).contains('\x1b'), "{command}: NO_COLOR");
