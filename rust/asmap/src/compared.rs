@@ -24,8 +24,9 @@ impl Side {
     }
 
     fn number(&self, address: IpAddr) -> Result<u32, Failure> {
+        // The comparison accepted the map, so nothing is left to refuse; if it were, that would not say that anything differs.
         let walk = interpret(&self.file.bytes, &ip16_for_lookup(address));
-        walk.map(|walk| walk.number).map_err(|refusal| files::refused(&self.path, refusal))
+        walk.map(|walk| walk.number).map_err(|refusal| Failure::new(format!("{} is not walked: {refusal}", self.name())))
     }
 }
 
