@@ -8,8 +8,8 @@ use std::collections::BTreeMap;
 use std::net::IpAddr;
 use std::path::Path;
 
-/// The most bytes of a list in JSON, which is read whole. What a node knows, some 80,000 addresses at most, takes a quarter of it.
-const MOST_JSON: usize = 64 << 20;
+/// The most bytes of a list in JSON, which is read whole. What a node knows, some 80,000 addresses at most, takes half of it.
+const MOST_JSON: usize = 32 << 20;
 
 /// An address that changes.
 #[derive(Clone, Copy)]

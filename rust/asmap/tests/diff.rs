@@ -239,24 +239,24 @@ fn records_are_the_library_s_and_every_form_goes_to_a_file() {
 #[test]
 fn addresses_are_taken_as_walk_takes_them_or_as_a_node_prints_them() {
     let folder = folder();
-    let asked = |input: &str| folder.output_of(&["diff", "--addresses", "-", "two.asmap", "three.asmap"], input);
+    let asked = |input: &[u8]| folder.output_of(&["diff", "--addresses", "-", "two.asmap", "three.asmap"], input);
     let last = |output: &Output| {
         text(&output.stdout).lines().filter(|line| line.starts_with("# standard")).map(String::from).collect::<String>()
     };
-    assert_eq!(last(&asked("")), "# standard input: of 0 addresses none changes");
-    assert_eq!(last(&asked("[]")), "# standard input: of 0 addresses none changes");
-    assert_eq!(last(&asked("  3.4.5.6\r\n\n8.8.8.8")), "# standard input: of 2 addresses 1 changes");
+    assert_eq!(last(&asked(b"")), "# standard input: of 0 addresses none changes");
+    assert_eq!(last(&asked(b"[]")), "# standard input: of 0 addresses none changes");
+    assert_eq!(last(&asked(b"  3.4.5.6\r\n\n8.8.8.8")), "# standard input: of 2 addresses 1 changes");
     // Compact, and with blanks in front; an address that stands there twice counts twice.
     let entry = r#"{"address":"2.0.0.1","network":"ipv4"}"#;
-    assert_eq!(last(&asked(&format!("\n [{entry},{entry}]"))), "# standard input: of 2 addresses 2 change");
+    assert_eq!(last(&asked(format!("\n [{entry},{entry}]").as_bytes())), "# standard input: of 2 addresses 2 change");
     for (name, input) in [
-        ("line", "1.2.3.4\n1.2.3.4:8333\n"),
-        ("not_utf8", "1.2.3.4\n\u{fffd}\n"),
-        ("json", "[{\"address\": \"1.2.3.4\","),
-        ("object", "[1]"),
-        ("no_network", r#"[{"address":"1.2.3.4"}]"#),
-        ("no_address", r#"[{"address":"1.2.3.4","network":"ipv4"},{"address":"1.2.3","network":"ipv4"}]"#),
-        ("behind", "[] []"),
+        ("line", &b"1.2.3.4\n1.2.3.4:8333\n"[..]),
+        ("not_utf8", b"1.2.3.4\n1.2.\xff.4\n"),
+        ("json", b"[{\"address\": \"1.2.3.4\","),
+        ("object", b"[1]"),
+        ("no_network", br#"[{"address":"1.2.3.4"}]"#),
+        ("no_address", br#"[{"address":"1.2.3.4","network":"ipv4"},{"address":"1.2.3","network":"ipv4"}]"#),
+        ("behind", b"[] []"),
     ] {
         stored(&format!("diff_wrong_addresses_{name}"), &asked(input));
     }
