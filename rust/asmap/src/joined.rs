@@ -47,9 +47,10 @@ mod tests {
         assert_eq!(all(&[]), []);
         assert_eq!(all(&[short(0, 1, 1, 2), short(0x80, 1, 1, 2)]), [short(0, 0, 1, 2)]);
         for apart in [
-            // Neighbours that are no halves of one prefix, another pair, the pair exchanged, another length, a gap.
+            // Neighbours that are no halves of one prefix, another new number, another old one, both exchanged, another length, a gap.
             [short(0x40, 2, 1, 2), short(0x80, 2, 1, 2)],
             [short(0, 1, 1, 2), short(0x80, 1, 1, 3)],
+            [short(0, 1, 1, 2), short(0x80, 1, 3, 2)],
             [short(0, 1, 1, 2), short(0x80, 1, 2, 1)],
             [short(0, 1, 1, 2), short(0x80, 2, 1, 2)],
             [short(0, 2, 1, 2), short(0x80, 2, 1, 2)],
