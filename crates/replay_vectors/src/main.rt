@@ -1,8 +1,8 @@
 // Reads a list of answers from standard input, makes each call again with the crates here and compares. It prints for each kind of
 // call how many answers there were and how many differ, and how many lines there were; before that it names each line whose answer
 // differs, that has a wrong count of words, or that could not be read. The list is the file stdin beside src/: answers of the
-// original and, where it has no say, of documents 01 and 02. The program of the same name in oracle/ writes it and says what its lines
-// hold.
+// original and, where it has no say, of documents 01 and 02 and what follows from them. The program of the same name in oracle/ writes
+// it and says what its lines hold.
 ghost use mathlib.Core.Path.{_≡_};
 ghost use Prim.Native.Nat.{_<_};
 ghost use lib.ListN.{length};
@@ -22,6 +22,7 @@ use crate::maps::check_stop;
 use crate::maps::list_bytes;
 use crate::maps::walk;
 use crate::maps::written;
+use crate::maps::written_of_two;
 use libc::STDIN_FILENO;
 use libc::STDOUT_FILENO;
 use replay_lines::outcome::Seen;
@@ -52,7 +53,7 @@ fn word_room() -> [u8; 262144]
 
 // ---- a line
 
-// The kinds of call by their letters, and 20 for any other letter. They are counted and printed in this order.
+// The kinds of call by their letters, and 22 for any other letter. They are counted and printed in this order.
 fn kind_of(letter: u8) -> usize {
     match letter {
         b'd' => 0,
@@ -67,15 +68,17 @@ fn kind_of(letter: u8) -> usize {
         b'p' => 9,
         b'l' => 10,
         b'q' => 11,
-        b'n' => 12,
-        b'g' => 13,
-        b'h' => 14,
-        b's' => 15,
-        b't' => 16,
-        b'm' => 17,
-        b'f' => 18,
-        b'r' => 19,
-        _ => 20,
+        b'v' => 12,
+        b'y' => 13,
+        b'n' => 14,
+        b'g' => 15,
+        b'h' => 16,
+        b's' => 17,
+        b't' => 18,
+        b'm' => 19,
+        b'f' => 20,
+        b'r' => 21,
+        _ => 22,
     }
 }
 
@@ -89,9 +92,10 @@ fn shape_of(kind: usize) -> [u8; 9]
         2 => [9, 8, 9, 0, 0, 0, 0, 0, 0],
         3 => [4, 4, 9, 0, 0, 0, 0, 0, 0],
         7 | 8 | 9 | 10 => [9, 9, 9, 0, 0, 0, 0, 0, 0],
-        13 | 14 => [1, 9, 9, 9, 0, 0, 0, 0, 0],
-        15 | 16 => [1, 9, 9, 8, 9, 9, 9, 9, 0],
-        19 => [1, 2, 9, 9, 0, 0, 0, 0, 0],
+        12 | 13 => [9, 9, 9, 9, 0, 0, 0, 0, 0],
+        15 | 16 => [1, 9, 9, 9, 0, 0, 0, 0, 0],
+        17 | 18 => [1, 9, 9, 8, 9, 9, 9, 9, 0],
+        21 => [1, 2, 9, 9, 0, 0, 0, 0, 0],
         _ => [9, 9, 0, 0, 0, 0, 0, 0, 0],
     }
 }
@@ -152,24 +156,25 @@ fn replay_map(kind: usize, bytes: &[u8], words: Words) -> Seen {
         6 => check_stop(bytes, words),
         7 => walk(bytes, words),
         11 => list_bytes(bytes, words),
+        12 | 13 => written_of_two(kind, bytes, words),
         _ => written(kind, bytes, words),
     }
 }
 
 fn replay_peers(kind: usize, bytes: &[u8], words: Words) -> Seen {
     match kind {
-        12 => prefix_group(bytes, words),
-        13 => group(bytes, words, true),
-        14 => group(bytes, words, false),
-        15 => pick(bytes, words, 0),
+        14 => prefix_group(bytes, words),
+        15 => group(bytes, words, true),
+        16 => group(bytes, words, false),
+        17 => pick(bytes, words, 0),
         _ => pick(bytes, words, 2),
     }
 }
 
 fn replay_address(kind: usize, bytes: &[u8], words: Words) -> Seen {
     match kind {
-        17 => mapped(bytes, words),
-        18 => unroutable(bytes, words),
+        19 => mapped(bytes, words),
+        20 => unroutable(bytes, words),
         _ => relay_skip(bytes, words),
     }
 }
@@ -179,10 +184,10 @@ fn replay_words(kind: usize, bytes: &[u8], words: Words) -> Seen {
     if kind < 5 {
         return replay_code(kind, bytes, words);
     }
-    if kind < 12 {
+    if kind < 14 {
         return replay_map(kind, bytes, words);
     }
-    if kind < 17 {
+    if kind < 19 {
         return replay_peers(kind, bytes, words);
     }
     replay_address(kind, bytes, words)
@@ -200,7 +205,7 @@ fn letter_of(line: &[u8]) -> u8 {
 }
 
 fn replay_line(kind: usize, line: &[u8], bytes: &mut [u8]) -> Seen {
-    if 19 < kind {
+    if 21 < kind {
         return Seen::Unread;
     }
     let words = read_words(line, bytes);
@@ -216,19 +221,19 @@ fn replay_line(kind: usize, line: &[u8], bytes: &mut [u8]) -> Seen {
 
 // ---- the list
 
-// Every line is counted at one of 43 places: for each kind of call the answers that are ours and, 20 places on, those that differ; then
+// Every line is counted at one of 47 places: for each kind of call the answers that are ours and, 22 places on, those that differ; then
 // headings, lines with a wrong count of words, and lines that could not be read.
 fn place_of(kind: usize, seen: Seen) -> usize
-    ensures { λ r. ⌜ r < 43 ⌝ }
+    ensures { λ r. ⌜ r < 47 ⌝ }
 {
-    if 19 < kind {
-        return 42;
+    if 21 < kind {
+        return 46;
     }
     match seen {
         Seen::Same => kind,
-        Seen::Differs => 20 + kind,
-        Seen::Count => 41,
-        Seen::Unread => 42,
+        Seen::Differs => 22 + kind,
+        Seen::Count => 45,
+        Seen::Unread => 46,
     }
 }
 
@@ -241,18 +246,18 @@ fn is_heading(line: &[u8]) -> bool {
 }
 
 fn line_place(line: &[u8], bytes: &mut [u8]) -> usize
-    ensures { λ r. ⌜ r < 43 ⌝ }
+    ensures { λ r. ⌜ r < 47 ⌝ }
 {
     if is_heading(line) {
-        return 40;
+        return 44;
     }
     let kind = kind_of(letter_of(line));
     place_of(kind, replay_line(kind, line, bytes))
 }
 
 // One line more. The list is far too short for a count to wrap.
-fn add_one(counts: &mut [u64; 43], place: usize)
-    requires { ⌜ place < 43 ⌝ }
+fn add_one(counts: &mut [u64; 47], place: usize)
+    requires { ⌜ place < 47 ⌝ }
 {
     counts[place] = wrapping_add_u64(counts[place], 1);
 }
@@ -267,16 +272,16 @@ fn say_number(n: u64) {
 
 // Names a line that is neither a heading nor has our answer, by the place where it is counted.
 fn say_line(line: u64, place: usize) {
-    if place < 20 || place == 40 {
+    if place < 22 || place == 44 {
         return;
     }
     say(b"line ");
     say_number(line);
-    if place < 40 {
+    if place < 44 {
         say(b" differs\n");
         return;
     }
-    if place < 42 {
+    if place < 46 {
         say(b" has a wrong count of words\n");
         return;
     }
@@ -284,7 +289,7 @@ fn say_line(line: u64, place: usize) {
 }
 
 // Hands back how many lines there are.
-fn replay_list(list: &[u8], bytes: &mut [u8], counts: &mut [u64; 43]) -> u64 {
+fn replay_list(list: &[u8], bytes: &mut [u8], counts: &mut [u64; 47]) -> u64 {
     let mut lines: u64 = 0;
     let mut at: usize = 0;
     while at < list.len() {
@@ -298,10 +303,10 @@ fn replay_list(list: &[u8], bytes: &mut [u8], counts: &mut [u64; 43]) -> u64 {
     lines
 }
 
-fn say_kind(name: &[u8], counts: &[u64; 43], kind: usize)
-    requires { ⌜ kind < 20 ⌝ }
+fn say_kind(name: &[u8], counts: &[u64; 47], kind: usize)
+    requires { ⌜ kind < 22 ⌝ }
 {
-    let differ = counts[kind + 20];
+    let differ = counts[kind + 22];
     say(name);
     say_number(wrapping_add_u64(counts[kind], differ));
     say(b" answers, ");
@@ -309,7 +314,7 @@ fn say_kind(name: &[u8], counts: &[u64; 43], kind: usize)
     say(b" differ\n");
 }
 
-fn say_codes(counts: &[u64; 43]) {
+fn say_codes(counts: &[u64; 47]) {
     say_kind(b"code read: ", counts, 0);
     say_kind(b"code written: ", counts, 1);
     say_kind(b"instruction read: ", counts, 2);
@@ -317,7 +322,7 @@ fn say_codes(counts: &[u64; 43]) {
     say_kind(b"bit reader: ", counts, 4);
 }
 
-fn say_maps(counts: &[u64; 43]) {
+fn say_maps(counts: &[u64; 47]) {
     say_kind(b"check: ", counts, 5);
     say_kind(b"where a check stops: ", counts, 6);
     say_kind(b"walk: ", counts, 7);
@@ -325,30 +330,32 @@ fn say_maps(counts: &[u64; 43]) {
     say_kind(b"pack: ", counts, 9);
     say_kind(b"list: ", counts, 10);
     say_kind(b"bytes of a list: ", counts, 11);
+    say_kind(b"compare: ", counts, 12);
+    say_kind(b"bytes of a comparison: ", counts, 13);
 }
 
-fn say_peers(counts: &[u64; 43]) {
-    say_kind(b"group by prefix: ", counts, 12);
-    say_kind(b"group: ", counts, 13);
-    say_kind(b"group, map unchecked: ", counts, 14);
-    say_kind(b"pick: ", counts, 15);
-    say_kind(b"pick, map unchecked: ", counts, 16);
+fn say_peers(counts: &[u64; 47]) {
+    say_kind(b"group by prefix: ", counts, 14);
+    say_kind(b"group: ", counts, 15);
+    say_kind(b"group, map unchecked: ", counts, 16);
+    say_kind(b"pick: ", counts, 17);
+    say_kind(b"pick, map unchecked: ", counts, 18);
 }
 
-fn say_addresses(counts: &[u64; 43]) {
-    say_kind(b"IPv4-mapped address: ", counts, 17);
-    say_kind(b"unroutable: ", counts, 18);
-    say_kind(b"relay skip: ", counts, 19);
+fn say_addresses(counts: &[u64; 47]) {
+    say_kind(b"IPv4-mapped address: ", counts, 19);
+    say_kind(b"unroutable: ", counts, 20);
+    say_kind(b"relay skip: ", counts, 21);
 }
 
-fn say_lines(lines: u64, counts: &[u64; 43]) {
+fn say_lines(lines: u64, counts: &[u64; 47]) {
     say_number(lines);
     say(b" lines, ");
-    say_number(counts[40]);
+    say_number(counts[44]);
     say(b" of them headings, ");
-    say_number(counts[41]);
+    say_number(counts[45]);
     say(b" with a wrong count of words, ");
-    say_number(counts[42]);
+    say_number(counts[46]);
     say(b" not read\n");
 }
 
@@ -356,7 +363,7 @@ fn main() {
     let mut list = list_room();
     let mut bytes = word_room();
     let n = io::read_full(STDIN_FILENO, &mut list);
-    let mut counts = [0u64; 43];
+    let mut counts = [0u64; 47];
     let lines = replay_list(&list[..n], &mut bytes, &mut counts);
     say_codes(&counts);
     say_maps(&counts);

@@ -1,4 +1,4 @@
-// The check, the walk, unpack, pack and the listing.
+// The check, the walk, unpack, pack, the listing and two maps compared.
 use asmap_check::Stopped;
 use asmap_list::Needed;
 use asmap_program::Kind;
@@ -61,7 +61,7 @@ pub fn walk(bytes: &[u8], words: Words) -> Seen {
     }
 }
 
-// How many bytes unpack, pack or the listing wrote.
+// How many bytes unpack, pack, the listing or a comparison wrote.
 fn wrote(got: Answer) -> Out {
     match got {
         Answer::Refused(reason) => refused(reason),
@@ -94,11 +94,41 @@ pub fn written(kind: usize, bytes: &[u8], words: Words) -> Seen {
     compared_output(kind, bytes, words, &mut room[0..n])
 }
 
-pub fn list_bytes(bytes: &[u8], words: Words) -> Seen {
-    let needed = asmap_list::list_bytes(word(bytes, words, 0));
-    let answer = word(bytes, words, 1);
-    match needed {
-        Needed::Refused(reason) => compared(refused(reason), answer),
-        Needed::Bytes(n) => compared(done().number(n as u64, 8), answer),
+// How many bytes a listing or a comparison needs.
+fn needed(got: Needed) -> Out {
+    match got {
+        Needed::Refused(reason) => refused(reason),
+        Needed::Bytes(n) => done().number(n as u64, 8),
     }
+}
+
+pub fn list_bytes(bytes: &[u8], words: Words) -> Seen {
+    let got = asmap_list::list_bytes(word(bytes, words, 0));
+    compared(needed(got), word(bytes, words, 1))
+}
+
+// A comparison is kind 12, and its bytes with the first address 13.
+fn told_of_two(kind: usize, old: &[u8], new: &[u8], out: &mut [u8]) -> Out {
+    if kind == 12 {
+        let got = asmap_compare::compare(old, new, out);
+        return wrote(got);
+    }
+    let got = asmap_compare::compare_bytes(old, new, out);
+    needed(got)
+}
+
+fn compared_two(kind: usize, bytes: &[u8], words: Words, out: &mut [u8]) -> Seen {
+    let told = told_of_two(kind, word(bytes, words, 0), word(bytes, words, 1), out);
+    let seen = compared(told, word(bytes, words, 2));
+    and_left(seen, peer_lists::same_bytes(out, word(bytes, words, 3)))
+}
+
+// As `written`, for the calls over two maps, whose output is the fourth word.
+pub fn written_of_two(kind: usize, bytes: &[u8], words: Words) -> Seen {
+    let mut room = [238u8; 8192];
+    let n = word(bytes, words, 3).len();
+    if 8192 < n {
+        return Seen::Unread;
+    }
+    compared_two(kind, bytes, words, &mut room[0..n])
 }
