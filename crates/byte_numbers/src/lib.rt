@@ -87,24 +87,24 @@ pub fn half_at(bytes: &[u8], at: usize) -> u64
 // ---- numbers of eight bytes
 
 // A number put into the eight bytes from a place on, the lowest byte first.
-fn put_little(out: &mut [u8], at: usize, x: u64)
+fn put_little(out: &mut [u8], at: usize, n: u64)
     requires { ⌜ at + 8 ≤ length (now out) ⌝ }
-    ensures { λ r. ⌜ now (out .exit) ≡ sets (now (out .entry)) at (digits 8 x) ⌝ }
+    ensures { λ r. ⌜ now (out .exit) ≡ sets (now (out .entry)) at (digits 8 n) ⌝ }
 {
-    let x1 = x / 256;
-    let x2 = x1 / 256;
-    let x3 = x2 / 256;
-    let x4 = x3 / 256;
-    let x5 = x4 / 256;
-    let x6 = x5 / 256;
-    out[at] = (x % 256) as u8;
-    out[at + 1] = (x1 % 256) as u8;
-    out[at + 2] = (x2 % 256) as u8;
-    out[at + 3] = (x3 % 256) as u8;
-    out[at + 4] = (x4 % 256) as u8;
-    out[at + 5] = (x5 % 256) as u8;
-    out[at + 6] = (x6 % 256) as u8;
-    out[at + 7] = (x6 / 256 % 256) as u8;
+    let n1 = n / 256;
+    let n2 = n1 / 256;
+    let n3 = n2 / 256;
+    let n4 = n3 / 256;
+    let n5 = n4 / 256;
+    let n6 = n5 / 256;
+    out[at] = (n % 256) as u8;
+    out[at + 1] = (n1 % 256) as u8;
+    out[at + 2] = (n2 % 256) as u8;
+    out[at + 3] = (n3 % 256) as u8;
+    out[at + 4] = (n4 % 256) as u8;
+    out[at + 5] = (n5 % 256) as u8;
+    out[at + 6] = (n6 % 256) as u8;
+    out[at + 7] = (n6 / 256 % 256) as u8;
 }
 
 // A number with its bytes the other way round.
