@@ -98,7 +98,7 @@ finds-told x cs o o′ r e h = subst (λ (y : Comparison). Finds y o o′ r) (sy
 
 -- ---- the first address that differs
 
-first-length : (cs : List Change) → length (firstChanged cs) ≡ 16
+pub first-length : (cs : List Change) → length (firstChanged cs) ≡ 16
 first-length [] = refl
 first-length (c ∷ cs) = refl
 

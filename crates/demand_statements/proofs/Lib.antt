@@ -11,3 +11,4 @@ pub mod PickLaws
 pub mod PickAnswers
 pub mod FilterAnswers
 pub mod CoreAnswers
+pub mod CompareAnswers

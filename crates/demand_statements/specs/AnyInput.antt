@@ -117,6 +117,24 @@ pub record Needs (m : List ℕ) (r : ℕ) (entry exit : List ℕ) : Type 0 where
   pub refused : (n : ℕ) → checkOf m 128 ≡ Refused n → r ≡ n
   pub untouched : Untouched r entry exit
 
+-- Two maps compared, m the old one and n the new one: the old map's numbers, the new one's with 100 more, else 14.
+pub record Changes (m n o o′ : List ℕ) (r written written′ : ℕ) : Type 0 where
+  pub numbers : (r ≤ 10) ⊎ ((r ≡ 14) ⊎ ((101 ≤ r) × (r ≤ 110)))
+  pub old-refused : (k : ℕ) → checkOf m 128 ≡ Refused k → r ≡ k
+  pub new-refused : (c d k : ℕ) → checkOf m 128 ≡ Accepted c d → checkOf n 128 ≡ Refused k → r ≡ 100 + k
+  pub past : r ≡ 0 → drop written′ o′ ≡ drop written′ o
+  pub untouched : r ≢ 0 → (o′ ≡ o) × (written′ ≡ written)
+
+-- How many bytes that needs, with o lent for the first address that differs: the same numbers, and 14 exactly where fewer than 16 bytes are lent.
+pub record FindsFirst (m n o o′ : List ℕ) (r bytes bytes′ : ℕ) : Type 0 where
+  pub numbers : (r ≤ 10) ⊎ ((r ≡ 14) ⊎ ((101 ≤ r) × (r ≤ 110)))
+  pub old-refused : (k : ℕ) → checkOf m 128 ≡ Refused k → r ≡ k
+  pub new-refused : (c d k : ℕ) → checkOf m 128 ≡ Accepted c d → checkOf n 128 ≡ Refused k → r ≡ 100 + k
+  pub answered : (c d c′ d′ : ℕ) → checkOf m 128 ≡ Accepted c d → checkOf n 128 ≡ Accepted c′ d′ → 16 ≤ length o → r ≡ 0
+  pub no-room : (c d c′ d′ : ℕ) → checkOf m 128 ≡ Accepted c d → checkOf n 128 ≡ Accepted c′ d′ → length o < 16 → r ≡ 14
+  pub past : r ≡ 0 → drop 16 o′ ≡ drop 16 o
+  pub untouched : r ≢ 0 → (o′ ≡ o) × (bytes′ ≡ bytes)
+
 -- Pack: 16 for bytes that are no whole records, and no other numbers than these.
 pub record Packs (records o o′ : List ℕ) (r written written′ : ℕ) : Type 0 where
   pub numbers : (r ≡ 0) ⊎ ((r ≡ 1) ⊎ ((r ≡ 14) ⊎ ((r ≡ 15) ⊎ (r ≡ 16))))

@@ -6,7 +6,7 @@ ghost use Prim.Native.Nat.{_≤_};
 ghost use lib.ListN.{length};
 ghost use Rattle.asmap_codes.specs.Core.{fileOf};
 ghost use Rattle.demand_statements.specs.Same.{CoreReads};
-ghost use Rattle.demand_statements.specs.AnyInput.{Reads, Writes, WritesInstruction, Checks, Stops, Walks, Unpacks, Lists, Needs, Packs, Filters, Relays};
+ghost use Rattle.demand_statements.specs.AnyInput.{Reads, Writes, WritesInstruction, Checks, Stops, Walks, Unpacks, Lists, Needs, Changes, FindsFirst, Packs, Filters, Relays};
 use corbastrigo::codes::corbastrigo_decode_asn;
 use corbastrigo::codes::corbastrigo_decode_instruction;
 use corbastrigo::codes::corbastrigo_decode_jump;
@@ -19,6 +19,8 @@ use corbastrigo::codes::corbastrigo_encode_match;
 use corbastrigo::codes::corbastrigo_encode_type;
 use corbastrigo::filters::corbastrigo_addrv2_skip_relay;
 use corbastrigo::filters::corbastrigo_clearnet_unroutable;
+use corbastrigo::maps::corbastrigo_compare;
+use corbastrigo::maps::corbastrigo_compare_bytes;
 use corbastrigo::maps::corbastrigo_interpret;
 use corbastrigo::maps::corbastrigo_list;
 use corbastrigo::maps::corbastrigo_list_bytes;
@@ -111,7 +113,7 @@ pub fn instruction_written(opcode: u32, operand: u32, bits: &mut u64, len: &mut 
     corbastrigo_encode_instruction(opcode, operand, bits, len)
 }
 
-// ---- any bytes are checked, walked, unpacked, listed and packed
+// ---- any bytes are checked, walked, unpacked, listed, compared and packed
 
 // The check.
 pub fn checked(map: &[u8], count: &mut u32, depth: &mut u8) -> u8
@@ -177,6 +179,20 @@ pub fn list_needed(map: &[u8], bytes: &mut usize) -> u8
     ensures { λ r. ⌜ Needs (now (map .entry)) r (now (bytes .entry) ∷ []) (now (bytes .exit) ∷ []) ⌝ }
 {
     corbastrigo_list_bytes(map, bytes)
+}
+
+// Two maps compared.
+pub fn compared(old_map: &[u8], new_map: &[u8], out: &mut [u8], written: &mut usize) -> u8
+    ensures { λ r. ⌜ Changes (now («old_map» .entry)) (now («new_map» .entry)) (now (out .entry)) (now (out .exit)) r (now (written .entry)) (now (written .exit)) ⌝ }
+{
+    corbastrigo_compare(old_map, new_map, out, written)
+}
+
+// How many bytes that needs, and the first address that differs.
+pub fn compare_needed(old_map: &[u8], new_map: &[u8], first: &mut [u8], bytes: &mut usize) -> u8
+    ensures { λ r. ⌜ FindsFirst (now («old_map» .entry)) (now («new_map» .entry)) (now (first .entry)) (now (first .exit)) r (now (bytes .entry)) (now (bytes .exit)) ⌝ }
+{
+    corbastrigo_compare_bytes(old_map, new_map, first, bytes)
 }
 
 // Pack.
