@@ -1,6 +1,6 @@
 //! Two maps compared: the order of the refusals, what is left, that the changes are those of the two trees, and that they hold just the
 //! addresses whose walks differ.
-use crate::calls::{BEFORE, BEFORE_SIZE};
+use crate::calls::{self, BEFORE, BEFORE_SIZE};
 use crate::holds;
 use crate::order::any_maps;
 use crate::packed::left_the_rest;
@@ -8,29 +8,8 @@ use crate::prefixes::{ends, failed, turned};
 use crate::programs::{programs, Program};
 use corbastrigo::{changes, compare, compare_bytes, first_change, interpret, sanity_check};
 use corbastrigo::{Change, CompareError, Prefix, Refusal, CHANGE_BYTES};
-use corbastrigo_sys as sys;
 use proptest::prelude::*;
 use proptest::test_runner::TestCaseResult;
-
-/// What a comparison with so much room leaves behind.
-fn compared(old: &[u8], new: &[u8], room: usize) -> (u8, usize, Vec<u8>) {
-    let (mut out, mut written) = (vec![BEFORE; room], BEFORE_SIZE);
-    let answer = unsafe {
-        let (start, len) = (out.as_mut_ptr(), out.len());
-        sys::corbastrigo_compare(old.as_ptr(), old.len(), new.as_ptr(), new.len(), start, len, &mut written)
-    };
-    (answer, written, out)
-}
-
-/// What the count of a comparison leaves behind, with so much room for the first address.
-fn counted(old: &[u8], new: &[u8], room: usize) -> (u8, usize, Vec<u8>) {
-    let (mut first, mut bytes) = (vec![BEFORE; room], BEFORE_SIZE);
-    let answer = unsafe {
-        let (start, len) = (first.as_mut_ptr(), first.len());
-        sys::corbastrigo_compare_bytes(old.as_ptr(), old.len(), new.as_ptr(), new.len(), start, len, &mut bytes)
-    };
-    (answer, bytes, first)
-}
 
 /// The first fault of two maps, as a comparison answers it.
 fn fault(old: &[u8], new: &[u8]) -> u8 {
@@ -50,11 +29,11 @@ fn a_comparison_asks_for_the_old_map_then_for_the_new_then_for_room() {
         let needed = needed.unwrap_or(30);
         // From two bytes too few to two too many.
         let room = (needed + room).saturating_sub(2);
-        let left = compared(&old, &new, room);
+        let left = calls::compare([&old, &new], room);
         prop_assert_eq!(left.0, if fault == 0 && room < needed { 14 } else { fault });
         prop_assert!(left.0 != 0 || left.1 == needed);
         left_the_rest(&left)?;
-        let (answer, bytes, out) = counted(&old, &new, first);
+        let (answer, bytes, out) = calls::compare_bytes([&old, &new], first);
         prop_assert_eq!(answer, if fault == 0 && first < 16 { 14 } else { fault });
         prop_assert_eq!(bytes, if answer == 0 { needed } else { BEFORE_SIZE });
         let kept = if answer == 0 { &out[16..] } else { &out };
