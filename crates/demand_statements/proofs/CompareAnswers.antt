@@ -10,19 +10,27 @@ use lib.Dec.{ltb}
 use lib.ListN.{length, drop}
 use lib.Seq.{drop-append-seam}
 use borrow.Author.Tests.{lt-ltb, le-ltb}
+use Rattle.asmap_program.specs.declared.Verdict.{Verdict}
 use Rattle.asmap_program.specs.declared.Verdict.the-variants.{Accepted, Refused}
 use Rattle.asmap_check.specs.Check.{checkOf}
 use Rattle.asmap_records.specs.Output.{Result, Made, No, refuse, within, answerOf, leaves}
 use Rattle.prefix_changes.specs.Change.{Change}
 use Rattle.prefix_changes.specs.Record.{changeRecordsOf, firstChanged}
 use Rattle.asmap_compare.specs.Compare.{Comparison, Told, Refuses, changesOf, comparison, recordsMade, compareOf, firstMade, neededWith}
+use Rattle.asmap_compare.specs.Promise.{Compares}
+use Rattle.asmap_walk.specs.Interpret.{interpretOf}
+use Rattle.prefix_changes.proofs.RecordLaws.{length-changes}
 use Rattle.asmap_compare.proofs.CallLaws.{told, old-refused, new-refused, first-length}
 use Rattle.answers.specs.Outcome.{handed, IsDone, Hands}
-use Rattle.answers.specs.Maps.{bytesWritten, bytesNeeded, Writes, Finds}
+use Rattle.answers.specs.Maps.{walkMade, bytesWritten, bytesNeeded, Writes, Finds}
+use Rattle.answers.specs.Promise.{Demand3}
 use Rattle.answers.proofs.NeverZeroMaps.{map-numbers, compare-numbers, find-numbers}
 use Rattle.demand_statements.specs.AnyInput.{Changes, FindsFirst}
+use Rattle.demand_statements.specs.Agreed.{AgreedWalks}
 use Rattle.demand_statements.proofs.AnswerLaws.{kept, numbered, refused-as, done-as}
 use Rattle.demand_statements.proofs.TripLaws.{wrote, left-alone}
+use Rattle.demand_statements.proofs.WalkLaws.{sixteen-bytes}
+use Rattle.demand_statements.proofs.ListAnswers.{walk-number}
 
 -- a number that either check, or a room too short, gives
 abbrev OfTwo : ℕ → Type 0
@@ -90,3 +98,48 @@ found m n o o′ {r} {bytes} {bytes′} w = record {
   past = past-finds (comparison m n 128) o o′ w;
   untouched = λ z. (left-finds (comparison m n 128) o o′ w z, let e = kept _ (w .hands) z in cc);
 }
+
+-- ---- two maps compared, and an address walked through both
+
+-- a comparison that was not refused has accepted maps
+both-accepted : (m n : List ℕ) (cs : List Change) → comparison m n 128 ≡ Told cs
+    → (c : ℕ) × (d : ℕ) × (c′ : ℕ) × (d′ : ℕ) × (checkOf m 128 ≡ Accepted c d) × (checkOf n 128 ≡ Accepted c′ d′)
+unfolding comparison
+both-accepted m n cs e = go (checkOf m 128) refl (checkOf n 128) refl
+  where
+    go : (v : Verdict) → checkOf m 128 ≡ v → (u : Verdict) → checkOf n 128 ≡ u
+        → (c : ℕ) × (d : ℕ) × (c′ : ℕ) × (d′ : ℕ) × (checkOf m 128 ≡ Accepted c d) × (checkOf n 128 ≡ Accepted c′ d′)
+    go (Refused k) h u g = let x = rw h at e in let z : _≡_ {A = ℕ} 0 1 = cc in absurd (omega arith)
+    go (Accepted c d) h (Refused k) g = let x = rw (h, g) at e in let z : _≡_ {A = ℕ} 0 1 = cc in absurd (omega arith)
+    go (Accepted c d) h (Accepted c′ d′) g = (c, d, c′, d′, h, g)
+
+-- what was asked for and answered by 0 was told, and its length handed out
+told-length : (x : Comparison) (o o′ : List ℕ) {r bytes : ℕ} {lent : List ℕ} → Finds x o o′ r lent (bytes ∷ []) → r ≡ 0
+    → (cs : List Change) × (x ≡ Told cs) × (bytes ≡ length (changeRecordsOf cs))
+unfolding bytesNeeded IsDone handed refuse
+told-length (Told cs) o o′ {r} {bytes} {lent} w z = (cs, refl, go (ltb (length o) (length (firstChanged cs))) (w .hands))
+  where
+    go : (b : Bool) → Hands (bytesNeeded (neededWith (Told cs) (refuse b 14 (Made (firstChanged cs))))) r lent (bytes ∷ []) → bytes ≡ length (changeRecordsOf cs)
+    go true h = absurd (h .zero-is-done z)
+    go false h = let k = h .numbers in cc
+told-length (Refuses k) o o′ w z = absurd (w .hands .zero-is-done z)
+
+told-same : {a b : List Change} → Told a ≡ Told b → a ≡ b
+told-same e = cc
+
+none-told : (cs : List Change) → length (changeRecordsOf cs) ≡ 0 → cs ≡ []
+none-told [] e = refl
+none-told (c ∷ cs) e = absurd (omega (arith, e, length-changes (c ∷ cs)))
+
+pub agreed : (m n a o o′ : List ℕ) {q r r′ bytes kind x count bits kind′ x′ count′ bits′ : ℕ} {lent lent₁ lent₂ left₁ left₂ : List ℕ}
+    → Finds (comparison m n 128) o o′ q lent (bytes ∷ []) → Compares m n 128 → q ≡ 0
+    → Hands (walkMade (interpretOf m a)) r lent₁ left₁ → Demand3 m a r kind x count bits → r ≡ 0
+    → Hands (walkMade (interpretOf n a)) r′ lent₂ left₂ → Demand3 n a r′ kind′ x′ count′ bits′ → AgreedWalks r′ bytes x x′
+agreed m n a o o′ w compares z h d y h′ d′ y′ none =
+    let t = told-length (comparison m n 128) o o′ w z in
+    let v = both-accepted m n (t .0) (t .1) in
+    let same : t .0 ≡ changesOf m n 128 = told-same (sym (t .1) ∙ told m n 128 (v .0) (v .1) (v .2) (v .3) (v .4) (v .5)) in
+    let nothing = sym same ∙ none-told (t .0) (sym (t .2) ∙ none) in
+    walk-number m a (d (v .0) (v .1) (v .4) (sixteen-bytes m a h y))
+    ∙ compares (v .0) (v .1) (v .2) (v .3) (v .4) (v .5) .silent nothing a
+    ∙ sym (walk-number n a (d′ (v .2) (v .3) (v .5) (sixteen-bytes n a h′ y′)))

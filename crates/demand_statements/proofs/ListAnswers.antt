@@ -171,7 +171,7 @@ module _ (o : List ℕ) (ps : List Piece) (n : ℕ) (tiles : Tiles 128 0 (2 ^ 12
       }
 
 -- the number that the walk's call handed out is that of the defined walk
-walk-number : (m a : List ℕ) {r kind x count bits : ℕ} → Finished m a r kind x count bits → x ≡ walk (addressBit a) (mapOf m) 128 .number
+pub walk-number : (m a : List ℕ) {r kind x count bits : ℕ} → Finished m a r kind x count bits → x ≡ walk (addressBit a) (mapOf m) 128 .number
 unfolding walkOf
 walk-number m a f = let e = f .exact in cc
 

@@ -3,3 +3,4 @@ pub mod Walked
 pub mod Picked
 pub mod Same
 pub mod Listed
+pub mod Agreed

@@ -22,7 +22,10 @@
 //
 // Request 1, every prefix that a map tells apart: `lists`. The records written tile all addresses, and the one in which an address lies has the
 // number of its walk. The listing itself is not named: what is said is read off the bytes.
+//
+// Two maps compared: `comparisons`. Where a comparison needs no byte, the two walks by any address end with the same number.
 pub mod any_input;
+pub mod comparisons;
 pub mod lists;
 pub mod picks;
 pub mod same;
