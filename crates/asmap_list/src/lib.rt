@@ -14,6 +14,7 @@ ghost use Rattle.asmap_list.specs.Promise.{Covers};
 ghost use Rattle.asmap_list.specs.models.Listed.{Listed};
 use asmap_check::Counted;
 use asmap_list_step::Next;
+use asmap_list_step::Spot;
 use asmap_records::Answer;
 use prefix_records::Address;
 
@@ -42,7 +43,16 @@ fn put_listing(map: &[u8], count: usize, out: &mut [u8])
         prefix_records::put_record(out, 24 * k, a, length, number);
         a = prefix_records::behind(a, length);
         k += 1;
-        s = next;
+        // Field by field: a copy of the whole would wait for the narrow stores that made it.
+        s = Spot {
+            at: next.at,
+            used: next.used,
+            default: next.default,
+            value: next.value,
+            left: next.left,
+            depth: next.depth,
+            up: next.up,
+        };
     }
 }
 

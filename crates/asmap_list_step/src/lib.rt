@@ -20,11 +20,12 @@ use asmap_codes::Code;
 
 // Where a listing stands, in numbers only. at: the place of the next instruction. used: the address bits used. default: the default. value, left:
 // the operand of a MATCH, and how many of its bits are still to be taken. depth: the entries on the stack. up: the piece before ended what
-// it stood in, and the stack says what comes next.
+// it stood in, and the stack says what comes next. default and value stand apart: side by side they would be copied as one, which waits for the stores
+// of both.
 pub struct Spot {
     pub at: usize,
-    pub used: u8,
     pub default: u32,
+    pub used: u8,
     pub value: u32,
     pub left: u8,
     pub depth: usize,
