@@ -36,3 +36,9 @@ none-more a b n h = ltb-false a b (none-false (ltb a b) n h)
 pub none-listed : (bytes occupied : List ℕ) → listRefusal bytes occupied ≡ None → length bytes / 20 ≤ 4096
 none-listed bytes occupied h =
     none-more 4096 (length bytes / 20) 12 (none-first _ _ (none-later (refuseIf (not (eqb (length bytes % 20) 0)) 13) _ h))
+
+-- nor more occupied groups
+pub none-occupied : (bytes occupied : List ℕ) → listRefusal bytes occupied ≡ None → length occupied ≤ 4096
+none-occupied bytes occupied h =
+    let later = none-later (refuseIf (not (eqb (length bytes % 20) 0)) 13) _ h in
+    none-more 4096 (length occupied) 12 (none-first _ _ (none-later (refuseIf (ltb 4096 (length bytes / 20)) 12) _ later))

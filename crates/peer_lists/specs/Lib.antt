@@ -2,3 +2,4 @@ pub mod Candidate
 pub mod Candidates
 pub mod Groups
 pub mod Refusal
+pub mod Scan

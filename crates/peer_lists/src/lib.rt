@@ -8,6 +8,7 @@ ghost use Rattle.peer_lists.specs.Candidate.{same, valid};
 ghost use Rattle.peer_lists.specs.Candidates.{candidatesOf, allValid};
 ghost use Rattle.peer_lists.specs.Groups.{has};
 ghost use Rattle.peer_lists.specs.Refusal.{listRefusal};
+ghost use Rattle.peer_lists.specs.Scan.{inFront, scanOf, Unread};
 
 // Six zero bytes and ff ff as one number, the first lowest: the last eight of the twelve bytes in front of an IPv4 address in its
 // mapped form.
@@ -15,6 +16,14 @@ const MAPPED_WORD: u64 = 18446462598732840960;
 
 // The most candidates of a list, and the most occupied groups.
 pub const MAX_CANDIDATES: usize = 4096;
+
+// What the occupied scan came to: the first hit's place, from 0, and how many groups were read; no hit, and how many were read; or a
+// refusal, with its number.
+pub enum Scan {
+    Hit(usize, usize),
+    Missed(usize),
+    Refused(u8),
+}
 
 // Whether a call is refused, and with which number of document 01.
 pub enum Refusal {
@@ -107,66 +116,96 @@ pub fn all_candidates(candidates: &[u8]) -> bool
 
 // ---- a list of groups
 
-// Whether a group is one of two of a list, from a place on.
-fn in_two(groups: &[u64], i: usize, group: u64) -> bool
+// How many of two groups, from a place on, stand in front of the first that is a given one: both where neither is.
+fn front_of_two(groups: &[u64], i: usize, group: u64) -> usize
     requires { ⌜ i + 2 ≤ length (now groups) ⌝ }
-    ensures { λ r. ⌜ r ≡ has group (take 2 (drop i (now (groups .entry)))) ⌝ }
+    ensures { λ r. ⌜ r ≡ inFront group (take 2 (drop i (now (groups .entry)))) ⌝ }
 {
     if group == groups[i] {
-        return true;
+        return 0;
     }
-    group == groups[i + 1]
+    if group == groups[i + 1] {
+        return 1;
+    }
+    2
 }
 
-// Whether it is one of four.
-fn in_four(groups: &[u64], i: usize, group: u64) -> bool
+// How many of four.
+fn front_of_four(groups: &[u64], i: usize, group: u64) -> usize
     requires { ⌜ i + 4 ≤ length (now groups) ⌝ }
-    ensures { λ r. ⌜ r ≡ has group (take 4 (drop i (now (groups .entry)))) ⌝ }
+    ensures { λ r. ⌜ r ≡ inFront group (take 4 (drop i (now (groups .entry)))) ⌝ }
 {
-    if in_two(groups, i, group) {
-        return true;
+    let front = front_of_two(groups, i, group);
+    if front < 2 {
+        return front;
     }
-    in_two(groups, i + 2, group)
+    2 + front_of_two(groups, i + 2, group)
 }
 
-// Whether it is one of eight.
-fn in_eight(groups: &[u64], i: usize, group: u64) -> bool
+// How many of eight.
+fn front_of_eight(groups: &[u64], i: usize, group: u64) -> usize
     requires { ⌜ i + 8 ≤ length (now groups) ⌝ }
-    ensures { λ r. ⌜ r ≡ has group (take 8 (drop i (now (groups .entry)))) ⌝ }
+    ensures { λ r. ⌜ r ≡ inFront group (take 8 (drop i (now (groups .entry)))) ⌝ }
 {
-    if in_four(groups, i, group) {
-        return true;
+    let front = front_of_four(groups, i, group);
+    if front < 4 {
+        return front;
     }
-    in_four(groups, i + 4, group)
+    4 + front_of_four(groups, i + 4, group)
 }
 
-// Whether a group is in a list of groups from a place on, one by one.
-fn contains_from(groups: &[u64], from: usize, group: u64) -> bool
+// The place of the first that is a given one, from a place on, one by one: the end where none is.
+fn place_from(groups: &[u64], from: usize, group: u64) -> usize
     requires { ⌜ from ≤ length (now groups) ⌝ }
-    ensures { λ r. ⌜ r ≡ has group (drop from (now (groups .entry))) ⌝ }
+    ensures { λ r. ⌜ r ≡ from + inFront group (drop from (now (groups .entry))) ⌝ }
 {
     let mut i = from;
     while i < groups.len() {
         if group == groups[i] {
-            return true;
+            return i;
         }
         i += 1;
     }
-    false
+    i
 }
 
-// Whether a group is in a list of groups. Eight are compared in each turn: the loop itself costs as much as comparing two.
-pub fn contains(groups: &[u64], group: u64) -> bool
-    ensures { λ r. ⌜ r ≡ has group (now (groups .entry)) ⌝ }
+// The place of the first that is a given one: the end where none is. No group behind it is read. Eight are compared in each turn:
+// the loop itself costs as much as comparing two.
+fn place_of(groups: &[u64], group: u64) -> usize
+    ensures { λ r. ⌜ r ≡ inFront group (now (groups .entry)) ⌝ }
 {
     let mut i: usize = 0;
     while 8 <= groups.len() - i {
-        if in_eight(groups, i, group) {
-            return true;
+        let front = front_of_eight(groups, i, group);
+        if front < 8 {
+            return i + front;
         }
         i += 8;
     }
-    contains_from(groups, i, group)
+    place_from(groups, i, group)
+}
+
+// Whether a group is in a list of groups.
+pub fn contains(groups: &[u64], group: u64) -> bool
+    ensures { λ r. ⌜ r ≡ has group (now (groups .entry)) ⌝ }
+{
+    place_of(groups, group) < groups.len()
+}
+
+// The occupied scan: the first hit's place, from 0, or none, and how many groups were read: that place plus one, or all. Of a group
+// that stands there twice the first place counts. Refusal 12 for over 4,096 groups.
+pub fn scan_occupied(group: u64, occupied: &[u64]) -> Scan
+    ensures { λ r. ⌜ r ≡ scanOf group (now (occupied .entry)) ⌝ }
+    ensures unread { λ r. ⌜ Unread group (now (occupied .entry)) r ⌝ }
+{
+    if occupied.len() > MAX_CANDIDATES {
+        return Scan::Refused(12);
+    }
+    let place = place_of(occupied, group);
+    if place < occupied.len() {
+        return Scan::Hit(place, place + 1);
+    }
+    Scan::Missed(place)
 }
 
 // ---- why a list is refused
