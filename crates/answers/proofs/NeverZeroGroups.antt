@@ -1,7 +1,7 @@
--- Which numbers a group call or a pick refuses with; none of them is 0.
+-- Which numbers a group call, the occupied scan or a pick refuses with; none of them is 0.
 -- Assumes nothing.
-use Prim.Native.Nat.{ℕ, _/_, _%_, _≤_, _<_, min}
-use mathlib.Core.Bool.{Bool, true, false, not}
+use Prim.Native.Nat.{ℕ, _+_, _/_, _%_, _≤_, _<_, min}
+use mathlib.Core.Bool.{Bool, true, false, not, cond}
 use mathlib.Core.List.{List}
 use native.Mathlib.Omega.{arith}
 use lib.Dec.{eqb, ltb}
@@ -13,15 +13,18 @@ use Rattle.asmap_check.specs.Check.{checkOf}
 use Rattle.peer_lists.specs.declared.Refusal.{Refusal}
 use Rattle.peer_lists.specs.declared.Refusal.the-variants.{None, Number}
 use Rattle.peer_lists.specs.Candidate.{valid}
+use Rattle.peer_lists.specs.Groups.{has}
 use Rattle.peer_lists.specs.Candidates.{candidatesOf, allValid}
-use Rattle.peer_lists.specs.Refusal.{refuseIf, orElse, candidateRefusal, listRefusal}
+use Rattle.peer_lists.specs.Refusal.{refuseIf, orElse, candidateRefusal, tooMany, listRefusal}
+use Rattle.peer_lists.specs.declared.Scan.the-variants.{Hit, Missed}
+use Rattle.peer_lists.specs.Scan.{inFront, unless, scanned, scanOf}
 use Rattle.netgroup.specs.Group.{Numbering, byMap, byPrefixes}
 use Rattle.netgroup.specs.Refusal.{verdictRefusal, limitRefusal, checkRefusal}
 use Rattle.netgroup.specs.Netgroup.{groupUnless, groupCall, prefixGroupCall, netgroupOf, netgroupUnchecked}
 use Rattle.netgroup_pick.specs.PickRefusal.{roomRefusal, pickRefusal}
 use Rattle.netgroup_pick.specs.Pick.{pickUnless, pickCall, selectDiverse, selectUnchecked}
 use Rattle.answers.specs.Maps.{mapChecked}
-use Rattle.answers.specs.Groups.{groupFound, pickMade}
+use Rattle.answers.specs.Groups.{groupFound, scanMade, pickMade}
 use Rattle.answers.proofs.Handing.{Counted, Refuses, counted}
 use Rattle.answers.proofs.NeverZeroMaps.{map-numbers}
 
@@ -65,6 +68,21 @@ module _ (P : ℕ → Type 0) where
   pub group-numbers : (ofMap : Refusal) (n : Numbering) (c : List ℕ) → P 13 → From ofMap → Refuses P (groupFound (groupCall ofMap n c))
   group-numbers ofMap n c none h =
       unless-refused (orElse (candidateRefusal c) ofMap) n c (either (candidateRefusal c) ofMap (refusing (not (valid c)) 13 none) h)
+
+  -- ---- the occupied scan: 12
+
+  scanned-done : (g : ℕ) (gs : List ℕ) (b : Bool) → Refuses P (scanMade (cond b (Hit (inFront g gs) (inFront g gs + 1)) (Missed (length gs))))
+  unfolding Refuses scanMade
+  scanned-done g gs true = tt
+  scanned-done g gs false = tt
+
+  scan-unless : (why : Refusal) (g : ℕ) (gs : List ℕ) → From why → Refuses P (scanMade (unless why (scanned g gs)))
+  unfolding Refuses scanMade
+  scan-unless None g gs h = scanned-done g gs (has g gs)
+  scan-unless (Number k) g gs h = h
+
+  pub scan-numbers : (g : ℕ) (gs : List ℕ) → P 12 → Refuses P (scanMade (scanOf g gs))
+  scan-numbers g gs many = scan-unless (tooMany (length gs)) g gs (refusing (ltb 4096 (length gs)) 12 many)
 
   -- ---- pick
 
@@ -121,6 +139,9 @@ netgroup-found n c = group-found (checkRefusal n) n c (by-check-1 n)
 
 pub unchecked-found : (n : Numbering) (c : List ℕ) → Counted (groupFound (netgroupUnchecked n c))
 unchecked-found n c = group-found (limitRefusal n) n c (by-limit-1 n)
+
+pub scan-made : (g : ℕ) (gs : List ℕ) → Counted (scanMade (scanOf g gs))
+scan-made g gs = counted _ (scan-numbers (λ n. 0 < n) g gs (omega arith))
 
 module _ (bytes occupied : List ℕ) (max : ℕ) (picks groups : List ℕ) where
   pick-made : (ofMap : Refusal) (n : Numbering) → From1 ofMap → Counted (pickMade (pickCall ofMap n bytes occupied max picks groups .answer))

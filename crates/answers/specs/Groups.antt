@@ -1,8 +1,10 @@
--- The numbers that the group calls and the pick hand out (document 01, Groups and pick).
+-- The numbers that the group calls, the occupied scan and the pick hand out (document 01, Groups and pick; document 02, CR 2).
 -- Assumes nothing.
 use Prim.Native.Nat.{ℕ, zero, suc}
 use mathlib.Core.Path.{_≡_}
 use mathlib.Core.List.{List, _∷_, []}
+use Rattle.peer_lists.specs.declared.Scan.{Scan}
+use Rattle.peer_lists.specs.declared.Scan.the-variants as scan
 use Rattle.netgroup.specs.declared.Grouping.{Grouping}
 use Rattle.netgroup.specs.declared.Grouping.the-variants.{Prefixes, Map}
 use Rattle.netgroup.specs.declared.GroupAnswer.{GroupAnswer}
@@ -22,6 +24,12 @@ groupingOf (suc n) = Map
 unfoldable pub groupFound : GroupAnswer → Outcome
 groupFound (group.Group g) = Done (g ∷ [])
 groupFound (group.Refused n) = No n
+
+-- A scan: whether there is a hit, its place and how many groups were read. None is found 0 with place 0.
+unfoldable pub scanMade : Scan → Outcome
+scanMade (scan.Hit place read) = Done (1 ∷ place ∷ read ∷ [])
+scanMade (scan.Missed read) = Done (0 ∷ 0 ∷ read ∷ [])
+scanMade (scan.Refused n) = No n
 
 -- The totals of a pick: how many picks, how many of them by the first pass, the candidates examined, and the instructions.
 abbrev pub totalsOf : ℕ → ℕ → ℕ → ℕ → Totals

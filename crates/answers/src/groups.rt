@@ -1,11 +1,12 @@
-// What the group calls and the picks came to (document 01, Groups and pick), as numbers; and what a number says of a map or none.
+// What the group calls, the occupied scan and the picks came to (document 01, Groups and pick), as numbers; and what a number says of a map or none.
 ghost use mathlib.Core.Path.{_≡_};
 ghost use mathlib.Core.List.{_∷_, []};
 ghost use Rattle.answers.specs.Outcome.{handed};
-ghost use Rattle.answers.specs.Groups.{groupingOf, groupFound, pickMade};
+ghost use Rattle.answers.specs.Groups.{groupingOf, groupFound, scanMade, pickMade};
 use netgroup::GroupAnswer;
 use netgroup::Grouping;
 use netgroup_pick::PickAnswer;
+use peer_lists::Scan;
 
 // What numbers the groups.
 pub fn grouping_of(has_map: u8) -> Grouping
@@ -27,6 +28,27 @@ pub fn hand_group(got: GroupAnswer, group: &mut u64) -> u8
             0
         }
         GroupAnswer::Refused(reason) => reason,
+    }
+}
+
+// What the occupied scan came to. Where there is no hit, its place is 0 too.
+pub fn hand_scan(got: Scan, found: &mut u8, place: &mut usize, groups_read: &mut usize) -> u8
+    ensures { λ r. ⌜ r ∷ now (found .exit) ∷ now (place .exit) ∷ now («groups_read» .exit) ∷ [] ≡ handed (scanMade got) (now (found .entry) ∷ now (place .entry) ∷ now («groups_read» .entry) ∷ []) ⌝ }
+{
+    match got {
+        Scan::Hit(at, read) => {
+            *found = 1;
+            *place = at;
+            *groups_read = read;
+            0
+        }
+        Scan::Missed(read) => {
+            *found = 0;
+            *place = 0;
+            *groups_read = read;
+            0
+        }
+        Scan::Refused(reason) => reason,
     }
 }
 

@@ -1,18 +1,20 @@
-// Groups and pick (document 01, Groups and pick). In each call `has_map` 0 is without a map: groups then go by prefixes, and
+// Groups, the occupied scan (document 02, CR 2) and pick (document 01, Groups and pick). In each call `has_map` 0 is without a map: groups then go by prefixes, and
 // the map is not looked at. Any other number is with it.
 ghost use mathlib.Core.Path.{_≡_};
 ghost use mathlib.Core.List.{_∷_, []};
 ghost use Rattle.peer_lists.specs.Candidates.{candidatesOf};
+ghost use Rattle.peer_lists.specs.Scan.{scanOf};
 ghost use Rattle.netgroup.specs.Group.{numbering};
 ghost use Rattle.netgroup.specs.Netgroup.{prefixGroupCall, netgroupOf, netgroupUnchecked, Whole};
 ghost use Rattle.netgroup.specs.Refusal.{checkRefusal};
 ghost use Rattle.netgroup_pick.specs.Pick.{selectDiverse, selectUnchecked};
 ghost use Rattle.netgroup_pick.specs.Demand.{Demand3, Unaborted};
 ghost use Rattle.answers.specs.Outcome.{Hands};
-ghost use Rattle.answers.specs.Groups.{groupingOf, groupFound, totalsOf, Picks};
+ghost use Rattle.answers.specs.Groups.{groupingOf, groupFound, scanMade, totalsOf, Picks};
 use answers::groups::grouping_of;
 use answers::groups::hand_group;
 use answers::groups::hand_pick;
+use answers::groups::hand_scan;
 use netgroup::GroupAnswer;
 use netgroup_pick::PickAnswer;
 use peer_lists::Refusal;
@@ -56,6 +58,26 @@ pub extern "C" fn corbastrigo_netgroup_unchecked(
     hand_group(
         netgroup::netgroup_unchecked(candidate, grouping_of(has_map), map),
         group,
+    )
+}
+
+// The occupied scan: whether a group stands among the occupied groups, the first hit's place from 0, and how many groups were read. None
+// is found 0 with place 0. Refusal 12.
+#[no_mangle]
+pub extern "C" fn corbastrigo_scan_occupied(
+    group: u64,
+    occupied: &[u64],
+    found: &mut u8,
+    place: &mut usize,
+    groups_read: &mut usize,
+) -> u8
+    ensures { λ r. ⌜ Hands (scanMade (scanOf group (now (occupied .entry)))) r (now (found .entry) ∷ now (place .entry) ∷ now («groups_read» .entry) ∷ []) (now (found .exit) ∷ now (place .exit) ∷ now («groups_read» .exit) ∷ []) ⌝ }
+{
+    hand_scan(
+        peer_lists::scan_occupied(group, occupied),
+        found,
+        place,
+        groups_read,
     )
 }
 

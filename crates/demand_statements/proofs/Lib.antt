@@ -4,6 +4,7 @@ pub mod TripLaws
 pub mod MapAnswers
 pub mod WalkLaws
 pub mod RecordAnswers
+pub mod ScanAnswers
 pub mod ListBytes
 pub mod ListAnswers
 pub mod CandidateLaws

@@ -165,6 +165,18 @@ pub record LoadedGroups (r : ℕ) (entry exit : List ℕ) : Type 0 where
   pub numbers : (r ≡ 0) ⊎ ((r ≡ 13) ⊎ ((1 ≤ r) × (r ≤ 10)))
   pub untouched : Untouched r entry exit
 
+-- The occupied scan for the group g: 12 exactly for more than 4,096 groups. What it says is so: at `place` stands the group and at no
+-- place in front of it, and the groups up to there were read; or it stands nowhere, and all were read.
+pub record Scans (g : ℕ) (occupied : List ℕ) (r : ℕ) (entry : List ℕ) (found place read : ℕ) : Type 0 where
+  pub too-many : 4096 < length occupied → r ≡ 12
+  pub answered : length occupied ≤ 4096 → r ≡ 0
+  pub yes-or-no : r ≡ 0 → (found ≡ 0) ⊎ (found ≡ 1)
+  pub hit : r ≡ 0 → found ≡ 1 → (place < length occupied) × (getD occupied place 0 ≡ g) × (read ≡ place + 1)
+  pub first : r ≡ 0 → found ≡ 1 → (q : ℕ) → q < place → getD occupied q 0 ≢ g
+  pub none : r ≡ 0 → found ≡ 0 → (place ≡ 0) × (read ≡ length occupied)
+  pub nowhere : r ≡ 0 → found ≡ 0 → (q : ℕ) → q < length occupied → getD occupied q 0 ≢ g
+  pub untouched : Untouched r entry (found ∷ place ∷ read ∷ [])
+
 -- A pick: 13 for bytes that are no whole candidates, then 12 for more than 4,096 of them or of occupied groups; 14 where an output has
 -- less than min(max, candidates) places, so 0 only where both have; and 0 where nothing is wrong.
 pub record Picks (has : ℕ) (m candidates occupied : List ℕ) (max r : ℕ) (entry exit picks picks′ groups groups′ : List ℕ) : Type 0 where

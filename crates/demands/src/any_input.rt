@@ -6,7 +6,7 @@ ghost use Prim.Native.Nat.{_≤_};
 ghost use lib.ListN.{length};
 ghost use Rattle.asmap_codes.specs.Core.{fileOf};
 ghost use Rattle.demand_statements.specs.Same.{CoreReads};
-ghost use Rattle.demand_statements.specs.AnyInput.{Reads, Writes, WritesInstruction, Checks, Stops, Walks, Unpacks, Lists, Needs, Changes, FindsFirst, Packs, Filters, Relays};
+ghost use Rattle.demand_statements.specs.AnyInput.{Reads, Writes, WritesInstruction, Checks, Stops, Walks, Unpacks, Lists, Needs, Changes, FindsFirst, Packs, Scans, Filters, Relays};
 use corbastrigo::codes::corbastrigo_decode_asn;
 use corbastrigo::codes::corbastrigo_decode_instruction;
 use corbastrigo::codes::corbastrigo_decode_jump;
@@ -19,6 +19,7 @@ use corbastrigo::codes::corbastrigo_encode_match;
 use corbastrigo::codes::corbastrigo_encode_type;
 use corbastrigo::filters::corbastrigo_addrv2_skip_relay;
 use corbastrigo::filters::corbastrigo_clearnet_unroutable;
+use corbastrigo::groups::corbastrigo_scan_occupied;
 use corbastrigo::maps::corbastrigo_compare;
 use corbastrigo::maps::corbastrigo_compare_bytes;
 use corbastrigo::maps::corbastrigo_interpret;
@@ -200,6 +201,21 @@ pub fn packed(records: &[u8], out: &mut [u8], written: &mut usize) -> u8
     ensures { λ r. ⌜ Packs (now (records .entry)) (now (out .entry)) (now (out .exit)) r (now (written .entry)) (now (written .exit)) ⌝ }
 {
     corbastrigo_pack(records, out, written)
+}
+
+// ---- any groups are scanned
+
+// The occupied scan.
+pub fn scanned(
+    group: u64,
+    occupied: &[u64],
+    found: &mut u8,
+    place: &mut usize,
+    groups_read: &mut usize,
+) -> u8
+    ensures { λ r. ⌜ Scans group (now (occupied .entry)) r (now (found .entry) ∷ now (place .entry) ∷ now («groups_read» .entry) ∷ []) (now (found .exit)) (now (place .exit)) (now («groups_read» .exit)) ⌝ }
+{
+    corbastrigo_scan_occupied(group, occupied, found, place, groups_read)
 }
 
 // ---- any bytes are filtered

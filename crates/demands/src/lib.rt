@@ -5,7 +5,7 @@
 // (`walkOf`), the unpacked list (`unpacked`), the first pass (`firstPass`) and Core's functions (`coreCheck`, `coreInterpret`, its four
 // decoders), with how these take bytes (`mapOf`, `fileOf`, `addressBit`). All else is numbers, bytes and equations, in
 // `demand_statements/specs`. Each is proved from the contracts of the exported calls and from laws about those definitions
-// (`demand_statements/proofs`); no code below them is looked at. So what a contract there no longer says is refused here. All 24 exported
+// (`demand_statements/proofs`); no code below them is looked at. So what a contract there no longer says is refused here. All 27 exported
 // calls have a caller.
 //
 // Demand 1, any input: `any_input`, and `refused` in `picks`. Maps, addresses, lists and lengths of every kind get an answer, 0, or one
