@@ -1,4 +1,4 @@
-// Groups and picks.
+// Groups, picks and the occupied scan.
 ghost use mathlib.Core.Path.{_≡_};
 ghost use Prim.Native.Nat.{_≤_, _<_};
 ghost use lib.ListN.{length};
@@ -6,6 +6,7 @@ use netgroup::GroupAnswer;
 use netgroup::Grouping;
 use netgroup_pick::PickAnswer;
 use netgroup_pick::Totals;
+use peer_lists::Scan;
 use replay_lines::outcome::Out;
 use replay_lines::outcome::Seen;
 use replay_lines::outcome::and_left;
@@ -56,7 +57,7 @@ pub fn group(bytes: &[u8], words: Words, checked: bool) -> Seen {
     compared(grouped(got), word(bytes, words, 3))
 }
 
-// ---- picks
+// ---- lists of groups
 
 // The numbers of a word, eight bytes each, and zeros after them.
 fn numbers(bytes: &[u8]) -> [u64; 4100]
@@ -72,6 +73,33 @@ fn numbers(bytes: &[u8]) -> [u64; 4100]
     }
     list
 }
+
+// None is found 0 with place 0, as a call from C has it.
+fn scanned(got: Scan) -> Out {
+    match got {
+        Scan::Refused(reason) => refused(reason),
+        Scan::Hit(place, read) => done().byte(1)
+            .number(place as u64, 8)
+            .number(read as u64, 8),
+        Scan::Missed(read) => done().byte(0).number(0, 8).number(read as u64, 8),
+    }
+}
+
+pub fn scan(bytes: &[u8], words: Words) -> Seen {
+    let occupied = word(bytes, words, 1);
+    if 32800 < occupied.len() {
+        return Seen::Unread;
+    }
+    if occupied.len() % 8 != 0 {
+        return Seen::Unread;
+    }
+    let count = occupied.len() / 8;
+    let groups = numbers(occupied);
+    let got = peer_lists::scan_occupied(wide(bytes, words, 0) as u64, &groups[0..count]);
+    compared(scanned(got), word(bytes, words, 2))
+}
+
+// ---- picks
 
 // Whether the list's bytes, two for each place and as many as ours, are our places.
 fn same_places(places: &[u16], bytes: &[u8]) -> bool {

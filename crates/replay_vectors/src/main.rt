@@ -17,6 +17,7 @@ use crate::codes::write_instruction;
 use crate::groups::group;
 use crate::groups::pick;
 use crate::groups::prefix_group;
+use crate::groups::scan;
 use crate::maps::check;
 use crate::maps::check_stop;
 use crate::maps::list_bytes;
@@ -53,7 +54,7 @@ fn word_room() -> [u8; 262144]
 
 // ---- a line
 
-// The kinds of call by their letters, and 22 for any other letter. They are counted and printed in this order.
+// The kinds of call by their letters, and 23 for any other letter. They are counted and printed in this order.
 fn kind_of(letter: u8) -> usize {
     match letter {
         b'd' => 0,
@@ -75,10 +76,11 @@ fn kind_of(letter: u8) -> usize {
         b'h' => 16,
         b's' => 17,
         b't' => 18,
-        b'm' => 19,
-        b'f' => 20,
-        b'r' => 21,
-        _ => 22,
+        b'o' => 19,
+        b'm' => 20,
+        b'f' => 21,
+        b'r' => 22,
+        _ => 23,
     }
 }
 
@@ -95,7 +97,8 @@ fn shape_of(kind: usize) -> [u8; 9]
         12 | 13 => [9, 9, 9, 9, 0, 0, 0, 0, 0],
         15 | 16 => [1, 9, 9, 9, 0, 0, 0, 0, 0],
         17 | 18 => [1, 9, 9, 8, 9, 9, 9, 9, 0],
-        21 => [1, 2, 9, 9, 0, 0, 0, 0, 0],
+        19 => [8, 9, 9, 0, 0, 0, 0, 0, 0],
+        22 => [1, 2, 9, 9, 0, 0, 0, 0, 0],
         _ => [9, 9, 0, 0, 0, 0, 0, 0, 0],
     }
 }
@@ -167,14 +170,15 @@ fn replay_peers(kind: usize, bytes: &[u8], words: Words) -> Seen {
         15 => group(bytes, words, true),
         16 => group(bytes, words, false),
         17 => pick(bytes, words, 0),
-        _ => pick(bytes, words, 2),
+        18 => pick(bytes, words, 2),
+        _ => scan(bytes, words),
     }
 }
 
 fn replay_address(kind: usize, bytes: &[u8], words: Words) -> Seen {
     match kind {
-        19 => mapped(bytes, words),
-        20 => unroutable(bytes, words),
+        20 => mapped(bytes, words),
+        21 => unroutable(bytes, words),
         _ => relay_skip(bytes, words),
     }
 }
@@ -187,7 +191,7 @@ fn replay_words(kind: usize, bytes: &[u8], words: Words) -> Seen {
     if kind < 14 {
         return replay_map(kind, bytes, words);
     }
-    if kind < 19 {
+    if kind < 20 {
         return replay_peers(kind, bytes, words);
     }
     replay_address(kind, bytes, words)
@@ -205,7 +209,7 @@ fn letter_of(line: &[u8]) -> u8 {
 }
 
 fn replay_line(kind: usize, line: &[u8], bytes: &mut [u8]) -> Seen {
-    if 21 < kind {
+    if 22 < kind {
         return Seen::Unread;
     }
     let words = read_words(line, bytes);
@@ -221,19 +225,19 @@ fn replay_line(kind: usize, line: &[u8], bytes: &mut [u8]) -> Seen {
 
 // ---- the list
 
-// Every line is counted at one of 47 places: for each kind of call the answers that are ours and, 22 places on, those that differ; then
+// Every line is counted at one of 49 places: for each kind of call the answers that are ours and, 23 places on, those that differ; then
 // headings, lines with a wrong count of words, and lines that could not be read.
 fn place_of(kind: usize, seen: Seen) -> usize
-    ensures { λ r. ⌜ r < 47 ⌝ }
+    ensures { λ r. ⌜ r < 49 ⌝ }
 {
-    if 21 < kind {
-        return 46;
+    if 22 < kind {
+        return 48;
     }
     match seen {
         Seen::Same => kind,
-        Seen::Differs => 22 + kind,
-        Seen::Count => 45,
-        Seen::Unread => 46,
+        Seen::Differs => 23 + kind,
+        Seen::Count => 47,
+        Seen::Unread => 48,
     }
 }
 
@@ -246,18 +250,18 @@ fn is_heading(line: &[u8]) -> bool {
 }
 
 fn line_place(line: &[u8], bytes: &mut [u8]) -> usize
-    ensures { λ r. ⌜ r < 47 ⌝ }
+    ensures { λ r. ⌜ r < 49 ⌝ }
 {
     if is_heading(line) {
-        return 44;
+        return 46;
     }
     let kind = kind_of(letter_of(line));
     place_of(kind, replay_line(kind, line, bytes))
 }
 
 // One line more. The list is far too short for a count to wrap.
-fn add_one(counts: &mut [u64; 47], place: usize)
-    requires { ⌜ place < 47 ⌝ }
+fn add_one(counts: &mut [u64; 49], place: usize)
+    requires { ⌜ place < 49 ⌝ }
 {
     counts[place] = wrapping_add_u64(counts[place], 1);
 }
@@ -272,16 +276,16 @@ fn say_number(n: u64) {
 
 // Names a line that is neither a heading nor has our answer, by the place where it is counted.
 fn say_line(line: u64, place: usize) {
-    if place < 22 || place == 44 {
+    if place < 23 || place == 46 {
         return;
     }
     say(b"line ");
     say_number(line);
-    if place < 44 {
+    if place < 46 {
         say(b" differs\n");
         return;
     }
-    if place < 46 {
+    if place < 48 {
         say(b" has a wrong count of words\n");
         return;
     }
@@ -289,7 +293,7 @@ fn say_line(line: u64, place: usize) {
 }
 
 // Hands back how many lines there are.
-fn replay_list(list: &[u8], bytes: &mut [u8], counts: &mut [u64; 47]) -> u64 {
+fn replay_list(list: &[u8], bytes: &mut [u8], counts: &mut [u64; 49]) -> u64 {
     let mut lines: u64 = 0;
     let mut at: usize = 0;
     while at < list.len() {
@@ -303,10 +307,10 @@ fn replay_list(list: &[u8], bytes: &mut [u8], counts: &mut [u64; 47]) -> u64 {
     lines
 }
 
-fn say_kind(name: &[u8], counts: &[u64; 47], kind: usize)
-    requires { ⌜ kind < 22 ⌝ }
+fn say_kind(name: &[u8], counts: &[u64; 49], kind: usize)
+    requires { ⌜ kind < 23 ⌝ }
 {
-    let differ = counts[kind + 22];
+    let differ = counts[kind + 23];
     say(name);
     say_number(wrapping_add_u64(counts[kind], differ));
     say(b" answers, ");
@@ -314,7 +318,7 @@ fn say_kind(name: &[u8], counts: &[u64; 47], kind: usize)
     say(b" differ\n");
 }
 
-fn say_codes(counts: &[u64; 47]) {
+fn say_codes(counts: &[u64; 49]) {
     say_kind(b"code read: ", counts, 0);
     say_kind(b"code written: ", counts, 1);
     say_kind(b"instruction read: ", counts, 2);
@@ -322,7 +326,7 @@ fn say_codes(counts: &[u64; 47]) {
     say_kind(b"bit reader: ", counts, 4);
 }
 
-fn say_maps(counts: &[u64; 47]) {
+fn say_maps(counts: &[u64; 49]) {
     say_kind(b"check: ", counts, 5);
     say_kind(b"where a check stops: ", counts, 6);
     say_kind(b"walk: ", counts, 7);
@@ -334,28 +338,29 @@ fn say_maps(counts: &[u64; 47]) {
     say_kind(b"bytes of a comparison: ", counts, 13);
 }
 
-fn say_peers(counts: &[u64; 47]) {
+fn say_peers(counts: &[u64; 49]) {
     say_kind(b"group by prefix: ", counts, 14);
     say_kind(b"group: ", counts, 15);
     say_kind(b"group, map unchecked: ", counts, 16);
     say_kind(b"pick: ", counts, 17);
     say_kind(b"pick, map unchecked: ", counts, 18);
+    say_kind(b"occupied scan: ", counts, 19);
 }
 
-fn say_addresses(counts: &[u64; 47]) {
-    say_kind(b"IPv4-mapped address: ", counts, 19);
-    say_kind(b"unroutable: ", counts, 20);
-    say_kind(b"relay skip: ", counts, 21);
+fn say_addresses(counts: &[u64; 49]) {
+    say_kind(b"IPv4-mapped address: ", counts, 20);
+    say_kind(b"unroutable: ", counts, 21);
+    say_kind(b"relay skip: ", counts, 22);
 }
 
-fn say_lines(lines: u64, counts: &[u64; 47]) {
+fn say_lines(lines: u64, counts: &[u64; 49]) {
     say_number(lines);
     say(b" lines, ");
-    say_number(counts[44]);
-    say(b" of them headings, ");
-    say_number(counts[45]);
-    say(b" with a wrong count of words, ");
     say_number(counts[46]);
+    say(b" of them headings, ");
+    say_number(counts[47]);
+    say(b" with a wrong count of words, ");
+    say_number(counts[48]);
     say(b" not read\n");
 }
 
@@ -363,7 +368,7 @@ fn main() {
     let mut list = list_room();
     let mut bytes = word_room();
     let n = io::read_full(STDIN_FILENO, &mut list);
-    let mut counts = [0u64; 47];
+    let mut counts = [0u64; 49];
     let lines = replay_list(&list[..n], &mut bytes, &mut counts);
     say_codes(&counts);
     say_maps(&counts);
