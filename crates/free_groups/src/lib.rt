@@ -1,60 +1,114 @@
-// Which groups are free: neither occupied by a connected peer nor taken already (document 01, Groups and pick). Marks spare most scans
-// of the occupied groups.
+// Which groups are free: neither occupied by a connected peer nor taken already (document 01, Groups and pick). Those that are not are the
+// used groups: the occupied ones, and behind them the taken ones. Marks and links spare most scans of them.
+//
+// A group is marked at its number modulo 4,096 with its place among the used groups, counted from 1. Of two groups with one mark the later
+// place stands there, and the link of that place leads to the earlier one. So whoever asks for a group begins at its mark and follows the
+// links: he meets all used groups that share the mark, and no other.
 ghost use mathlib.Core.Path.{_≡_};
-ghost use lib.ListN.{length};
+ghost use mathlib.Core.List.{_++_};
+ghost use Prim.Native.Nat.{_+_, _%_, _≤_, _<_};
+ghost use lib.ListN.{length, replicate, take, getD, set};
 ghost use Rattle.peer_lists.specs.Groups.{has};
 ghost use Rattle.free_groups.specs.Free.{free};
-ghost use Rattle.free_groups.specs.models.Marks.{Marked};
+ghost use Rattle.free_groups.specs.models.Marks.{Linked};
+use peer_lists::Scan;
 use peer_lists::contains;
 
-// Marks each group of a list, at its number modulo 4,096, with its place counted from 1. Of two groups with one mark the later
-// place stands. The contract says only what a missing mark tells; which mark stands, and what was there before, it leaves open. No
-// caller can see that: `is_free` trusts no mark but looks at the place that it leads to, and scans where the group is not there.
-pub fn mark_groups(groups: &[u64], marks: &mut [u16])
-    requires { ⌜ length (now marks) ≡ 4096 ⌝ }
-    ensures { λ r. ⌜ Marked (now (groups .entry)) (now (marks .exit)) ⌝ }
+// So many links are followed at most; what is left is scanned. Marks shared by more groups are rare unless somebody chose the groups so,
+// and then a scan costs less than following the links: it reads groups one behind the other.
+const MOST_LINKS: usize = 8;
+
+// No group is marked.
+pub fn no_marks() -> [u16; 4096]
+    ensures { λ r. ⌜ r ≡ replicate 4096 0 ⌝ }
+{
+    [0; 4096]
+}
+
+// Room for the links of 4,096 occupied groups and as many taken ones. A link counts only where a group has its place.
+pub fn no_links() -> [u16; 8192]
+    ensures { λ r. ⌜ 8192 ≡ length r ⌝ }
+{
+    [0; 8192]
+}
+
+// Marks a group that has a place behind the used groups, and links the place to the one that was marked there before.
+pub fn mark(group: u64, place: usize, marks: &mut [u16], links: &mut [u16])
+    requires { ⌜ (length (now marks) ≡ 4096) × (place < length (now links)) × (place < 8192) ⌝ }
+    ensures { λ r. ⌜ (now (marks .exit) ≡ set (now (marks .entry)) (group % 4096) (place + 1)) × (now (links .exit) ≡ set (now (links .entry)) place (getD (now (marks .entry)) (group % 4096) 0)) ⌝ }
+{
+    let at = (group % 4096) as usize;
+    links[place] = marks[at];
+    let count = place + 1;
+    marks[at] = count as u16;
+}
+
+// Marks the occupied groups.
+pub fn mark_groups(occupied: &[u64], marks: &mut [u16], links: &mut [u16])
+    requires { ⌜ (now marks ≡ replicate 4096 0) × (length (now occupied) ≤ length (now links)) × (length (now occupied) ≤ 4096) ⌝ }
+    ensures { λ r. ⌜ Linked (now (occupied .entry)) (now (marks .exit)) (now (links .exit)) ⌝ }
 {
     let mut i: usize = 0;
-    while i < groups.len() {
-        let mark = i % 4096 + 1;
-        let at = (groups[i] % 4096) as usize;
-        marks[at] = mark as u16;
+    while i < occupied.len() {
+        mark(occupied[i], i, marks, links);
         i += 1;
     }
 }
 
-// Whether a connected peer has the group. Where the mark says neither no nor where, the occupied groups are scanned.
-fn is_occupied(group: u64, occupied: &[u64], marks: &[u16]) -> bool
-    requires { ⌜ Marked (now occupied) (now marks) ⌝ }
+// The used group at a place.
+fn used_at(occupied: &[u64], taken: &[u64], place: usize) -> u64
+    requires { ⌜ place < length (now occupied) + length (now taken) ⌝ }
+    ensures { λ r. ⌜ r ≡ getD (now (occupied .entry) ++ now (taken .entry)) place 0 ⌝ }
+{
+    if place < occupied.len() {
+        return occupied[place];
+    }
+    taken[place - occupied.len()]
+}
+
+// Whether a connected peer has the group, by the occupied scan. It refuses only what a pick has refused before.
+fn is_occupied(group: u64, occupied: &[u64]) -> bool
+    requires { ⌜ length (now occupied) ≤ 4096 ⌝ }
     ensures { λ r. ⌜ r ≡ has group (now (occupied .entry)) ⌝ }
 {
-    let at = (group % 4096) as usize;
-    let mark = marks[at] as usize;
-    if mark == 0 {
-        return false;
+    match peer_lists::scan_occupied(group, occupied) {
+        Scan::Hit(_, _) => true,
+        Scan::Missed(_) => false,
+        Scan::Refused(_) => false,
     }
-    if mark <= occupied.len() {
-        if occupied[mark - 1] == group {
-            return true;
-        }
-    }
-    contains(occupied, group)
 }
 
-// The scan of the taken groups: the first pass took one of the group.
-fn is_taken(group: u64, taken: &[u64]) -> bool
-    ensures { λ r. ⌜ r ≡ has group (now (taken .entry)) ⌝ }
+// Whether a group is one of the first used ones: of so many.
+fn is_among(group: u64, occupied: &[u64], taken: &[u64], count: usize) -> bool
+    requires { ⌜ (length (now occupied) ≤ 4096) × (count ≤ length (now occupied) + length (now taken)) ⌝ }
+    ensures { λ r. ⌜ r ≡ has group (take count (now (occupied .entry) ++ now (taken .entry))) ⌝ }
 {
-    contains(taken, group)
+    if count <= occupied.len() {
+        return is_occupied(group, &occupied[..count]);
+    }
+    if is_occupied(group, occupied) {
+        return true;
+    }
+    contains(&taken[..count - occupied.len()], group)
 }
 
-// Whether a group is neither occupied nor taken.
-pub fn is_free(group: u64, occupied: &[u64], marks: &[u16], taken: &[u64]) -> bool
-    requires { ⌜ Marked (now occupied) (now marks) ⌝ }
+// Whether a group is neither occupied nor taken. `count` used groups are left to look at; of these the last has the group's mark.
+pub fn is_free(group: u64, occupied: &[u64], taken: &[u64], marks: &[u16], links: &[u16]) -> bool
+    requires { ⌜ (Linked (now occupied ++ now taken) (now marks) (now links)) × (length (now occupied) ≤ 4096) ⌝ }
     ensures { λ r. ⌜ r ≡ free (now (occupied .entry)) (now (taken .entry)) group ⌝ }
 {
-    if is_occupied(group, occupied, marks) {
-        return false;
+    let at = (group % 4096) as usize;
+    let mut count = marks[at] as usize;
+    let mut links_left = MOST_LINKS;
+    while 0 < count {
+        if links_left == 0 {
+            return !is_among(group, occupied, taken, count);
+        }
+        if used_at(occupied, taken, count - 1) == group {
+            return false;
+        }
+        count = links[count - 1] as usize;
+        links_left -= 1;
     }
-    !is_taken(group, taken)
+    true
 }

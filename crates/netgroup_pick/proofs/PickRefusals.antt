@@ -8,7 +8,7 @@ use lib.ListN.{length}
 use Rattle.peer_lists.specs.declared.Refusal.{Refusal}
 use Rattle.peer_lists.specs.declared.Refusal.the-variants.{None, Number}
 use Rattle.peer_lists.specs.Refusal.{refuseIf, listRefusal}
-use Rattle.peer_lists.proofs.Refusals.{none-first, none-later, none-more, none-listed}
+use Rattle.peer_lists.proofs.Refusals.{none-first, none-later, none-more, none-listed, none-occupied}
 use Rattle.netgroup.specs.Group.{Numbering}
 use Rattle.netgroup.specs.Refusal.{limitRefusal}
 use Rattle.netgroup_pick.specs.PickRefusal.{roomRefusal, pickRefusal}
@@ -27,7 +27,7 @@ module _ (ofMap : Refusal) (bytes occupied : List ℕ) (max : ℕ) (picks groups
   then-room e h = rw (e, h)
 
 pub none-ready : (n : Numbering) (bytes occupied : List ℕ) (max : ℕ) (picks groups : List ℕ)
-    → pickRefusal (limitRefusal n) bytes occupied max picks groups ≡ None → Ready n bytes max picks groups
+    → pickRefusal (limitRefusal n) bytes occupied max picks groups ≡ None → Ready n bytes occupied max picks groups
 none-ready n bytes occupied max picks groups h =
     let later = none-later (listRefusal bytes occupied) _ h in
     let room = none-later (limitRefusal n) _ later in
@@ -35,6 +35,7 @@ none-ready n bytes occupied max picks groups h =
     let p = refuseIf (ltb (length picks) need) 14 in
     record {
       few = none-listed bytes occupied (none-first (listRefusal bytes occupied) _ h);
+      few-occupied = none-occupied bytes occupied (none-first (listRefusal bytes occupied) _ h);
       fit = none-first (limitRefusal n) _ later;
       room-picks = none-more (length picks) need 14 (none-first p _ room);
       room-groups = none-more (length groups) need 14 (none-later p _ room);

@@ -1,10 +1,10 @@
 // The two passes of the pick (document 01, Groups and pick): the first over the candidates' groups, the second over the candidates.
 ghost use mathlib.Core.Path.{_≡_};
 ghost use mathlib.Core.List.{[]};
-ghost use Prim.Native.Nat.{_/_, _≤_, _<_, min};
+ghost use Prim.Native.Nat.{_+_, _/_, _≤_, _<_, min};
 ghost use lib.ListN.{length, take, getD};
 ghost use Rattle.peer_lists.specs.Candidates.{candidatesOf};
-ghost use Rattle.free_groups.specs.models.Marks.{Marked};
+ghost use Rattle.free_groups.specs.models.Marks.{Linked};
 ghost use Rattle.netgroup.specs.Group.{numbering};
 ghost use Rattle.pick_passes.specs.Fill.{picked, fill};
 ghost use Rattle.pick_passes.specs.models.Places.{Places};
@@ -36,18 +36,19 @@ fn is_picked(candidates: &[u8], i: usize, picks: &[u16]) -> bool
     false
 }
 
-// The first pass: in ranked order, the candidates whose group is free, until max. Writes the picks and their groups.
+// The first pass: in ranked order, the candidates whose group is free, until max. Writes the picks and their groups, and marks those.
 fn first_pass(
     candidates: &[u8],
     occupied: &[u64],
-    marks: &[u16],
+    marks: &mut [u16],
+    links: &mut [u16],
     max: usize,
     grouping: Grouping,
     map: &[u8],
     picks: &mut [u16],
     groups: &mut [u64],
 ) -> First
-    requires { ⌜ (Ready (numbering grouping (now map)) (now candidates) max (now picks) (now groups)) × (Marked (now occupied) (now marks)) ⌝ }
+    requires { ⌜ (Ready (numbering grouping (now map)) (now candidates) (now occupied) max (now picks) (now groups)) × (Linked (now occupied) (now marks) (now links)) × (length (now occupied) + 4096 ≤ length (now links)) ⌝ }
     ensures { λ r. ⌜ PassedFirst (numbering grouping (now (map .entry))) (candidatesOf (now (candidates .entry))) (now (occupied .entry)) max (now (picks .entry)) (now (groups .entry)) r (now (picks .exit)) (now (groups .exit)) ⌝ }
 {
     let n = candidates.len() / 20;
@@ -61,7 +62,8 @@ fn first_pass(
         let g = netgroup::group_of(candidate_at(candidates, i), grouping, map);
         let group = g.group;
         instructions += g.count as u64;
-        if free_groups::is_free(group, occupied, marks, &groups[..taken]) {
+        if free_groups::is_free(group, occupied, &groups[..taken], marks, links) {
+            free_groups::mark(group, occupied.len() + taken, marks, links);
             picks[taken] = i as u16;
             groups[taken] = group;
             taken += 1;
@@ -75,7 +77,7 @@ fn first_pass(
     }
 }
 
-// The first pass, over occupied groups that are marked for it.
+// The first pass, over occupied groups that are marked for it. A link has room for each occupied group and each that is taken.
 pub fn marked_pass(
     candidates: &[u8],
     occupied: &[u64],
@@ -85,15 +87,17 @@ pub fn marked_pass(
     picks: &mut [u16],
     groups: &mut [u64],
 ) -> First
-    requires { ⌜ Ready (numbering grouping (now map)) (now candidates) max (now picks) (now groups) ⌝ }
+    requires { ⌜ Ready (numbering grouping (now map)) (now candidates) (now occupied) max (now picks) (now groups) ⌝ }
     ensures { λ r. ⌜ PassedFirst (numbering grouping (now (map .entry))) (candidatesOf (now (candidates .entry))) (now (occupied .entry)) max (now (picks .entry)) (now (groups .entry)) r (now (picks .exit)) (now (groups .exit)) ⌝ }
 {
-    let mut marks = [0u16; 4096];
-    free_groups::mark_groups(occupied, &mut marks);
+    let mut marks = free_groups::no_marks();
+    let mut links = free_groups::no_links();
+    free_groups::mark_groups(occupied, &mut marks, &mut links);
     first_pass(
         candidates,
         occupied,
-        &marks,
+        &mut marks,
+        &mut links,
         max,
         grouping,
         map,

@@ -1,58 +1,45 @@
--- `is_occupied` is `has`: a mark of 0 says no, a group at the marked place says yes, else the scan decides.
+-- `is_occupied` is `has`: the scan of at most 4,096 groups is not refused, and what it says is so.
 -- Assumes nothing.
-use mathlib.Core.Path.{sym}
-use native.Mathlib.Omega.{arith}
-use Prim.Native.Nat.{_-_, _%_}
-use lib.ListN.{getD}
-use Rattle.free_groups.proofs.Marking.{has-at}
+use mathlib.Core.Path.{_∙_, sym}
+use Rattle.peer_lists.proofs.ScanLaws.{hit-has, missed-has, not-refused}
 use borrow.Author.Needs.{needs}
 use Rattle.free_groups.proofs.is_occupied.Statement.{statement}
 use Rattle.free_groups.proofs.is_occupied.Tie as tie
 
-mul-mark : tie.Need-mul-mark
-mul-mark c = search needs
+scan-occupied-requires : tie.Need-scan-occupied-requires
+scan-occupied-requires c κs = search needs
 
-shared-slice-read-mark : tie.Need-shared-slice-read-mark
-shared-slice-read-mark c = search needs
+enum-told : tie.Need-enum-told
+enum-told c = search needs
 
-cast-mark : tie.Need-cast-mark
-cast-mark c = omega (arith, c .shared-slice-known3 .given (c .before .before .before .args .group % 4096))
+enum-told-2 : tie.Need-enum-told-2
+enum-told-2 c = search needs
+
+enum-told-3 : tie.Need-enum-told-3
+enum-told-3 c = search needs
 
 returns : tie.Need-returns
-returns c = sym (c .before .before .before .before .pre .unmarked (c .before .before .before .before .args .group) (omega arith))
-
-sub-if3 : tie.Need-sub-if3
-sub-if3 c = search needs
-
-mul-if3 : tie.Need-mul-if3
-mul-if3 c = search needs
-
-shared-slice-read-if3 : tie.Need-shared-slice-read-if3
-shared-slice-read-if3 c = search needs
+returns c =
+    let a = c .before .before .before .before .args in
+    let g = a .group in
+    let gs = a .occupied .now in
+    sym (hit-has g gs (c .before .before .before .before .pre) _ _ (sym (c .before .before .scan-occupied .ensures .0) ∙ c .enum-told .given .1))
 
 returns-2 : tie.Need-returns-2
 returns-2 c =
-    let a = c .before .before .before .before .before .before .before .args in
-    let mark = getD (a .marks .now) (a .group % 4096) 0 in
-    sym (has-at (a .group) (a .occupied .now) (mark - 1) (omega arith) (omega arith))
-
-contains-requires : tie.Need-contains-requires
-contains-requires c κs = search needs
+    let a = c .before .before .before .before .args in
+    let g = a .group in
+    let gs = a .occupied .now in
+    sym (missed-has g gs (c .before .before .before .before .pre) _ (sym (c .before .before .scan-occupied .ensures .0) ∙ c .enum-told2 .given .1))
 
 returns-3 : tie.Need-returns-3
-returns-3 c = search needs
+returns-3 c =
+    let a = c .before .before .before .before .args in
+    let g = a .group in
+    let gs = a .occupied .now in
+    absurd (not-refused g gs (c .before .before .before .before .pre) _ (sym (c .before .before .scan-occupied .ensures .0) ∙ c .enum-told3 .given .1))
 
 pub is-occupied-spec : {M : Type 1} → statement M
 is-occupied-spec =
     tie.close
-    (tie.spec
-    mul-mark
-    shared-slice-read-mark
-    cast-mark
-    returns
-    sub-if3
-    mul-if3
-    shared-slice-read-if3
-    returns-2
-    contains-requires
-    returns-3)
+    (tie.spec scan-occupied-requires enum-told enum-told-2 enum-told-3 returns returns-2 returns-3)

@@ -1,43 +1,37 @@
--- `mark_groups` marks the list: the groups before `i` are marked.
+-- `mark_groups` links the occupied groups: those before `i` are linked.
 -- Assumes nothing.
 use borrow.Author.Needs.{needs}
-use mathlib.Core.Path.{_≡_, _∙_, ap, subst}
+use mathlib.Core.Path.{_≡_, _∙_, refl, sym, ap, subst}
 use mathlib.Core.List.{List}
+use Prim.Native.Nat.{ℕ, _+_, _-_, _≤_, _<_}
 use native.Mathlib.Omega.{arith}
-use Prim.Native.Nat.{ℕ, _-_, _≤_}
-use lib.ListN.{length, take, length-set}
-use lib.Seq.{take-length}
-use Rattle.free_groups.specs.models.Marks.{Marked}
-use Rattle.free_groups.proofs.Marking.{marked-none, marked-on}
+use native.Mathlib.Numerals.{add-one}
+use lib.ListN.{length, take, getD, length-replicate}
+use lib.Seq.{take-length, take-suc, length-take-le}
+use Rattle.free_groups.specs.models.Marks.{Linked}
+use Rattle.free_groups.proofs.Marking.{linked-none, linked-then}
 use Rattle.free_groups.proofs.mark_groups.Statement.{statement}
 use Rattle.free_groups.proofs.mark_groups.Tie as tie
 
 abbrev Inv-loop : tie.InvT-loop
-Inv-loop groups marks₀ i₀ marks i = (i ≤ length groups) × (length marks ≡ 4096) × (Marked (take i groups) marks)
+Inv-loop occupied marks₀ links₀ i₀ marks links i = (i ≤ length occupied) × (length links ≡ length links₀) × (Linked (take i occupied) marks links)
 
 abbrev μ-loop : tie.MeasureT-loop
-μ-loop groups marks₀ i₀ marks i = length groups - i
+μ-loop occupied marks₀ links₀ i₀ marks links i = length occupied - i
 
 loop-holds : tie.Need-loop-holds Inv-loop μ-loop
-loop-holds c = (omega arith, c .pre, marked-none (c .args .groups .now) (c .args .marks .now) (c .pre))
+loop-holds c = (omega arith, refl, rw (c .before .before .before .pre .0) (linked-none (c .before .before .before .args .links .now)))
 
-add-mark : tie.Need-add-mark Inv-loop μ-loop
-add-mark c = search needs
+mul-mark : tie.Need-mul-mark Inv-loop μ-loop
+mul-mark c = search needs
 
-mul-at : tie.Need-mul-at Inv-loop μ-loop
-mul-at c = search needs
+shared-slice-read-mark : tie.Need-shared-slice-read-mark Inv-loop μ-loop
+shared-slice-read-mark c = search needs
 
-shared-slice-read-at : tie.Need-shared-slice-read-at Inv-loop μ-loop
-shared-slice-read-at c = search needs
-
-cast-marks : tie.Need-cast-marks Inv-loop μ-loop
-cast-marks c = search needs
-
-mul-marks : tie.Need-mul-marks Inv-loop μ-loop
-mul-marks c = search needs
-
-slice-write-marks : tie.Need-slice-write-marks Inv-loop μ-loop
-slice-write-marks c = search needs
+mark-requires : tie.Need-mark-requires Inv-loop μ-loop
+mark-requires c κs =
+    let l = c .before .before .before .before .loop in
+    (l .inv .2 .long, omega (arith, l .inv .1, c .before .before .before .before .before .before .before .before .pre .1), omega (arith, c .before .before .before .before .before .before .before .before .pre .2))
 
 add-i : tie.Need-add-i Inv-loop μ-loop
 add-i c = search needs
@@ -47,18 +41,26 @@ loop-less c = search needs
 
 loop-again : tie.Need-loop-again Inv-loop μ-loop
 loop-again c =
-    let l = c .before .before .loop in
-    (omega arith, length-set (l .marks) _ _ ∙ l .inv .1, marked-on (c .before .before .before .args .groups .now) (l .marks) (l .i) _ (omega arith) (omega arith) (l .inv .2))
+    let l = c .before .before .before .before .before .before .before .before .before .loop in
+    let gs = c .before .before .before .before .before .before .before .before .before .before .before .before .before .args .occupied .now in
+    let b : l .i < length gs = omega arith in
+    let s = linked-then (take (l .i) gs) (l .marks) (l .links) _ _ (getD gs (l .i) 0) (l .i) (sym (length-take-le (l .i) gs (omega arith))) (omega (arith, l .inv .1, c .before .before .before .before .before .before .before .before .before .before .before .before .before .pre .1)) (l .inv .2) (c .before .before .before .before .mark .ensures) in
+    (omega arith, s .0 ∙ l .inv .1, rw (add-one (l .i), take-suc gs (l .i) 0 b) (s .1))
 
 same-length : tie.Need-same-length Inv-loop μ-loop
-same-length c = search needs
+same-length c =
+    let z = length-replicate {A = ℕ} 4096 0 in
+    c .before .loop .inv .2 .long ∙ sym (rw (c .before .before .before .before .before .pre .0) z)
+
+same-length-2 : tie.Need-same-length-2 Inv-loop μ-loop
+same-length-2 c = c .before .loop .inv .1
 
 returns : tie.Need-returns Inv-loop μ-loop
 returns c =
     let l = c .before .loop in
-    let gs = c .before .before .args .groups .now in
+    let gs = c .before .before .before .before .before .args .occupied .now in
     let z : l .i ≡ length gs = omega arith in
-    subst (λ (xs : List ℕ). Marked xs (l .marks)) (ap (λ (n : ℕ). take n gs) z ∙ take-length gs) (l .inv .2)
+    subst (λ (xs : List ℕ). Linked xs (l .marks) (l .links)) (ap (λ (n : ℕ). take n gs) z ∙ take-length gs) (l .inv .2)
 
 pub mark-groups-spec : {M : Type 1} → statement M
 mark-groups-spec =
@@ -67,14 +69,12 @@ mark-groups-spec =
     Inv-loop
     μ-loop
     loop-holds
-    add-mark
-    mul-at
-    shared-slice-read-at
-    cast-marks
-    mul-marks
-    slice-write-marks
+    mul-mark
+    shared-slice-read-mark
+    mark-requires
     add-i
     loop-less
     loop-again
     same-length
+    same-length-2
     returns)
