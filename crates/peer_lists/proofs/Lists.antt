@@ -1,12 +1,12 @@
 -- What a list has from a place on; the candidate at a place, and whether those from a place on are valid.
 -- Assumes nothing.
 use mathlib.Core.Path.{_≡_, _∙_, refl, sym, ap}
-use mathlib.Core.List.{List, [], _∷_}
-use mathlib.Core.Bool.{true, false}
+use mathlib.Core.List.{List, [], _∷_, _++_}
+use mathlib.Core.Bool.{Bool, true, false, _&&_, and-true, and-assoc}
 use Prim.Native.Nat.{ℕ, zero, suc, _+_, _*_, _/_, _≤_, _<_}
 use native.Mathlib.Omega.{arith}
 use native.Mathlib.Numerals.{add-one}
-use lib.ListN.{length, take, drop, getD}
+use lib.ListN.{length, take, drop, getD, take-append-drop}
 use lib.Seq.{drop-cons, drop-drop}
 use Rattle.peer_lists.specs.Candidate.{valid}
 use Rattle.peer_lists.specs.Candidates.{cut, candidatesOf, allValid}
@@ -50,3 +50,26 @@ module _ (all : List (List ℕ)) (i : ℕ) where
 
   pub valid-done : length all ≤ i → allValid (drop i all) ≡ true
   valid-done h = rw (ended all i h)
+
+-- a list of candidates a part at a time
+valid-append : (xs ys : List (List ℕ)) → allValid (xs ++ ys) ≡ (allValid xs && allValid ys)
+valid-append [] ys = refl
+valid-append (x ∷ xs) ys = ap (λ (b : Bool). valid x && b) (valid-append xs ys) ∙ sym (and-assoc (valid x) (allValid xs) (allValid ys))
+
+module _ (all : List (List ℕ)) (i k : ℕ) where
+  parted : allValid (drop i all) ≡ (allValid (take k (drop i all)) && allValid (drop (i + k) all))
+  parted = ap allValid (sym (take-append-drop k (drop i all))) ∙ valid-append (take k (drop i all)) (drop k (drop i all)) ∙ rw (drop-drop k i all)
+
+  pub part-valid : allValid (take k (drop i all)) ≡ true → allValid (drop i all) ≡ allValid (drop (i + k) all)
+  part-valid e = parted ∙ rw e
+
+  pub part-not : allValid (take k (drop i all)) ≡ false → allValid (drop i all) ≡ false
+  part-not e = parted ∙ rw e
+
+-- four candidates
+pub four : (all : List (List ℕ)) (i : ℕ) → i + 4 ≤ length all
+    → allValid (take 4 (drop i all)) ≡ (valid (getD all i []) && (valid (getD all (i + 1) []) && (valid (getD all (i + 2) []) && valid (getD all (i + 3) []))))
+four all i h =
+    let a : i + 1 + 1 ≡ i + 2 = omega arith in
+    let b : i + 2 + 1 ≡ i + 3 = omega arith in
+    rw (ahead all i [] (omega arith), ahead all (i + 1) [] (omega arith), a, ahead all (i + 2) [] (omega arith), b, ahead all (i + 3) [] (omega arith), and-true (valid (getD all (i + 3) [])))

@@ -1,16 +1,13 @@
--- `all_candidates` is `allValid`: the candidates from `i` on decide.
+-- `all_candidates` is `allValid`: the candidates from `i` on decide, four at a time.
 -- Assumes nothing.
 use borrow.Author.Tests.{not-true, not-false}
-use Rattle.peer_lists.specs.Candidate.{valid}
-use Rattle.peer_lists.specs.Candidates.{allValid, candidatesOf}
 use borrow.Author.Needs.{needs}
-use mathlib.Core.Path.{_≡_, _∙_, refl, sym, ap}
-use mathlib.Core.Bool.{true, false}
-use mathlib.Core.List.{[]}
+use mathlib.Core.Path.{_≡_, _∙_, refl, sym}
 use Prim.Native.Nat.{_-_, _/_, _≤_}
 use native.Mathlib.Omega.{arith}
-use lib.ListN.{length, drop, getD}
-use Rattle.peer_lists.proofs.Lists.{valid-on, valid-not, valid-done, length-candidates}
+use lib.ListN.{length, drop}
+use Rattle.peer_lists.specs.Candidates.{allValid, candidatesOf}
+use Rattle.peer_lists.proofs.Lists.{part-valid, part-not}
 use Rattle.peer_lists.proofs.all_candidates.Statement.{statement}
 use Rattle.peer_lists.proofs.all_candidates.Tie as tie
 
@@ -23,18 +20,17 @@ abbrev μ-loop : tie.MeasureT-loop
 loop-holds : tie.Need-loop-holds Inv-loop μ-loop
 loop-holds c = (omega arith, refl, refl)
 
-candidate-at-requires : tie.Need-candidate-at-requires Inv-loop μ-loop
-candidate-at-requires c κs = search needs
+sub-loop : tie.Need-sub-loop Inv-loop μ-loop
+sub-loop c = search needs
 
-is-candidate-requires : tie.Need-is-candidate-requires Inv-loop μ-loop
-is-candidate-requires c κs = search needs
+four-candidates-requires : tie.Need-four-candidates-requires Inv-loop μ-loop
+four-candidates-requires c κs = search needs
 
 returns : tie.Need-returns Inv-loop μ-loop
 returns c =
-    let l = c .before .before .before .before .loop in
-    let all = candidatesOf (c .before .before .before .before .before .before .args .candidates .now) in
-    let e : valid (getD all (l .i) []) ≡ false = ap valid (sym (c .before .before .candidate-at .ensures .0)) ∙ sym (c .before .is-candidate .ensures) ∙ not-true _ (c .if1 .taken) in
-    sym (l .inv .2 ∙ valid-not all (l .i) (omega (arith, length-candidates (c .before .before .before .before .before .before .args .candidates .now))) e)
+    let l = c .before .before .before .loop in
+    let all = candidatesOf (c .before .before .before .before .before .args .candidates .now) in
+    sym (l .inv .2 ∙ part-not all (l .i) 4 (sym (c .before .four-candidates .ensures) ∙ not-true _ (c .if1 .taken)))
 
 add-i : tie.Need-add-i Inv-loop μ-loop
 add-i c = search needs
@@ -44,16 +40,15 @@ loop-less c = search needs
 
 loop-again : tie.Need-loop-again Inv-loop μ-loop
 loop-again c =
-    let l = c .before .before .before .before .loop in
-    let all = candidatesOf (c .before .before .before .before .before .before .args .candidates .now) in
-    let e : valid (getD all (l .i) []) ≡ true = ap valid (sym (c .before .before .candidate-at .ensures .0)) ∙ sym (c .before .is-candidate .ensures) ∙ not-false _ (c .if1 .left) in
-    (omega arith, l .inv .1, l .inv .2 ∙ valid-on all (l .i) (omega (arith, length-candidates (c .before .before .before .before .before .before .args .candidates .now))) e)
+    let l = c .before .before .before .loop in
+    let all = candidatesOf (c .before .before .before .before .before .args .candidates .now) in
+    (omega arith, l .inv .1, l .inv .2 ∙ part-valid all (l .i) 4 (sym (c .before .four-candidates .ensures) ∙ not-false _ (c .if1 .left)))
+
+candidates-from-requires : tie.Need-candidates-from-requires Inv-loop μ-loop
+candidates-from-requires c κs = search needs
 
 returns-2 : tie.Need-returns-2 Inv-loop μ-loop
-returns-2 c =
-    let l = c .before .loop in
-    let a = c .before .before .before .args in
-    sym (l .inv .2 ∙ valid-done (candidatesOf (a .candidates .now)) (l .i) (omega (arith, length-candidates (a .candidates .now))))
+returns-2 c = c .candidates-from .ensures ∙ sym (c .before .before .loop .inv .2)
 
 pub all-candidates-spec : {M : Type 1} → statement M
 all-candidates-spec =
@@ -62,10 +57,11 @@ all-candidates-spec =
     Inv-loop
     μ-loop
     loop-holds
-    candidate-at-requires
-    is-candidate-requires
+    sub-loop
+    four-candidates-requires
     returns
     add-i
     loop-less
     loop-again
+    candidates-from-requires
     returns-2)
