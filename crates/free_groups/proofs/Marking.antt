@@ -14,7 +14,7 @@ use lib.ListN.{length, take, drop, getD, set, replicate, length-set, length-appe
 use lib.Seq.{take-suc, take-suc-set, take-take, take-append-le, take-append-add, take-append-seam, length-take-le, getD-take, getD-drop, getD-append-seam, getD-append-add, getD-set-same, getD-set-other}
 use Rattle.peer_lists.specs.Groups.{has}
 use Rattle.peer_lists.proofs.Scans.{has-append}
-use Rattle.free_groups.specs.models.Marks.{Last, Linked}
+use Rattle.free_groups.specs.models.Marks.{Last, Put, Linked}
 
 -- ---- the last group with a mark
 
@@ -103,6 +103,29 @@ pub linked-then : (used marks links marks′ links′ : List ℕ) (x n : ℕ) �
     → (marks′ ≡ set marks (x % 4096) (n + 1)) × (links′ ≡ set links n (getD marks (x % 4096) 0)) → (length links′ ≡ length links) × (Linked (used ++ (x ∷ [])) marks′ links′)
 linked-then used marks links marks′ links′ x n q room s e =
     rw (e .0, e .1, q) (length-set links (length used) (getD marks (x % 4096) 0), linked-more used marks links x s (omega arith))
+
+-- the next occupied group
+pub linked-put : (gs marks links marks′ : List ℕ) (i r : ℕ) → i < length gs → length gs ≤ length links → Linked (take i gs) marks links → Put marks (getD gs i 0) i r marks′
+    → (length (set links i r) ≡ length links) × (Linked (take (i + 1) gs) marks′ (set links i r))
+linked-put gs marks links marks′ i r l room s p =
+    let t = linked-then (take i gs) marks links marks′ (set links i r) (getD gs i 0) i (sym (length-take-le i gs (omega arith))) (omega arith) s (p .put, ap (set links i) (p .stood)) in
+    (t .0, rw (add-one i, take-suc gs i 0 l) (t .1))
+
+-- the next four, whose links follow each other
+module _ (gs m0 m1 m2 m3 m4 links : List ℕ) (i a b c d : ℕ) (h : i + 4 ≤ length gs) (room : length gs ≤ length links) (s : Linked (take i gs) m0 links) where
+  pub linked-four : Put m0 (getD gs i 0) i a m1 → Put m1 (getD gs (i + 1) 0) (i + 1) b m2 → Put m2 (getD gs (i + 2) 0) (i + 2) c m3
+      → Put m3 (getD gs (i + 3) 0) (i + 3) d m4 → Linked (take (i + 4) gs) m4 (set (set (set (set links i a) (i + 1) b) (i + 2) c) (i + 3) d)
+  linked-four p q t u =
+      let e : i + 1 + 1 ≡ i + 2 = omega arith in
+      let f : i + 2 + 1 ≡ i + 3 = omega arith in
+      let k : i + 3 + 1 ≡ i + 4 = omega arith in
+      let x = linked-put gs m0 links m1 i a (omega arith) room s p in
+      let y = linked-put gs m1 (set links i a) m2 (i + 1) b (omega arith) (omega (arith, x .0)) (x .1) q in
+      let y′ = subst (λ (n : ℕ). Linked (take n gs) m2 (set (set links i a) (i + 1) b)) e (y .1) in
+      let z = linked-put gs m2 (set (set links i a) (i + 1) b) m3 (i + 2) c (omega arith) (omega (arith, x .0, y .0)) y′ t in
+      let z′ = subst (λ (n : ℕ). Linked (take n gs) m3 (set (set (set links i a) (i + 1) b) (i + 2) c)) f (z .1) in
+      let w = linked-put gs m3 (set (set (set links i a) (i + 1) b) (i + 2) c) m4 (i + 3) d (omega arith) (omega (arith, x .0, y .0, z .0)) z′ u in
+      subst (λ (n : ℕ). Linked (take n gs) m4 (set (set (set (set links i a) (i + 1) b) (i + 2) c) (i + 3) d)) k (w .1)
 
 -- a group that is taken
 pub linked-taken : (occupied groups marks links marks′ links′ : List ℕ) (taken x : ℕ) → taken < length groups → length occupied + taken < length links

@@ -10,7 +10,7 @@ ghost use Prim.Native.Nat.{_+_, _%_, _≤_, _<_};
 ghost use lib.ListN.{length, replicate, take, getD, set};
 ghost use Rattle.peer_lists.specs.Groups.{has};
 ghost use Rattle.free_groups.specs.Free.{free};
-ghost use Rattle.free_groups.specs.models.Marks.{Linked};
+ghost use Rattle.free_groups.specs.models.Marks.{Put, Linked};
 use peer_lists::Scan;
 use peer_lists::contains;
 
@@ -32,15 +32,52 @@ pub fn no_links() -> [u16; 8192]
     [0; 8192]
 }
 
+// Puts the mark of a group that has a place among the used groups, and hands back the one that stood there.
+fn put_mark(group: u64, place: usize, marks: &mut [u16]) -> u16
+    requires { ⌜ (length (now marks) ≡ 4096) × (place < 8192) ⌝ }
+    ensures { λ r. ⌜ Put (now (marks .entry)) group place r (now (marks .exit)) ⌝ }
+{
+    let at = (group % 4096) as usize;
+    let before = marks[at];
+    let count = place + 1;
+    marks[at] = count as u16;
+    before
+}
+
 // Marks a group that has a place behind the used groups, and links the place to the one that was marked there before.
 pub fn mark(group: u64, place: usize, marks: &mut [u16], links: &mut [u16])
     requires { ⌜ (length (now marks) ≡ 4096) × (place < length (now links)) × (place < 8192) ⌝ }
     ensures { λ r. ⌜ (now (marks .exit) ≡ set (now (marks .entry)) (group % 4096) (place + 1)) × (now (links .exit) ≡ set (now (links .entry)) place (getD (now (marks .entry)) (group % 4096) 0)) ⌝ }
 {
-    let at = (group % 4096) as usize;
-    links[place] = marks[at];
-    let count = place + 1;
-    marks[at] = count as u16;
+    links[place] = put_mark(group, place, marks);
+}
+
+// Marks four occupied groups, from a place on. Their links are put one behind the other, which takes less time than in turn with the
+// marks.
+fn mark_four(occupied: &[u64], i: usize, marks: &mut [u16], links: &mut [u16])
+    requires { ⌜ (i + 4 ≤ length (now occupied)) × (length (now occupied) ≤ length (now links)) × (length (now occupied) ≤ 4096) × (Linked (take i (now occupied)) (now marks) (now links)) ⌝ }
+    ensures { λ r. ⌜ Linked (take (i + 4) (now (occupied .entry))) (now (marks .exit)) (now (links .exit)) ⌝ }
+{
+    let first = put_mark(occupied[i], i, marks);
+    let second = put_mark(occupied[i + 1], i + 1, marks);
+    let third = put_mark(occupied[i + 2], i + 2, marks);
+    let fourth = put_mark(occupied[i + 3], i + 3, marks);
+    links[i] = first;
+    links[i + 1] = second;
+    links[i + 2] = third;
+    links[i + 3] = fourth;
+}
+
+// Marks the occupied groups from a place on, one by one.
+fn mark_from(occupied: &[u64], from: usize, marks: &mut [u16], links: &mut [u16])
+    requires { ⌜ (from ≤ length (now occupied)) × (length (now occupied) ≤ length (now links)) × (length (now occupied) ≤ 4096) × (Linked (take from (now occupied)) (now marks) (now links)) ⌝ }
+    ensures { λ r. ⌜ Linked (now (occupied .entry)) (now (marks .exit)) (now (links .exit)) ⌝ }
+{
+    let mut i = from;
+    while i < occupied.len() {
+        mark(occupied[i], i, marks, links);
+        i += 1;
+    }
 }
 
 // Marks the occupied groups.
@@ -49,10 +86,11 @@ pub fn mark_groups(occupied: &[u64], marks: &mut [u16], links: &mut [u16])
     ensures { λ r. ⌜ Linked (now (occupied .entry)) (now (marks .exit)) (now (links .exit)) ⌝ }
 {
     let mut i: usize = 0;
-    while i < occupied.len() {
-        mark(occupied[i], i, marks, links);
-        i += 1;
+    while 4 <= occupied.len() - i {
+        mark_four(occupied, i, marks, links);
+        i += 4;
     }
+    mark_from(occupied, i, marks, links);
 }
 
 // The used group at a place.

@@ -1,15 +1,12 @@
 -- `mark_groups` links the occupied groups: those before `i` are linked.
 -- Assumes nothing.
 use borrow.Author.Needs.{needs}
-use mathlib.Core.Path.{_≡_, _∙_, refl, sym, ap, subst}
-use mathlib.Core.List.{List}
-use Prim.Native.Nat.{ℕ, _+_, _-_, _≤_, _<_}
+use mathlib.Core.Path.{_≡_, _∙_, refl, sym}
+use Prim.Native.Nat.{ℕ, _-_, _≤_}
 use native.Mathlib.Omega.{arith}
-use native.Mathlib.Numerals.{add-one}
-use lib.ListN.{length, take, getD, length-replicate}
-use lib.Seq.{take-length, take-suc, length-take-le}
+use lib.ListN.{length, take, length-replicate}
 use Rattle.free_groups.specs.models.Marks.{Linked}
-use Rattle.free_groups.proofs.Marking.{linked-none, linked-then}
+use Rattle.free_groups.proofs.Marking.{linked-none}
 use Rattle.free_groups.proofs.mark_groups.Statement.{statement}
 use Rattle.free_groups.proofs.mark_groups.Tie as tie
 
@@ -22,16 +19,13 @@ abbrev μ-loop : tie.MeasureT-loop
 loop-holds : tie.Need-loop-holds Inv-loop μ-loop
 loop-holds c = (omega arith, refl, rw (c .before .before .before .pre .0) (linked-none (c .before .before .before .args .links .now)))
 
-mul-mark : tie.Need-mul-mark Inv-loop μ-loop
-mul-mark c = search needs
+sub-loop : tie.Need-sub-loop Inv-loop μ-loop
+sub-loop c = search needs
 
-shared-slice-read-mark : tie.Need-shared-slice-read-mark Inv-loop μ-loop
-shared-slice-read-mark c = search needs
-
-mark-requires : tie.Need-mark-requires Inv-loop μ-loop
-mark-requires c κs =
-    let l = c .before .before .before .before .loop in
-    (l .inv .2 .long, omega (arith, l .inv .1, c .before .before .before .before .before .before .before .before .pre .1), omega (arith, c .before .before .before .before .before .before .before .before .pre .2))
+mark-four-requires : tie.Need-mark-four-requires Inv-loop μ-loop
+mark-four-requires c κs =
+    let l = c .before .before .before .loop in
+    (omega arith, omega (arith, l .inv .1, c .before .before .before .before .before .before .before .pre .1), c .before .before .before .before .before .before .before .pre .2, l .inv .2)
 
 add-i : tie.Need-add-i Inv-loop μ-loop
 add-i c = search needs
@@ -41,26 +35,24 @@ loop-less c = search needs
 
 loop-again : tie.Need-loop-again Inv-loop μ-loop
 loop-again c =
-    let l = c .before .before .before .before .before .before .before .before .before .loop in
-    let gs = c .before .before .before .before .before .before .before .before .before .before .before .before .before .args .occupied .now in
-    let b : l .i < length gs = omega arith in
-    let s = linked-then (take (l .i) gs) (l .marks) (l .links) _ _ (getD gs (l .i) 0) (l .i) (sym (length-take-le (l .i) gs (omega arith))) (omega (arith, l .inv .1, c .before .before .before .before .before .before .before .before .before .before .before .before .before .pre .1)) (l .inv .2) (c .before .before .before .before .mark .ensures) in
-    (omega arith, s .0 ∙ l .inv .1, rw (add-one (l .i), take-suc gs (l .i) 0 b) (s .1))
+    let l = c .before .before .before .before .before .before .before .before .loop in
+    (omega arith, c .before .before .before .before .mark-four .kept .1 .1 .1 .0 ∙ l .inv .1, c .before .before .before .before .mark-four .ensures)
+
+mark-from-requires : tie.Need-mark-from-requires Inv-loop μ-loop
+mark-from-requires c κs =
+    let l = c .before .before .before .loop in
+    (l .inv .0, omega (arith, l .inv .1, c .before .before .before .before .before .before .before .pre .1), c .before .before .before .before .before .before .before .pre .2, l .inv .2)
 
 same-length : tie.Need-same-length Inv-loop μ-loop
 same-length c =
     let z = length-replicate {A = ℕ} 4096 0 in
-    c .before .loop .inv .2 .long ∙ sym (rw (c .before .before .before .before .before .pre .0) z)
+    c .before .before .before .before .mark-from .ensures .long ∙ sym (rw (c .before .before .before .before .before .before .before .before .before .before .before .before .pre .0) z)
 
 same-length-2 : tie.Need-same-length-2 Inv-loop μ-loop
-same-length-2 c = c .before .loop .inv .1
+same-length-2 c = c .before .before .before .before .mark-from .kept .1 .1 .1 .0 ∙ c .before .before .before .before .before .before .before .before .loop .inv .1
 
 returns : tie.Need-returns Inv-loop μ-loop
-returns c =
-    let l = c .before .loop in
-    let gs = c .before .before .before .before .before .args .occupied .now in
-    let z : l .i ≡ length gs = omega arith in
-    subst (λ (xs : List ℕ). Linked xs (l .marks) (l .links)) (ap (λ (n : ℕ). take n gs) z ∙ take-length gs) (l .inv .2)
+returns c = c .before .before .before .before .mark-from .ensures
 
 pub mark-groups-spec : {M : Type 1} → statement M
 mark-groups-spec =
@@ -69,12 +61,12 @@ mark-groups-spec =
     Inv-loop
     μ-loop
     loop-holds
-    mul-mark
-    shared-slice-read-mark
-    mark-requires
+    sub-loop
+    mark-four-requires
     add-i
     loop-less
     loop-again
+    mark-from-requires
     same-length
     same-length-2
     returns)
