@@ -1,4 +1,4 @@
-use crate::{ip16_for_lookup, AsMap, Refusal, MAX_CANDIDATES};
+use crate::{AsMap, Refusal, MAX_CANDIDATES};
 use corbastrigo_sys as sys;
 use std::collections::HashSet;
 use std::net::{IpAddr, SocketAddr};
@@ -6,10 +6,16 @@ use std::net::{IpAddr, SocketAddr};
 /// A candidate as the calls take it: family 4 or 6, a zero, 16 address bytes, the port big-endian.
 pub type Candidate = [u8; 20];
 
-fn candidate(addr: SocketAddr) -> Candidate {
+/// The address is one number until it is written, an IPv4 address that of its mapped form: a pick packs thousands of them, and put together
+/// from single bytes each takes several times as long.
+fn candidate(addr: &SocketAddr) -> Candidate {
+    let (family, ip) = match addr {
+        SocketAddr::V4(v4) => (4, 0xffff_0000_0000 | u128::from(v4.ip().to_bits())),
+        SocketAddr::V6(v6) => (6, v6.ip().to_bits()),
+    };
     let mut bytes = [0; 20];
-    bytes[0] = if addr.is_ipv4() { 4 } else { 6 };
-    bytes[2..18].copy_from_slice(&ip16_for_lookup(addr.ip()));
+    bytes[0] = family;
+    bytes[2..18].copy_from_slice(&ip.to_be_bytes());
     bytes[18..].copy_from_slice(&addr.port().to_be_bytes());
     bytes
 }
@@ -35,7 +41,7 @@ fn map_or_none(asmap: Option<&AsMap>) -> (u8, &[u8]) {
 /// # Ok::<(), Refusal>(())
 /// ```
 pub fn netgroup(addr: SocketAddr, asmap: Option<&AsMap>) -> u64 {
-    let bytes = candidate(addr);
+    let bytes = candidate(&addr);
     let (has_map, map) = map_or_none(asmap);
     let mut group = 0;
     // The candidate is well formed and the map within the limit, so nothing is left to refuse.
@@ -54,7 +60,7 @@ pub fn netgroup(addr: SocketAddr, asmap: Option<&AsMap>) -> u64 {
 /// assert_eq!(prefix_group(Ipv6Addr::new(0x2001, 0xdb8, 0, 0, 0, 0, 0, 1).into()), 0x2001_0db8);
 /// ```
 pub fn prefix_group(ip: IpAddr) -> u64 {
-    let bytes = candidate(SocketAddr::new(ip, 0));
+    let bytes = candidate(&SocketAddr::new(ip, 0));
     let mut group = 0;
     // The candidate is well formed, so nothing is left to refuse.
     // SAFETY: the candidate gives its own pointer and length; the number is borrowed for the call and is nobody else's.
@@ -109,7 +115,8 @@ impl Pick {
 /// ```
 pub fn pick(ranked: &[SocketAddr], max: usize, occupied_groups: &HashSet<u64>, asmap: Option<&AsMap>) -> Result<Pick, Refusal> {
     // One past the limit is enough for the refusal.
-    let candidates: Vec<u8> = ranked.iter().take(MAX_CANDIDATES + 1).flat_map(|&addr| candidate(addr)).collect();
+    let packed: Vec<Candidate> = ranked.iter().take(MAX_CANDIDATES + 1).map(candidate).collect();
+    let candidates = packed.as_flattened();
     let occupied: Vec<u64> = occupied_groups.iter().copied().take(MAX_CANDIDATES + 1).collect();
     let (has_map, map) = map_or_none(asmap);
     let room = max.min(ranked.len()).min(MAX_CANDIDATES);
@@ -161,4 +168,21 @@ pub fn select_diverse(
 ) -> Result<Vec<SocketAddr>, Refusal> {
     let picked = pick(ranked, max, occupied_groups, asmap)?;
     Ok(picked.places.iter().map(|&place| ranked[usize::from(place)]).collect())
+}
+
+#[cfg(test)]
+mod tests {
+    use super::*;
+
+    #[test]
+    fn a_candidate_is_its_family_a_zero_the_address_and_the_port() {
+        let of = |peer: &str| candidate(&peer.parse().expect("a peer"));
+        let four = [4, 0, 0, 0, 0, 0, 0, 0, 0, 0, 0, 0, 0xff, 0xff, 1, 2, 3, 4, 0x20, 0x8d];
+        assert_eq!(of("1.2.3.4:8333"), four);
+        let mut mapped = four;
+        mapped[0] = 6;
+        assert_eq!(of("[::ffff:1.2.3.4]:8333"), mapped);
+        let six = [6, 0, 0x20, 1, 0xd, 0xb8, 5, 6, 7, 8, 9, 10, 11, 12, 13, 14, 15, 16, 0xff, 0xfe];
+        assert_eq!(of("[2001:db8:506:708:90a:b0c:d0e:f10]:65534"), six);
+    }
 }
