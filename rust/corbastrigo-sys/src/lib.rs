@@ -139,6 +139,15 @@ extern "C" {
         map_len: usize,
         group: *mut u64,
     ) -> u8;
+    /// Looks for a group among the occupied ones: whether there is a hit, the first one's place, and how many groups were read.
+    pub fn corbastrigo_scan_occupied(
+        group: u64,
+        occupied: *const u64,
+        occupied_len: usize,
+        found: *mut u8,
+        place: *mut usize,
+        groups_read: *mut usize,
+    ) -> u8;
     /// Picks candidates spread over groups; a map is checked first.
     pub fn corbastrigo_select_diverse(
         candidates: *const u8,
