@@ -25,7 +25,7 @@
  * links into a program, position-independent or not, and into a shared object. Of the C library it wants memset and nothing else.
  *
  * Each call is proved to meet its contract for every input (docs/PROMISES.md). The promises stand on what this page asks of pointers.
- * What it says of refused lengths, NULL, threads, stack and platform is not proved; it is tested (ctest/).
+ * What it says of refused lengths, groups behind a hit, NULL, threads, stack and platform is not proved; it is tested (ctest/).
  */
 #ifndef CORBASTRIGO_H
 #define CORBASTRIGO_H
@@ -115,7 +115,7 @@ CORBASTRIGO_INLINE const char *corbastrigo_reason(uint8_t answer) {
 /* More stack than a call takes, than a comparison of two maps takes, and than a pick takes. */
 #define CORBASTRIGO_STACK_BYTES 2048
 #define CORBASTRIGO_COMPARE_STACK_BYTES 4096
-#define CORBASTRIGO_PICK_STACK_BYTES 10240
+#define CORBASTRIGO_PICK_STACK_BYTES 26624
 
 /* Opcodes. */
 #define CORBASTRIGO_RETURN 0
@@ -219,6 +219,11 @@ uint8_t corbastrigo_netgroup(const uint8_t *candidate, size_t candidate_len, uin
  * then, and nothing tells it from the 0 of a walk that differed before a DEFAULT. Refusals 13, then with a map 1. */
 uint8_t corbastrigo_netgroup_unchecked(const uint8_t *candidate, size_t candidate_len, uint8_t has_map, const uint8_t *map,
                                        size_t map_len, uint64_t *group);
+
+/* Looks for a group among the occupied ones, from the first on and up to the first hit: no group behind that is read. Writes whether there
+ * is a hit, 1 or 0; its place from 0, or 0 where there is none; and how many groups were read: that place plus one, or all. Refusal 12. */
+uint8_t corbastrigo_scan_occupied(uint64_t group, const uint64_t *occupied, size_t occupied_len, uint8_t *found, size_t *place,
+                                  size_t *groups_read);
 
 /* Picks up to `max` of the candidates, which are ranked: first, in order, each whose group is neither occupied nor taken; then, in
  * order, those unequal to every pick. `candidates_len` is in bytes, the other lengths in elements. Writes the places of the picks, the
