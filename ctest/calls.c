@@ -322,6 +322,39 @@ static void groups(void) {
     IS(group, 2);
 }
 
+/* A scan that is done, and all that it writes. */
+static void scanned(uint64_t group, const uint64_t *occupied, size_t len, uint8_t hit, size_t at, size_t count) {
+    uint8_t found = BEFORE(1);
+    size_t place = BEFORE(2), groups_read = BEFORE(3);
+    IS(corbastrigo_scan_occupied(group, occupied, len, &found, &place, &groups_read), 0);
+    IS(found, hit);
+    IS(place, at);
+    IS(groups_read, count);
+}
+
+/* Two of the six groups stand twice: the first place counts. The refused list has a hit at its first. */
+static void scan(void) {
+    static const uint64_t six[6] = {9, 7, 6, 7, 6, UINT64_MAX};
+    static uint64_t many[CORBASTRIGO_MAX_CANDIDATES + 1];
+    uint8_t found = BEFORE(1);
+    size_t place = BEFORE(2), groups_read = BEFORE(3);
+    for (size_t i = 0; i <= CORBASTRIGO_MAX_CANDIDATES; i++)
+        many[i] = i + 1;
+    IS(corbastrigo_scan_occupied(1, many, CORBASTRIGO_MAX_CANDIDATES + 1, &found, &place, &groups_read), CORBASTRIGO_TOO_MANY);
+    IS(found, BEFORE(1));
+    IS(place, BEFORE(2));
+    IS(groups_read, BEFORE(3));
+    scanned(9, six, 6, 1, 0, 1);
+    scanned(7, six, 6, 1, 1, 2);
+    scanned(6, six, 6, 1, 2, 3);
+    scanned(UINT64_MAX, six, 6, 1, 5, 6);
+    scanned(UINT64_MAX, six, 5, 0, 0, 5);
+    scanned(0, six, 6, 0, 0, 6);
+    scanned(9, six, 0, 0, 0, 0);
+    scanned(CORBASTRIGO_MAX_CANDIDATES, many, CORBASTRIGO_MAX_CANDIDATES, 1, CORBASTRIGO_MAX_CANDIDATES - 1, CORBASTRIGO_MAX_CANDIDATES);
+    scanned(CORBASTRIGO_MAX_CANDIDATES + 1, many, CORBASTRIGO_MAX_CANDIDATES, 0, 0, CORBASTRIGO_MAX_CANDIDATES);
+}
+
 /* Four peers, two of group 2, one of 1, one of 0; group 0 is occupied, so the last is a fill. By their prefixes none is occupied. */
 static void pick(selection *call, uint8_t of_a_refused_map) {
     uint8_t peers[80];
@@ -397,6 +430,7 @@ int main(void) {
     comparisons();
     comparison_bytes();
     groups();
+    scan();
     pick(corbastrigo_select_diverse, CORBASTRIGO_MAP_ENDS);
     pick(corbastrigo_select_diverse_unchecked, 0);
     filters();

@@ -1,12 +1,15 @@
-/* What the header says of the memory that is lent to a call: a length that is refused is not followed, an empty list may be NULL, and what
- * a call has no answer for remains. Exits with 1 where an answer differs from the one written here, and dies where barred memory is
- * looked at. */
+/* What the header says of the memory that is lent to a call: a length that is refused is not followed, an empty list may be NULL, what a
+ * call has no answer for remains, and a scan reads no group behind the first hit. Exits with 1 where an answer differs from the one
+ * written here, and dies where barred memory is looked at. */
 #define _DEFAULT_SOURCE
 #include "cases.h"
 #include <sys/mman.h>
 
 /* In the middle of pages that can be neither read nor written. */
 static void *barred;
+
+/* The end of pages that can be, where others begin that cannot. */
+static uint64_t *end_of_lent;
 
 static decode *const decoders[] = {corbastrigo_decode_type, corbastrigo_decode_asn, corbastrigo_decode_match, corbastrigo_decode_jump};
 static selection *const selections[] = {corbastrigo_select_diverse, corbastrigo_select_diverse_unchecked};
@@ -78,6 +81,17 @@ static void wrong_lists(selection *call) {
 #undef PICK
 }
 
+/* Barred memory as more groups than may be occupied. */
+static void too_many_groups(size_t len) {
+    small = BEFORE(1);
+    size = BEFORE(2);
+    total = BEFORE(3);
+    IS(corbastrigo_scan_occupied(0, barred, len, &small, &size, &total), CORBASTRIGO_TOO_MANY);
+    IS(small, BEFORE(1));
+    IS(size, BEFORE(2));
+    IS(total, BEFORE(3));
+}
+
 static void refused_lengths(void) {
     uint8_t list[256];
     long_map(CORBASTRIGO_MAX_MAP_BYTES + 1);
@@ -86,6 +100,8 @@ static void refused_lengths(void) {
     wrong_length(SIZE_MAX);
     wrong_lists(corbastrigo_select_diverse);
     wrong_lists(corbastrigo_select_diverse_unchecked);
+    too_many_groups(CORBASTRIGO_MAX_CANDIDATES + 1);
+    too_many_groups(SIZE_MAX);
     IS(corbastrigo_addrv2_skip_relay(7, barred, 513, 8333, &small), CORBASTRIGO_RELAY_LENGTH);
     IS(corbastrigo_unpack(two_prefixes, 35, barred, 255, &size), CORBASTRIGO_OUTPUT_TOO_SHORT);
     IS(corbastrigo_unpack(two_prefixes, 35, list, 256, &size), 0);
@@ -125,6 +141,16 @@ static void empty_comparisons(void) {
     IS(size, 0);
 }
 
+static void empty_scan(void) {
+    small = BEFORE(1);
+    size = BEFORE(2);
+    total = BEFORE(3);
+    IS(corbastrigo_scan_occupied(0, NULL, 0, &small, &size, &total), 0);
+    IS(small, 0);
+    IS(size, 0);
+    IS(total, 0);
+}
+
 static void empty_lists(void) {
     for (size_t i = 0; i < 4; i++)
         IS(decoders[i](NULL, 0, 0, &number, &size), CORBASTRIGO_CUT);
@@ -148,6 +174,7 @@ static void empty_lists(void) {
     IS(corbastrigo_netgroup(peer, 20, 1, NULL, 0, &group), CORBASTRIGO_MAP_ENDS);
     IS(corbastrigo_netgroup_unchecked(peer, 20, 1, NULL, 0, &group), 0);
     IS(group, 0);
+    empty_scan();
     for (size_t i = 0; i < 2; i++) {
         IS(selections[i](NULL, 0, NULL, 0, 4, 0, NULL, 0, NULL, 0, NULL, 0, &total, &first, &examined, &instructions), 0);
         IS(total, 0);
@@ -187,17 +214,46 @@ static void picks(void) {
     IS(group, 0);
 }
 
+/* A scan of groups that end where memory can be read no further, the last of them the first hit. The length tells of more: the header does
+ * not allow that, and here it is done on purpose, since the call says how many groups it read, and a group more would be barred. */
+static void scan_to(size_t place, size_t len) {
+    uint64_t *const occupied = end_of_lent - (place + 1);
+    for (size_t i = 0; i < place; i++)
+        occupied[i] = i;
+    occupied[place] = UINT64_MAX;
+    small = BEFORE(1);
+    size = total = BEFORE(2);
+    IS(corbastrigo_scan_occupied(UINT64_MAX, occupied, len, &small, &size, &total), 0);
+    IS(small, 1);
+    IS(size, place);
+    IS(total, place + 1);
+}
+
+/* A call may look at several groups in a turn. So the hit falls on each place of a turn, and the length leaves each number of groups that a
+ * turn could take behind it, and as many as there may be. */
+static void groups_behind_a_hit(void) {
+    for (size_t place = 0; place <= 40; place++) {
+        for (size_t more = 0; more <= 16; more++)
+            scan_to(place, place + 1 + more);
+        scan_to(place, CORBASTRIGO_MAX_CANDIDATES);
+    }
+    scan_to(CORBASTRIGO_MAX_CANDIDATES - 2, CORBASTRIGO_MAX_CANDIDATES);
+    scan_to(CORBASTRIGO_MAX_CANDIDATES - 1, CORBASTRIGO_MAX_CANDIDATES);
+}
+
 int main(void) {
-    char *pages = mmap(NULL, 3 << 16, PROT_NONE, MAP_PRIVATE | MAP_ANONYMOUS, -1, 0);
-    if (pages == MAP_FAILED)
+    char *pages = mmap(NULL, 4 << 16, PROT_NONE, MAP_PRIVATE | MAP_ANONYMOUS, -1, 0);
+    if (pages == MAP_FAILED || mprotect(pages, 1 << 16, PROT_READ | PROT_WRITE) != 0)
         return 2;
-    barred = pages + (1 << 16);
+    end_of_lent = (uint64_t *)(pages + (1 << 16));
+    barred = pages + (2 << 16);
     make();
     refused_lengths();
     no_map(barred, 3);
     no_map(NULL, 0);
     empty_lists();
     picks();
+    groups_behind_a_hit();
     printf("memory lent to calls: %d answers, %d wrong\n", checks, failures);
     return failures != 0;
 }

@@ -51,6 +51,7 @@ static const uint8_t embedded[16] = {0, 0x64, 0xff, 0x9b, 0, 1, 0, 0, 0, 0, 0, 0
     call(prefix_group, OF_OTHERS, (peers, 20, &wide))                                                                                  \
     call(netgroup, OF_OTHERS, (peers, 20, 1, MAP, &wide))                                                                              \
     call(netgroup_unchecked, OF_OTHERS, (peers, 20, 1, MAP, &wide))                                                                    \
+    call(scan_occupied, OF_OTHERS, (UINT64_MAX, occupied, CORBASTRIGO_MAX_CANDIDATES, &small, &size, &total))                          \
     call(select_diverse, OF_A_PICK, PICK)                                                                                              \
     call(select_diverse_unchecked, OF_A_PICK, PICK)                                                                                    \
     call(clearnet_unroutable, OF_OTHERS, (embedded, 16, &small))                                                                       \
