@@ -23,6 +23,7 @@ pub mod filters;
 pub mod listing;
 pub mod picks;
 pub mod records;
+pub mod scan;
 
 pub use codes::instruction;
 

@@ -8,12 +8,13 @@ use oracle::document::{self, Refusal, Verdict, Walk};
 use oracle::filters::message;
 use oracle::listing::{self, Prefix, RECORD};
 use oracle::picks::{self, By, Groups, Pick};
+use oracle::scan::{self, Scan};
 use oracle::{netaddr, records};
 use std::net::{IpAddr, Ipv4Addr, Ipv6Addr};
 use std::panic;
 
 /// The calls in the order in which the program counts them: letter and name.
-pub const CALLS: [(char, &str); 22] = [
+pub const CALLS: [(char, &str); 23] = [
     ('d', "code read"),
     ('e', "code written"),
     ('i', "instruction read"),
@@ -33,6 +34,7 @@ pub const CALLS: [(char, &str); 22] = [
     ('h', "group, map unchecked"),
     ('s', "pick"),
     ('t', "pick, map unchecked"),
+    ('o', "occupied scan"),
     ('m', "IPv4-mapped address"),
     ('f', "unroutable"),
     ('r', "relay skip"),
@@ -76,6 +78,11 @@ fn output(written: &[u8], room: usize) -> Vec<u8> {
 
 fn le<const N: usize>(numbers: impl IntoIterator<Item = [u8; N]>) -> Vec<u8> {
     numbers.into_iter().flatten().collect()
+}
+
+/// Groups, eight bytes each.
+fn numbers(groups: &[u64]) -> Vec<u8> {
+    le(groups.iter().map(|group| group.to_le_bytes()))
 }
 
 impl List {
@@ -257,10 +264,20 @@ impl List {
             groups[..pick.groups.len()].copy_from_slice(&pick.groups);
             le([pick.places.len() as u64, pick.groups.len() as u64, pick.examined as u64, pick.instructions].map(u64::to_le_bytes))
         });
-        let taken = le(occupied.iter().map(|group| group.to_le_bytes()));
-        let outputs = [le(places.iter().map(|place| place.to_le_bytes())), le(groups.iter().map(|group| group.to_le_bytes()))];
+        let taken = numbers(occupied);
+        let outputs = [le(places.iter().map(|place| place.to_le_bytes())), numbers(&groups)];
         let max = word::number(max as u64);
         self.add(call, &[&[has_map(by)], list, &taken, &max, map, &answered(&answer), &outputs[0], &outputs[1]]);
+        made
+    }
+
+    /// Whether there is a hit, 1 or 0, its place, 0 where there is none, and how many groups were read.
+    pub fn scan(&mut self, group: u64, occupied: &[u64]) -> Result<Scan, Refusal> {
+        let made = scan::scan(group, occupied);
+        let answer = made.map(|Scan { hit, read }| {
+            [&[u8::from(hit.is_some())][..], &le([hit.unwrap_or(0), read].map(usize::to_le_bytes))].concat()
+        });
+        self.add('o', &[&word::number(group), &numbers(occupied), &answered(&answer)]);
         made
     }
 

@@ -41,6 +41,7 @@
 //!                                        pick: total, first, examined, instructions (8 each). Occupied groups have 8 bytes each, as GROUPS
 //!                                        have, and PLACES 2
 //!     t (the same)                       pick with a map that is not checked
+//!     o GROUP OCCUPIED ANSWER            occupied scan: whether there is a hit (1), its place or 0 (8), how many groups were read (8)
 //!     m IPV4 ADDRESS                     IPv4-mapped address
 //!     f ADDRESS ANSWER                   unroutable (1)
 //!     r NETWORK PORT ADDRESS ANSWER      relay skip (1)
@@ -57,6 +58,7 @@ mod listings;
 mod peers;
 mod programs;
 mod sample;
+mod scans;
 mod tables;
 mod word;
 
@@ -78,6 +80,7 @@ fn main() {
     listings::cases(&mut list, &mut tables);
     comparisons::cases(&mut list, &mut tables);
     peers::cases(&mut list, &mut tables);
+    scans::cases(&mut list, &mut tables);
     addresses::cases(&mut list, &mut tables);
     sample::cases(&mut list);
     let words: Vec<String> = std::env::args().skip(1).collect();

@@ -1,7 +1,7 @@
 //! The tables that teach something, as text: docs/tables/NAME.txt.
 
 /// Each with its first lines, which say what a row holds.
-const TABLES: [(&str, &str); 9] = [
+const TABLES: [(&str, &str); 10] = [
     (
         "codes",
         "The code of the first and the last value of each size of the four rows (document 01, Codes), and of values around each row.\n\
@@ -51,6 +51,11 @@ const TABLES: [(&str, &str); 9] = [
         "Picks of at most so many (max) of these candidates, with or without a map, some groups being occupied.\n\
          Candidates by what, max: picks in all, those of the first pass, candidates examined, instructions of their walks;\n\
          the places picked; the groups of the first pass.",
+    ),
+    (
+        "scan",
+        "Where a group stands among the occupied groups (document 02, CR 2): the scan goes from the first on and ends at the first hit.\n\
+         Group, groups: the hit's place from 0, or none, and how many groups were read, that place plus one or all; or the refusal.",
     ),
     (
         "filters",
