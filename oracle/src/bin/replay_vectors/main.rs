@@ -53,6 +53,7 @@
 mod addresses;
 mod codes;
 mod comparisons;
+mod crowded;
 mod list;
 mod listings;
 mod peers;
@@ -80,6 +81,7 @@ fn main() {
     listings::cases(&mut list, &mut tables);
     comparisons::cases(&mut list, &mut tables);
     peers::cases(&mut list, &mut tables);
+    crowded::cases(&mut list);
     scans::cases(&mut list, &mut tables);
     addresses::cases(&mut list, &mut tables);
     sample::cases(&mut list);
