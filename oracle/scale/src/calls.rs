@@ -109,6 +109,13 @@ pub fn netgroup(call: sys::Netgroup, candidate: &[u8], has_map: u8, map: &[u8]) 
     (answer, group)
 }
 
+pub fn scan_occupied(group: u64, occupied: &[u64]) -> (u8, u8, usize, usize) {
+    let (mut found, mut place, mut read) = (BEFORE, BEFORE_SIZE, BEFORE_SIZE);
+    let answer =
+        unsafe { sys::corbastrigo_scan_occupied(group, occupied.as_ptr(), occupied.len(), &mut found, &mut place, &mut read) };
+    (answer, found, place, read)
+}
+
 /// A pick as it is asked for.
 pub struct Asked<'a> {
     pub candidates: &'a [u8],

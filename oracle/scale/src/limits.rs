@@ -161,7 +161,8 @@ fn longest_lists(tally: &mut Tally, random: &mut Random) {
     for count in [4_095, 4_096, 4_097] {
         let candidates: Vec<u8> = (0..count).flat_map(candidate).collect();
         for taken in [0, 4_096, 4_097] {
-            let occupied: Vec<u64> = (0..taken as u64).map(|i| (0x2000_0000 + i) | (i % 2) << 40).collect();
+            // Two in three are groups of candidates, the first and the last of 4,096 among them.
+            let occupied: Vec<u64> = (0..taken as u64).map(|i| (0x2000_0000 + i) | u64::from(i % 3 == 1) << 40).collect();
             for max in [0, 1, 125, 4_096, usize::MAX] {
                 let room = max.min(count);
                 picks::all_ways(tally, &candidates, &occupied, max, &map, [room, room]);

@@ -6,12 +6,14 @@
 mod calls;
 mod changes;
 mod codes;
+mod crowded;
 mod filters;
 mod limits;
 mod listing;
 mod picks;
 mod programs;
 mod safe;
+mod scans;
 mod tally;
 
 use maps::Random;
@@ -58,7 +60,7 @@ fn main() {
     println!("scale: seed {seed}");
     let mut tally = Tally::default();
     type Part = fn(&mut Tally, &mut Random, Form);
-    let parts: [(&str, Part); 10] = [
+    let parts: [(&str, Part); 12] = [
         ("codes", codes::run),
         ("short strings", programs::short_strings),
         ("random bytes", programs::random_bytes),
@@ -69,6 +71,8 @@ fn main() {
         ("safe crate", safe::run),
         ("limits", limits::run),
         ("two maps", changes::run),
+        ("occupied scans", scans::run),
+        ("crowded picks", crowded::run),
     ];
     for (number, (name, part)) in parts.into_iter().enumerate() {
         let (start, before) = (Instant::now(), tally.compared);
