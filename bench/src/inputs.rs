@@ -140,3 +140,46 @@ pub fn occupied(count: usize, group_of: impl Fn(SocketAddr) -> u64) -> HashSet<u
     }
     groups
 }
+
+/// Eight groups, and candidates of no other: addresses near eight drawn ones.
+pub fn of_eight_groups(count: usize, group_of: impl Fn(SocketAddr) -> u64) -> (Vec<u64>, Vec<SocketAddr>) {
+    let random = &mut Random(SEED + 4);
+    let peer = |address: u32| SocketAddr::new(IpAddr::from(Ipv4Addr::from(address)), 8333);
+    let (mut groups, mut firsts) = (Vec::new(), Vec::new());
+    while groups.len() < 8 {
+        let address = random.next() as u32;
+        let group = group_of(peer(address));
+        if !groups.contains(&group) {
+            groups.push(group);
+            firsts.push(address);
+        }
+    }
+    let mut near = HashSet::new();
+    let mut candidates = Vec::new();
+    while candidates.len() < count {
+        let address = firsts[random.below(8) as usize] ^ random.below(1 << 16) as u32;
+        if groups.contains(&group_of(peer(address))) && near.insert(address) {
+            candidates.push(peer(address));
+        }
+    }
+    (groups, candidates)
+}
+
+/// Groups that are not among those given, in the order in which they were drawn: those of other candidates.
+pub fn other_groups(count: usize, met: &HashSet<u64>, group_of: impl Fn(SocketAddr) -> u64) -> Vec<u64> {
+    let random = &mut Random(SEED + 5);
+    let mut known = met.clone();
+    let mut groups = Vec::new();
+    while groups.len() < count {
+        let met = group_of(SocketAddr::new(IpAddr::from(ipv4(random)), 8333));
+        // As above: a map may have fewer groups than are asked for.
+        groups.extend([met, 1 << 40 | random.below(1 << 30)].into_iter().find(|&group| known.insert(group)));
+    }
+    groups
+}
+
+/// Candidates of different groups by their prefixes, which all are the same modulo 4,096.
+pub fn alike(count: usize) -> Vec<SocketAddr> {
+    let address = |i: usize| Ipv6Addr::from(u128::from(i as u32 * 4_096) << 96);
+    (0..count).map(|i| SocketAddr::new(IpAddr::from(address(i)), 8333)).collect()
+}

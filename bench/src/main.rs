@@ -2,7 +2,7 @@
 //! in docs/BENCHMARKS.md.
 //!
 //!     bench                     every part
-//!     bench PART...             some of: check walk records list compare codes group pick filters growth
+//!     bench PART...             some of: check walk records list compare codes group pick scan filters growth
 //!     bench --count CALL BYTES  one call of ours alone, many times, for a tool that counts instructions: check, walk, unpack,
 //!                               pack, list or compare
 #[allow(dead_code)]
@@ -27,6 +27,7 @@ mod error {
 mod compare;
 mod inputs;
 mod measure;
+mod occupied;
 mod parts;
 
 fn main() {
@@ -35,7 +36,7 @@ fn main() {
     if let ["--count", call, bytes] = words[..] {
         return parts::count(call, bytes.parse().expect("a number of bytes"));
     }
-    let all = ["check", "walk", "records", "list", "compare", "codes", "group", "pick", "filters", "growth"];
+    let all = ["check", "walk", "records", "list", "compare", "codes", "group", "pick", "scan", "filters", "growth"];
     let chosen = if words.is_empty() { &all[..] } else { &words };
     for part in chosen {
         match *part {
@@ -47,6 +48,7 @@ fn main() {
             "codes" => parts::codes(),
             "group" => parts::group(),
             "pick" => parts::pick(),
+            "scan" => occupied::scan(),
             "filters" => parts::filters(),
             "growth" => parts::growth(),
             other => panic!("no part is named {other}"),

@@ -1,7 +1,7 @@
 //! The parts of the benchmark.
 use crate::asmap::{self, AsMap};
 use crate::measure::{alone, best, both, head, row};
-use crate::{compare, inputs, netaddr, netgroup};
+use crate::{compare, inputs, netaddr, netgroup, occupied};
 use corbastrigo_sys as sys;
 use maps::Random;
 use std::collections::HashSet;
@@ -204,7 +204,7 @@ pub fn group() {
 }
 
 /// The lists of a pick as the library takes them.
-struct Lists {
+pub struct Lists {
     candidates: Vec<u8>,
     occupied: Vec<u64>,
     picks: Vec<u16>,
@@ -212,17 +212,17 @@ struct Lists {
 }
 
 impl Lists {
-    fn new(ranked: &[SocketAddr], occupied: &HashSet<u64>, max: usize) -> Lists {
+    pub fn new(ranked: &[SocketAddr], occupied: impl IntoIterator<Item = u64>, max: usize) -> Lists {
         let room = max.min(ranked.len());
         Lists {
             candidates: inputs::packed(ranked),
-            occupied: occupied.iter().copied().collect(),
+            occupied: occupied.into_iter().collect(),
             picks: vec![0; room],
             groups: vec![0; room],
         }
     }
 
-    fn pick(&mut self, call: sys::SelectDiverse, max: usize, map: Option<&[u8]>) -> usize {
+    pub fn pick(&mut self, call: sys::SelectDiverse, max: usize, map: Option<&[u8]>) -> usize {
         let bytes = map.unwrap_or(&[]);
         let (mut total, mut first, mut examined, mut instructions) = (0, 0, 0, 0);
         let answer = unsafe {
@@ -250,11 +250,11 @@ impl Lists {
     }
 }
 
-fn original_pick(ranked: &[SocketAddr], max: usize, occupied: &HashSet<u64>, map: Option<&AsMap>) -> Vec<SocketAddr> {
+pub fn original_pick(ranked: &[SocketAddr], max: usize, occupied: &HashSet<u64>, map: Option<&AsMap>) -> Vec<SocketAddr> {
     netgroup::select_diverse(ranked, max, occupied, |addr| netgroup::netgroup(addr, map))
 }
 
-fn picked(ranked: &[SocketAddr], lists: &Lists, total: usize) -> Vec<SocketAddr> {
+pub fn picked(ranked: &[SocketAddr], lists: &Lists, total: usize) -> Vec<SocketAddr> {
     lists.picks[..total].iter().map(|&place| ranked[usize::from(place)]).collect()
 }
 
@@ -269,7 +269,7 @@ pub fn pick() {
                 for max in [8, 125] {
                     let ranked = inputs::candidates(count);
                     let occupied = inputs::occupied(taken, |addr| netgroup::netgroup(addr, asmap));
-                    let mut lists = Lists::new(&ranked, &occupied, max);
+                    let mut lists = Lists::new(&ranked, occupied.iter().copied(), max);
                     let ours = asmap.map(|_| &bytes[..]);
                     let total = lists.pick(sys::corbastrigo_select_diverse_unchecked, max, ours);
                     assert_eq!(picked(&ranked, &lists, total), original_pick(&ranked, max, &occupied, asmap));
@@ -282,11 +282,12 @@ pub fn pick() {
             }
         }
     }
+    occupied::picks(&bytes, &map);
     head("Pick that checks its map on every call, beside the original's check and pick", "us a pick");
     for max in [8, 125] {
         let ranked = inputs::candidates(1_000);
         let occupied = inputs::occupied(300, |addr| netgroup::netgroup(addr, Some(&map)));
-        let mut lists = Lists::new(&ranked, &occupied, max);
+        let mut lists = Lists::new(&ranked, occupied.iter().copied(), max);
         let times = both(
             || keep(lists.pick(sys::corbastrigo_select_diverse, max, Some(&bytes))),
             || {
@@ -344,18 +345,23 @@ pub fn growth() {
         println!("| list | {count} records, {} bytes | {:.0} us | {:.2} ns a record |", map.len(), time / 1e3, time / count);
     }
     compare::growth();
-    for (count, taken) in [(512, 512), (1_024, 1_024), (2_048, 2_048), (4_096, 4_096)] {
-        let ranked = inputs::candidates(count);
-        // Groups that no candidate has, so that every one of them is compared.
-        let occupied: HashSet<u64> = (0..taken).map(|i| (1 << 40) + i).collect();
-        let mut lists = Lists::new(&ranked, &occupied, count);
-        let call = sys::corbastrigo_select_diverse_unchecked;
-        let time = best(&alone(|| keep(lists.pick(call, count, None))));
-        let product = count as f64 * taken as f64;
+    pick_growth();
+}
+
+/// The most that a pick can cost by its groups: all are the same modulo 4,096, so that marks and links do not tell them apart, and none is met
+/// twice. So each candidate's is compared with every occupied one and with those that were taken before.
+fn pick_growth() {
+    for count in [512, 1_024, 2_048, 4_096] {
+        let ranked = inputs::alike(count);
+        let occupied = (0..count as u64).map(|i| (1 << 40) + 4_096 * i);
+        let mut lists = Lists::new(&ranked, occupied, count);
+        let time = best(&alone(|| keep(lists.pick(sys::corbastrigo_select_diverse_unchecked, count, None))));
+        assert!(lists.groups.iter().copied().eq((0..count as u64).map(|i| 4_096 * i)), "every group is taken");
+        let compared = count as f64 * (count as f64 + (count as f64 - 1.0) / 2.0);
         println!(
-            "| pick | {count} candidates, {taken} occupied, max {count} | {:.0} us | {:.3} ns for candidates × occupied |",
+            "| pick, groups that share a mark | {count} candidates, {count} occupied, max {count} | {:.0} us | {:.3} ns a group compared |",
             time / 1e3,
-            time / product
+            time / compared
         );
     }
 }
