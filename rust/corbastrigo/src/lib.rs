@@ -4,7 +4,8 @@
 //! The names that a node calls are those of rbitcoin: [`AsMap`], [`netgroup()`], [`select_diverse`], [`prefix_group`],
 //! [`clearnet_unroutable`], [`addrv2_skip_relay`]. Beside them stands what is new: [`sanity_check`] with its reason, count and depth,
 //! [`sanity_check_stop`] with the bit at which it stops, [`interpret`] with its kind of end and counts, [`list`] with every prefix that a
-//! map tells apart, [`compare`] with every prefix that two maps send elsewhere, [`unpack`], [`pack`] and the [`codes`].
+//! map tells apart, [`compare`] with every prefix that two maps send elsewhere, [`unpack`], [`pack`], the [`codes`], and [`scan_occupied`]
+//! with the place of a group among the occupied ones.
 //!
 //! Nothing here panics or allocates more than a fixed multiple of what it is given. Every call answers, or refuses with a [`Refusal`]
 //! and has written nothing.
@@ -43,7 +44,7 @@ mod refusal;
 pub use changes::{changes, compare, compare_bytes, compare_into, first_change, Change, CompareError, CHANGE_BYTES};
 pub use map::{interpret, ip16_for_lookup, sanity_check, sanity_check_stop, AsMap, Check, End, Stop, Walk};
 pub use netaddr::{addrv2_skip_relay, clearnet_unroutable};
-pub use netgroup::{netgroup, pick, prefix_group, select_diverse, Candidate, Pick};
+pub use netgroup::{netgroup, pick, prefix_group, scan_occupied, select_diverse, Candidate, Pick, Scan};
 pub use open::OpenError;
 pub use prefixes::{list, list_bytes, list_into, prefixes, Prefix, PREFIX_BYTES};
 pub use records::{instructions, pack, pack_into, unpack, unpack_into, Instruction, RECORD_BYTES};

@@ -68,6 +68,38 @@ pub fn prefix_group(ip: IpAddr) -> u64 {
     group
 }
 
+/// A scan of the occupied groups for one group.
+#[derive(Clone, Copy, Debug, PartialEq, Eq)]
+#[non_exhaustive]
+pub struct Scan {
+    /// The first hit's place, from 0; none where the group is not occupied.
+    pub place: Option<usize>,
+    /// How many groups were read: that place plus one, or all.
+    pub read: usize,
+}
+
+/// Looks for a group among the occupied ones, in their order, and ends at the first hit. Refusal 12 over 4,096 occupied groups.
+///
+/// ```
+/// use corbastrigo::{scan_occupied, Refusal};
+///
+/// let occupied = [258, 772, 2056, 772];
+/// let scan = scan_occupied(772, &occupied)?;
+/// assert_eq!((scan.place, scan.read), (Some(1), 2));
+/// // To say of a group that it is not occupied takes all of them.
+/// let scan = scan_occupied(2057, &occupied)?;
+/// assert_eq!((scan.place, scan.read), (None, 4));
+/// # Ok::<(), Refusal>(())
+/// ```
+pub fn scan_occupied(group: u64, occupied: &[u64]) -> Result<Scan, Refusal> {
+    let (mut found, mut place, mut read) = (0, 0, 0);
+    // SAFETY: the slice gives its own pointer and length; the three numbers are borrowed for the call and are nobody else's.
+    let answer =
+        unsafe { sys::corbastrigo_scan_occupied(group, occupied.as_ptr(), occupied.len(), &mut found, &mut place, &mut read) };
+    Refusal::check(answer)?;
+    Ok(Scan { place: (found != 0).then_some(place), read })
+}
+
 /// A pick of peers.
 #[derive(Clone, Debug, PartialEq, Eq)]
 #[non_exhaustive]

@@ -290,6 +290,25 @@ fn peers_are_grouped_and_picked() {
 }
 
 #[test]
+fn occupied_groups_are_scanned_up_to_the_first_hit() {
+    let scanned = |group, occupied: &[u64]| {
+        let scan = scan_occupied(group, occupied).expect("within the limit");
+        (scan.place, scan.read)
+    };
+    let occupied = [258, 772, 2056, 772, u64::MAX, 0];
+    assert_eq!((scanned(258, &occupied), scanned(0, &occupied)), ((Some(0), 1), (Some(5), 6)));
+    assert_eq!(scanned(772, &occupied), (Some(1), 2), "it stands twice, and the first place counts");
+    assert_eq!((scanned(u64::MAX, &occupied), scanned(u64::MAX, &occupied[..4])), ((Some(4), 5), (None, 4)));
+    assert_eq!((scanned(2057, &occupied), scanned(u64::MAX >> 32, &occupied)), ((None, 6), (None, 6)));
+    assert_eq!(scanned(0, &[]), (None, 0));
+    let many: Vec<u64> = (0..=MAX_CANDIDATES as u64).collect();
+    let (last, most) = (MAX_CANDIDATES - 1, &many[..MAX_CANDIDATES]);
+    assert_eq!((scanned(last as u64, most), scanned(4_096, most)), ((Some(last), 4_096), (None, 4_096)));
+    // The number of groups is refused before any of them is looked at: the first would be a hit.
+    assert_eq!(number(scan_occupied(0, &many)), 12);
+}
+
+#[test]
 fn addresses_are_filtered() {
     assert!(clearnet_unroutable(ip("10.0.0.1")) && clearnet_unroutable(ip("::1")));
     assert!(!clearnet_unroutable(ip("8.8.8.8")) && !clearnet_unroutable(ip("fc00::1")));

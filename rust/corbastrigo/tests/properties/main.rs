@@ -13,6 +13,7 @@ mod packed;
 mod picks;
 mod prefixes;
 mod programs;
+mod scans;
 
 use corbastrigo::MAX_MAP_BYTES;
 use proptest::strategy::Strategy;
