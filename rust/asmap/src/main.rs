@@ -15,6 +15,7 @@ mod grouping;
 mod joined;
 mod list;
 mod listing;
+mod lists;
 mod man;
 mod network;
 mod out;

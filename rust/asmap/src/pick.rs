@@ -1,8 +1,9 @@
 //! `asmap pick`: peers from a ranked list, spread over groups. The library picks; this says what each was picked for.
 use crate::args::Pick as Asked;
 use crate::failure::{Failure, Outcome, Status};
-use crate::files::{self, checked_map, input_name};
+use crate::files::checked_map;
 use crate::grouping::Grouped;
+use crate::lists::{self, entries, group, SO_MANY_GROUPS};
 use crate::out::{Out, Style};
 use crate::words::{counted, grouped};
 use corbastrigo::{pick, AsMap, Pick, Refusal, MAX_CANDIDATES};
@@ -30,24 +31,6 @@ pub fn run(asked: &Asked, out: &mut Out) -> Outcome {
     Ok(Status::Done)
 }
 
-/// What the lines of a file hold. Blank lines, and what stands behind `#`, are left out.
-fn entries<T>(
-    path: &Path,
-    parse: impl Fn(&str) -> Result<T, Failure>,
-) -> Result<impl Iterator<Item = Result<T, Failure>>, Failure> {
-    let mut lines = files::lines(path)?;
-    Ok(std::iter::from_fn(move || loop {
-        let line = match lines.next()? {
-            Ok(line) => line,
-            Err(failure) => return Some(Err(failure)),
-        };
-        let entry = line.split('#').next().unwrap_or_default().trim();
-        if !entry.is_empty() {
-            return Some(parse(entry).map_err(|failure| lines.at_line(failure)));
-        }
-    }))
-}
-
 /// The candidates of a file. One past the limit is enough for the library to refuse them.
 fn candidates(path: &Path) -> Result<Vec<SocketAddr>, Failure> {
     entries(path, candidate)?.take(MAX_CANDIDATES + 1).collect()
@@ -73,17 +56,13 @@ fn occupied_groups(path: &Path) -> Result<HashSet<u64>, Failure> {
     Ok(groups)
 }
 
-fn group(word: &str) -> Result<u64, Failure> {
-    word.parse().map_err(|_| Failure::new(format!("{word:?} is no group; write its number in decimal, as `asmap group` shows it")))
-}
-
 /// The "no" to lists that are too long.
 fn refused(asked: &Asked, candidates: usize, refusal: Refusal) -> Failure {
     let (list, hint) = match &asked.occupied {
-        Some(occupied) if candidates <= MAX_CANDIDATES => (occupied.as_path(), "are so many peers connected?"),
+        Some(occupied) if candidates <= MAX_CANDIDATES => (occupied.as_path(), SO_MANY_GROUPS),
         _ => (asked.candidates.as_path(), "give the best of them"),
     };
-    Failure::No(format!("{} is refused, {}: {}; {hint}", input_name(list), refusal.number(), refusal.reason()))
+    lists::refused(list, refusal, hint)
 }
 
 /// A pick with what it was picked for.
