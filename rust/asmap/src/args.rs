@@ -100,6 +100,15 @@ pub enum Command {
     /// both files blank lines and what is behind `#` are left out. At most 4,096 candidates and 4,096 occupied groups are taken.
     #[command(after_help = "Example:\n  asmap pick --map node.asmap --max 8 --occupied groups.txt candidates.txt")]
     Pick(Pick),
+    /// Say whether groups are occupied, and at which place
+    ///
+    /// Each group is looked for among the occupied ones, in their order, up to the first hit. Places count from 0. The groups that were read
+    /// are counted: that place plus one, or all where there is no hit. In the file blank lines and what is behind `#` are left out. At most
+    /// 4,096 occupied groups are taken, one that stands twice as two.
+    ///
+    /// The exit status is 0 for occupied groups and for free ones alike.
+    #[command(after_help = "Example:\n  asmap scan --occupied groups.txt 258 772")]
+    Scan(Scan),
     /// Say which addresses can be no peer on the open Internet, and by which range
     ///
     /// The exit status is 0 for routable and unroutable addresses alike.
@@ -231,6 +240,16 @@ pub struct Pick {
     /// Groups that are occupied already, one a line, in decimal; `-` reads standard input
     #[arg(long, value_name = "FILE")]
     pub occupied: Option<PathBuf>,
+}
+
+#[derive(Args, Debug)]
+pub struct Scan {
+    /// Groups to look for, in decimal, as `asmap group` shows them
+    #[arg(required = true, value_name = "GROUP")]
+    pub groups: Vec<String>,
+    /// Groups that are occupied, one a line, in decimal; `-` reads standard input
+    #[arg(long, value_name = "FILE")]
+    pub occupied: PathBuf,
 }
 
 #[derive(Args, Debug)]

@@ -24,6 +24,7 @@ mod pick;
 mod ranges;
 mod replay;
 mod sampled;
+mod scan;
 mod tally;
 mod trace;
 mod undo_check;
@@ -51,6 +52,7 @@ fn run(command: Command, out: &mut Out) -> Outcome {
         Command::Pack(asked) => pack::run(&asked, out),
         Command::Group(asked) => group::run(&asked, out),
         Command::Pick(asked) => pick::run(&asked, out),
+        Command::Scan(asked) => scan::run(&asked, out),
         Command::Filter(asked) => filter::run(&asked, out),
         Command::Man => man::run(out),
         Command::Completions(asked) => man::completions(&asked, out),

@@ -34,6 +34,7 @@ fn folder() -> Folder {
         folder.write(name, fs::read(page_file("story").join(name)).expect("docs/story has it"));
     }
     folder.write("candidates.txt", "1.2.3.4:8333\n1.2.9.9:8333\n3.4.0.1:8333\n8.8.8.8:8333   # a resolver\n[2001:db8::1]:8333\n");
+    folder.write("occupied.txt", "258\n772   # 3.4.0.0/16\n2056\n772\n");
     folder
 }
 
@@ -96,7 +97,7 @@ fn fields(object: &Value) -> Vec<&String> {
 }
 
 /// The sections of the page that name the fields, and a command line that prints them.
-const OBJECTS: [(&[&str], &[&str]); 12] = [
+const OBJECTS: [(&[&str], &[&str]); 13] = [
     (&["check"], &["check", "two.asmap", "cut.asmap"]),
     (&["walk"], &["walk", "two.asmap", "1.2.3.4"]),
     (&["walk", "trace"], &["trace", "two.asmap", "1.2.3.4"]),
@@ -108,6 +109,7 @@ const OBJECTS: [(&[&str], &[&str]); 12] = [
     (&["pack"], &["pack", "-o", "new.asmap", "list.txt"]),
     (&["group"], &["group", "1.2.3.4"]),
     (&["pick"], &["pick", "--max", "4", "candidates.txt"]),
+    (&["scan"], &["scan", "--occupied", "occupied.txt", "772"]),
     (&["filter"], &["filter", "2002:a00:1::"]),
 ];
 

@@ -40,7 +40,7 @@ fn the_manual_page_has_what_the_help_has() {
     assert_eq!(page.status.code(), Some(0));
     let page = text(&page.stdout).replace("\\-", "-");
     for subcommand in
-        ["check", "walk", "trace", "list", "diff", "undo-check", "unpack", "pack", "group", "pick", "filter", "completions"]
+        ["check", "walk", "trace", "list", "diff", "undo-check", "unpack", "pack", "group", "pick", "scan", "filter", "completions"]
     {
         let help = answer(&[subcommand, "--help"]);
         let help = text(&help.stdout);
