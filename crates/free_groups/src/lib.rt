@@ -3,7 +3,7 @@
 //
 // A group is marked at its number modulo 4,096 with its place among the used groups, counted from 1. Of two groups with one mark the later
 // place stands there, and the link of that place leads to the earlier one. So whoever asks for a group begins at its mark and follows the
-// links: he meets all used groups that share the mark, and no other.
+// links: these lead to all used groups that share the mark, and to no other.
 ghost use mathlib.Core.Path.{_≡_};
 ghost use mathlib.Core.List.{_++_};
 ghost use Prim.Native.Nat.{_+_, _%_, _≤_, _<_};
