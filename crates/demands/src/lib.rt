@@ -23,6 +23,9 @@
 // Request 1, every prefix that a map tells apart: `lists`. The records written tile all addresses, and the one in which an address lies has the
 // number of its walk. The listing itself is not named: what is said is read off the bytes.
 //
+// Request 2, the occupied scan: `scanned` in `any_input`. Where it says found, the group stands at its place and at no place in front of it, and
+// that place plus one groups were read; where it does not, the group stands nowhere, and all were read.
+//
 // Two maps compared: `comparisons`. Where a comparison needs no byte, the two walks by any address end with the same number.
 pub mod any_input;
 pub mod comparisons;

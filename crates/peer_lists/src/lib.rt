@@ -1,5 +1,5 @@
-// Lists of peers: candidates and their validity, lists of them, lists of groups, and why a list is refused (document 01, Groups and
-// pick; What a call hands back). What the group calls and the pick share.
+// Lists of peers: candidates and their validity, lists of them, lists of groups, the occupied scan (document 02, CR 2), and why a list is
+// refused (document 01, Groups and pick; What a call hands back). What the group calls and the pick share.
 ghost use mathlib.Core.Path.{_≡_};
 ghost use mathlib.Core.List.{[]};
 ghost use Prim.Native.Nat.{_+_, _/_, _≤_, _<_};
