@@ -1,6 +1,6 @@
 //! Maps, addresses and lists of candidates, the same in every run.
 use maps::{rewrite, shapes, Random};
-use std::collections::HashSet;
+use std::collections::{BTreeSet, HashSet};
 use std::net::{IpAddr, Ipv4Addr, Ipv6Addr, SocketAddr};
 
 const SEED: u64 = 1;
@@ -154,7 +154,8 @@ pub fn of_eight_groups(count: usize, group_of: impl Fn(SocketAddr) -> u64) -> (V
             firsts.push(address);
         }
     }
-    let mut near = HashSet::new();
+    // A tree, and no hash set: hash sets of two types would share the hasher, which the compiler then no longer puts into the original's pick.
+    let mut near = BTreeSet::new();
     let mut candidates = Vec::new();
     while candidates.len() < count {
         let address = firsts[random.below(8) as usize] ^ random.below(1 << 16) as u32;
