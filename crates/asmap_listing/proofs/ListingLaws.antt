@@ -15,7 +15,8 @@ use Rattle.asmap_program.specs.declared.Verdict.the-variants.{Accepted}
 use Rattle.asmap_program.specs.Map.{RETURN, JUMP, MATCH, DEFAULT, endOf, targetOf, Fetched, Whole, Map, Laws, bitOf, lengthOf}
 use Rattle.asmap_program.specs.Check.{check}
 use Rattle.asmap_program.specs.Tree.{Tree, return, jump, match, default}
-use Rattle.asmap_program.specs.Walk.{Walked, Walker, Compared, Equal, Different, compared, enough, meeting, goOn, walkFrom, walk}
+use Rattle.asmap_program.specs.declared.Walker.{Walker}
+use Rattle.asmap_program.specs.Walk.{Walked, Compared, Equal, Different, compared, enough, meeting, goOn, walkFrom, walk}
 use Rattle.asmap_program.proofs.Tree.{program, forward}
 use Rattle.asmap_program.proofs.Demand.{walk-at}
 use Rattle.prefix_records.specs.Tiling.{Piece, Tiles, Block, JustOne, numberOf, Bits}
@@ -118,7 +119,7 @@ module _ (m : Map) where
 
 -- the number of a walk at a MATCH
 met : (k : Walker → Walked) (s : Walker) (i : Instruction) (c : Compared)
-    → goOn k (meeting s i c) .number ≡ numberAfter (s .default) (k (record { at = endOf i; used = s .used + lengthOf (i .operand); default = s .default }) .number) c
+    → goOn k (meeting s i c) .number ≡ numberAfter (s .default) (k (record { at = endOf i; used = s .used + lengthOf (i .operand); width = s .width; default = s .default }) .number) c
 met k s i Equal = refl
 met k s i (Different r) = refl
 
@@ -128,7 +129,7 @@ module _ (a : ℕ → ℕ) (bits : Bits a) (m : Map) (law : Laws m) (w : ℕ) wh
   Just r ps = JustOne w (numberOf a w) (r .number) ps
 
   abbrev Walk : ℕ → ℕ → ℕ → ℕ → Walked
-  Walk n at u d = walkFrom a m w n (record { at = at; used = u; default = d })
+  Walk n at u d = walkFrom a m n (record { at = at; used = u; width = w; default = d })
 
   just-jump : (c : ℕ) → c < 2 → (n at u d : ℕ) (i : Instruction) → m .fetch at ≡ Whole i → i .opcode ≡ JUMP → u < w → a u ≡ c
       → (xs ys : List Piece) → Block w (2 * numberOf a u) (suc u) xs → Block w (2 * numberOf a u + 1) (suc u) ys
@@ -147,7 +148,7 @@ module _ (a : ℕ → ℕ) (bits : Bits a) (m : Map) (law : Laws m) (w : ℕ) wh
       → Just (Walk (suc n) at u d) (sides d rest (lengthOf (i .operand)) (i .operand) (numberOf a u) u)
   unfolding enough
   just-match n at u d i f e h rest r j =
-      rw (walk-at a m law w n MATCH u d i f e, le-leb (u + lengthOf (i .operand)) w h, met (walkFrom a m w n) (record { at = at; used = u; default = d }) i (compared a (lengthOf (i .operand)) (i .operand) u))
+      rw (walk-at a m law w n MATCH u d i f e, le-leb (u + lengthOf (i .operand)) w h, met (walkFrom a m n) (record { at = at; used = u; width = w; default = d }) i (compared a (lengthOf (i .operand)) (i .operand) u))
       (sides-just a bits w d _ rest (lengthOf (i .operand)) (i .operand) u h r j)
 
   low : (u : ℕ) → a u ≡ 0 → numberOf a (suc u) ≡ 2 * numberOf a u

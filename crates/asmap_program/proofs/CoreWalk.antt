@@ -13,7 +13,8 @@ use Rattle.asmap_program.specs.declared.Previous.{Previous}
 use Rattle.asmap_program.specs.declared.Verdict.the-variants.{Accepted}
 use Rattle.asmap_program.specs.Map.{RETURN, JUMP, MATCH, DEFAULT, Map, Whole, endOf, targetOf, Laws, bitOf, lengthOf}
 use Rattle.asmap_program.specs.Check.{check}
-use Rattle.asmap_program.specs.Walk.{Walked, Walker, Compared, Equal, Different, compared, meeting, enough, goOn, walkFrom, walk}
+use Rattle.asmap_program.specs.declared.Walker.{Walker}
+use Rattle.asmap_program.specs.Walk.{Walked, Compared, Equal, Different, compared, meeting, enough, goOn, walkFrom, walk}
 use Rattle.asmap_program.specs.Core.{INVALID, Read, File, Pointer, CoreAnswer, Number, Interpreted, Moves, Gives, breakIf, orBreak, coreGoOn, coreCompared, coreMatched, coreTurn, coreWalk, coreInterpret, decodeOf, Reads, Joined}
 use Rattle.asmap_program.specs.Tree.{Tree, return, jump, match, default}
 use Rattle.asmap_program.proofs.Tree.{program, forward}
@@ -80,7 +81,7 @@ module _ (a : ℕ → ℕ) (w : ℕ) where
     same-matching : (s : Pointer) (t : Walker) (i : Instruction) → s .default ≡ t .default
         → (k : Pointer → CoreAnswer) (k′ : Walker → Walked)
         → k (record { pos = endOf i; bits = s .bits - lengthOf (i .operand); default = s .default })
-        ≡ Number (k′ (record { at = endOf i; used = t .used + lengthOf (i .operand); default = t .default }) .number)
+        ≡ Number (k′ (record { at = endOf i; used = t .used + lengthOf (i .operand); width = t .width; default = t .default }) .number)
         → (c : Compared) → coreGoOn k (coreMatched a w s (i .operand) (endOf i) (equal c)) ≡ Number (goOn k′ (meeting t i c) .number)
     same-matching s t i e k k′ h Equal = h
     same-matching s t i e k k′ h (Different x) = ap Number e
@@ -88,7 +89,7 @@ module _ (a : ℕ → ℕ) (w : ℕ) where
     same-number : {b : Previous} {at left end : ℕ} {is : List Instruction} → Tree m b at left end is
         → (n u d : ℕ) → end ≤ at + n → u + left ≡ w
         → coreWalk a w f n (record { pos = at; bits = left; default = d })
-        ≡ Number (walkFrom a m w n (record { at = at; used = u; default = d }) .number)
+        ≡ Number (walkFrom a m n (record { at = at; used = u; width = w; default = d }) .number)
     unfolding enough
     same-number t zero u d h k = let a′ = forward m law t in absurd (omega arith)
     same-number {left} (return {i} g e q) (suc n) u d h k =
@@ -109,7 +110,7 @@ module _ (a : ℕ → ℕ) (w : ℕ) where
         )
         (elim (eqb (a u) 1)
         as (λ (x : Bool). coreWalk a w f n (record { pos = cond x (targetOf i) (endOf i); bits = left - 1; default = d })
-        ≡ Number (walkFrom a m w n (record { at = cond x (targetOf i) (endOf i); used = suc u; default = d }) .number))
+        ≡ Number (walkFrom a m n (record { at = cond x (targetOf i) (endOf i); used = suc u; width = w; default = d }) .number))
         [ true ↦ same-number t′ n (suc u) d (omega arith) (omega arith) | false ↦ same-number t n (suc u) d (omega arith) (omega arith) ])
     same-number {left} (match {i} g e q p t) (suc n) u d h k =
         let s = law .stands _ _ g in
@@ -121,8 +122,8 @@ module _ (a : ℕ → ℕ) (w : ℕ) where
           le-ltb left (lengthOf (i .operand)) q,
           same-compared (lengthOf (i .operand)) (i .operand) u left k q,
         )
-        (same-matching (record { pos = _; bits = left; default = d }) (record { at = _; used = u; default = d }) i refl
-        (coreWalk a w f n) (walkFrom a m w n)
+        (same-matching (record { pos = _; bits = left; default = d }) (record { at = _; used = u; width = w; default = d }) i refl
+        (coreWalk a w f n) (walkFrom a m n)
         (same-number t n (u + lengthOf (i .operand)) d (omega arith) (omega arith))
         (compared a (lengthOf (i .operand)) (i .operand) u))
     same-number {left} (default {i} g e q t) (suc n) u d h k =

@@ -12,7 +12,8 @@ use borrow.Author.Tests.{eqb-false, eq-eqb, ne-eqb}
 use Rattle.asmap_program.specs.declared.Instruction.{Instruction}
 use Rattle.asmap_program.specs.declared.Kind.the-variants.{Differed, Aborted}
 use Rattle.asmap_program.specs.Map.{DEFAULT, Fetched, Whole, CutOpcode, CutOperand, Map, Laws, lengthOf}
-use Rattle.asmap_program.specs.Walk.{Walked, Walker, Turn, Goes, Stops, Compared, Equal, Different, compared, aborted, enough, meeting, turnWhole, turnOn, goOn, walkFrom, walk}
+use Rattle.asmap_program.specs.declared.Walker.{Walker}
+use Rattle.asmap_program.specs.Walk.{Walked, Turn, Goes, Stops, Compared, Equal, Different, compared, aborted, enough, meeting, turnWhole, turnOn, goOn, walkFrom, walk}
 use Rattle.asmap_program.specs.Demand.{defaultAfter, lastDefault, NoDefault}
 
 -- what the number of a walk from default d is
@@ -50,34 +51,34 @@ sets-meeting s i h Equal = kept i (s .default) h
 sets-meeting s i h (Different u) =
     record { differed = λ _. kept i (s .default) h; aborted = λ e. let z : _≡_ {A = ℕ} 0 1 = cc in absurd (omega arith) }
 
-module _ (address : ℕ → ℕ) (m : Map) (law : Laws m) (w : ℕ) where
-  sets-whole : (s : Walker) (i : Instruction) → i .opcode < 4 → (k : ℕ) → i .opcode ≡ k → Sets (s .default) (turnWhole address m w s i k)
+module _ (address : ℕ → ℕ) (m : Map) (law : Laws m) where
+  sets-whole : (s : Walker) (i : Instruction) → i .opcode < 4 → (k : ℕ) → i .opcode ≡ k → Sets (s .default) (turnWhole address m s i k)
   sets-whole s i l zero e =
       record { differed = λ q. let z : _≡_ {A = ℕ} 0 1 = cc in absurd (omega arith); aborted = λ q. let z : _≡_ {A = ℕ} 0 1 = cc in absurd (omega arith) }
   sets-whole s i l (suc zero) e = sets-enough _ s i _ (kept i (s .default) λ q. omega arith)
   sets-whole s i l (suc (suc zero)) e = sets-enough _ s i _ (sets-meeting s i (λ q. omega arith) (compared address (lengthOf (i .operand)) (i .operand) (s .used)))
   sets-whole s i l (suc (suc (suc n))) e = rw (eq-eqb (i .opcode) DEFAULT (omega arith))
 
-  sets : (s : Walker) (r : Fetched) → m .fetch (s .at) ≡ r → Sets (s .default) (turnOn address m w s r)
+  sets : (s : Walker) (r : Fetched) → m .fetch (s .at) ≡ r → Sets (s .default) (turnOn address m s r)
   sets s (Whole i) f = sets-whole s i (law .stands _ _ f .known) (i .opcode) refl
   sets s CutOpcode f = told-aborted (s .default) (s .used) []
   sets s (CutOperand op) f = told-aborted (s .default) (s .used) []
 
-  told : (f : ℕ) (s : Walker) → Told (s .default) (walkFrom address m w f s)
+  told : (f : ℕ) (s : Walker) → Told (s .default) (walkFrom address m f s)
   unfolding walkFrom
   told zero s = told-aborted (s .default) (s .used) []
-  told (suc f) s = goes-on (s .default) _ (λ s′. told f s′) (turnOn address m w s (m .fetch (s .at))) (sets s (m .fetch (s .at)) refl)
+  told (suc f) s = goes-on (s .default) _ (λ s′. told f s′) (turnOn address m s (m .fetch (s .at))) (sets s (m .fetch (s .at)) refl)
 
   -- A default holds until another DEFAULT is read: whatever was jumped over or left between, a walk that ends at a difference has the
   -- operand of the last DEFAULT that it read as its number, or 0 where it read none.
-  pub default-holds-until-another : walk address m w .kind ≡ Differed → walk address m w .number ≡ lastDefault (walk address m w .read)
+  pub default-holds-until-another : (w : ℕ) → walk address m w .kind ≡ Differed → walk address m w .number ≡ lastDefault (walk address m w .read)
   unfolding walk
-  default-holds-until-another = told (m .bits) _ .differed
+  default-holds-until-another w = told (m .bits) _ .differed
 
   -- an abort's number is 0; that a number is 0 shows no abort
-  pub aborted-gives-zero : walk address m w .kind ≡ Aborted → walk address m w .number ≡ 0
+  pub aborted-gives-zero : (w : ℕ) → walk address m w .kind ≡ Aborted → walk address m w .number ≡ 0
   unfolding walk
-  aborted-gives-zero = told (m .bits) _ .aborted
+  aborted-gives-zero w = told (m .bits) _ .aborted
 
 -- ---- every operand that a walk reads is from 1 on
 
@@ -115,26 +116,26 @@ from-on : (k : Walker → Walked) → ((s : Walker) → FromOne (k s .read)) →
 from-on k ih (Goes i s) h = from-cons i (k s .read) h (ih s)
 from-on k ih (Stops r) h = h
 
-module _ (address : ℕ → ℕ) (m : Map) (law : Laws m) (w : ℕ) where
-  from-whole : (s : Walker) (i : Instruction) → 1 ≤ i .operand → (k : ℕ) → TurnFromOne (turnWhole address m w s i k)
+module _ (address : ℕ → ℕ) (m : Map) (law : Laws m) where
+  from-whole : (s : Walker) (i : Instruction) → 1 ≤ i .operand → (k : ℕ) → TurnFromOne (turnWhole address m s i k)
   from-whole s i h zero = from-last i h
   from-whole s i h (suc zero) = from-enough _ s i _ h h
   from-whole s i h (suc (suc zero)) = from-enough _ s i _ h (from-meeting s i (compared address (lengthOf (i .operand)) (i .operand) (s .used)) h)
   from-whole s i h (suc (suc (suc n))) = h
 
-  from-turn : (s : Walker) (r : Fetched) → m .fetch (s .at) ≡ r → TurnFromOne (turnOn address m w s r)
+  from-turn : (s : Walker) (r : Fetched) → m .fetch (s .at) ≡ r → TurnFromOne (turnOn address m s r)
   from-turn s (Whole i) f = from-whole s i (law .stands _ _ f .from-one) (i .opcode)
   from-turn s CutOpcode f = from-none
   from-turn s (CutOperand op) f = from-none
 
-  from-walk : (f : ℕ) (s : Walker) → FromOne (walkFrom address m w f s .read)
+  from-walk : (f : ℕ) (s : Walker) → FromOne (walkFrom address m f s .read)
   unfolding walkFrom
   from-walk zero s = from-none
-  from-walk (suc f) s = from-on _ (λ s′. from-walk f s′) (turnOn address m w s (m .fetch (s .at))) (from-turn s (m .fetch (s .at)) refl)
+  from-walk (suc f) s = from-on _ (λ s′. from-walk f s′) (turnOn address m s (m .fetch (s .at))) (from-turn s (m .fetch (s .at)) refl)
 
-  pub reads-from-one : FromOne (walk address m w .read)
+  pub reads-from-one : (w : ℕ) → FromOne (walk address m w .read)
   unfolding walk
-  reads-from-one = from-walk (m .bits) _
+  reads-from-one w = from-walk (m .bits) _
 
 -- ---- what a number 0 means at a difference: no DEFAULT can have set it
 
@@ -159,11 +160,11 @@ zero-none d (i ∷ is) h e =
         pick j (inl s) = subst (λ (x : Instruction). x .opcode ≢ DEFAULT) (sym s) (eqb-false (i .opcode) DEFAULT q)
         pick j (inr p) = r .1 j p
 
-module _ (address : ℕ → ℕ) (m : Map) (law : Laws m) (w : ℕ) where
+module _ (address : ℕ → ℕ) (m : Map) (law : Laws m) where
   -- a difference has number 0 exactly where no DEFAULT was read
-  pub zero-when-no-default : walk address m w .kind ≡ Differed
+  pub zero-when-no-default : (w : ℕ) → walk address m w .kind ≡ Differed
       → (walk address m w .number ≡ 0 → NoDefault (walk address m w .read)) × (NoDefault (walk address m w .read) → walk address m w .number ≡ 0)
-  zero-when-no-default e =
+  zero-when-no-default w e =
       let d = default-holds-until-another address m law w e in
       let h = reads-from-one address m law w in
       (λ z. zero-none 0 (walk address m w .read) h (sym d ∙ z) .1, λ n. d ∙ none-kept 0 (walk address m w .read) n)

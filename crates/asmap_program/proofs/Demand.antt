@@ -18,7 +18,8 @@ use Rattle.asmap_program.specs.declared.Verdict.the-variants.{Accepted}
 use Rattle.asmap_program.specs.declared.Kind.the-variants.{Returned, Differed}
 use Rattle.asmap_program.specs.Map.{RETURN, JUMP, MATCH, DEFAULT, endOf, targetOf, Fetched, Whole, Map, Laws, lengthOf, bitOf}
 use Rattle.asmap_program.specs.Check.{isDefault, check, unpacked, afterMatch}
-use Rattle.asmap_program.specs.Walk.{Walked, Walker, Compared, Equal, Different, compared, enough, meeting, turnWhole, turnOn, push, goOn, walkFrom, walk}
+use Rattle.asmap_program.specs.declared.Walker.{Walker}
+use Rattle.asmap_program.specs.Walk.{Walked, Compared, Equal, Different, compared, enough, meeting, turnWhole, turnOn, push, goOn, walkFrom, walk}
 use Rattle.asmap_program.specs.Demand.{lastDefault, NoDefault, ZeroSays, Answers, EndsWith, Finishes, Walks}
 use Rattle.asmap_program.proofs.Length.{length-some}
 use Rattle.asmap_program.proofs.Default.{default-holds-until-another, FromOne, reads-from-one, zero-none}
@@ -95,18 +96,18 @@ module _ (address : ℕ → ℕ) where
   module _ (m : Map) (law : Laws m) (w : ℕ) where
     -- a turn at an instruction
     pub walk-at : (n k u d : ℕ) {at : ℕ} (i : Instruction) → m .fetch at ≡ Whole i → i .opcode ≡ k
-        → walkFrom address m w (suc n) (record { at = at; used = u; default = d })
-        ≡ goOn (walkFrom address m w n) (turnWhole address m w (record { at = at; used = u; default = d }) i k)
+        → walkFrom address m (suc n) (record { at = at; used = u; width = w; default = d })
+        ≡ goOn (walkFrom address m n) (turnWhole address m (record { at = at; used = u; width = w; default = d }) i k)
     unfolding walkFrom
     walk-at n k u d {at} i f e =
-        let s : Walker = record { at = at; used = u; default = d } in
-        ap (λ (r : Fetched). goOn (walkFrom address m w n) (turnOn address m w s r)) f
-        ∙ ap (λ (c : ℕ). goOn (walkFrom address m w n) (turnWhole address m w s i c)) e
+        let s : Walker = record { at = at; used = u; width = w; default = d } in
+        ap (λ (r : Fetched). goOn (walkFrom address m n) (turnOn address m s r)) f
+        ∙ ap (λ (c : ℕ). goOn (walkFrom address m n) (turnWhole address m s i c)) e
 
     -- a MATCH that goes on, or ends at the difference
     differs : {is : List Instruction} {b : Previous} {left : ℕ} (s : Walker) (i : Instruction) (c : Compared) → i .opcode ≡ MATCH → lengthOf (i .operand) ≤ left
         → Within (s .used) (lengthOf (i .operand)) c → (k : Walker → Walked)
-        → Sound (i ∷ is) b (s .used) left (push i (k (record { at = endOf i; used = s .used + lengthOf (i .operand); default = s .default })))
+        → Sound (i ∷ is) b (s .used) left (push i (k (record { at = endOf i; used = s .used + lengthOf (i .operand); width = s .width; default = s .default })))
         → Sound (i ∷ is) b (s .used) left (goOn k (meeting s i c))
     differs s i Equal e q h k r = r
     differs s i (Different x) e q h k r =
@@ -114,7 +115,7 @@ module _ (address : ℕ → ℕ) where
 
     -- a row for each instruction, over variables alone: what `sound` says of what follows is handed in
     abbrev Walk : ℕ → ℕ → ℕ → ℕ → Walked
-    Walk n at u d = walkFrom address m w n (record { at = at; used = u; default = d })
+    Walk n at u d = walkFrom address m n (record { at = at; used = u; width = w; default = d })
 
     sound-return : {b : Previous} {at : ℕ} (left : ℕ) {i : Instruction} → m .fetch at ≡ Whole i → i .opcode ≡ RETURN → isDefault b ≡ false
         → (n u d : ℕ) → Sound (i ∷ []) b u left (Walk (suc n) at u d)
@@ -146,8 +147,8 @@ module _ (address : ℕ → ℕ) where
         let l = length-some (i .operand) (law .stands _ _ f .wide e) in
         let z = slack-one (afterMatch (lengthOf (i .operand))) (after-match (lengthOf (i .operand))) in
         rw (walk-at n MATCH u d i f e, le-leb (u + lengthOf (i .operand)) w (omega arith))
-        (differs (record { at = at; used = u; default = d }) i (compared address (lengthOf (i .operand)) (i .operand) u) e q
-        (within (lengthOf (i .operand)) (i .operand) u) (walkFrom address m w n)
+        (differs (record { at = at; used = u; width = w; default = d }) i (compared address (lengthOf (i .operand)) (i .operand) u) e q
+        (within (lengthOf (i .operand)) (i .operand) u) (walkFrom address m n)
         (pushed r (omega arith) (omega arith) (omega arith) (λ j p. List·Memᴰ·tail p) (List·Memᴰ·head refl)))
 
     sound-default : {b : Previous} {at left : ℕ} {i : Instruction} {is : List Instruction} → m .fetch at ≡ Whole i → i .opcode ≡ DEFAULT → isDefault b ≡ false
@@ -161,7 +162,7 @@ module _ (address : ℕ → ℕ) where
     -- a walk through a tree, from the address bit u on, with turns enough
     pub sound : {b : Previous} {at left end : ℕ} {is : List Instruction} → Tree m b at left end is
         → (f u d : ℕ) → end ≤ at + f → u + left ≤ w
-        → Sound is b u left (walkFrom address m w f (record { at = at; used = u; default = d }))
+        → Sound is b u left (walkFrom address m f (record { at = at; used = u; width = w; default = d }))
     sound t zero u d h k = let a = forward m law t in absurd (omega arith)
     sound (return {left} f e q) (suc n) u d h k = sound-return left f e q n u d
     sound (jump f e q t t′) (suc n) u d h k =

@@ -1,4 +1,5 @@
 pub mod Length
+pub mod Widths
 pub mod Tree
 pub mod Depth
 pub mod Loop

@@ -14,7 +14,8 @@ use Rattle.asmap_program.specs.declared.Verdict.{Verdict}
 use Rattle.asmap_program.specs.declared.Verdict.the-variants.{Accepted}
 use Rattle.asmap_program.specs.Map.{endOf, Fetched, Whole, CutOpcode, CutOperand, Map, Laws, lengthOf}
 use Rattle.asmap_program.specs.Check.{State, Outcome, Next, Done, Refuse, guard, step, after, run, start, check, stopping, stops, stopOf, listed, reads, unpacked}
-use Rattle.asmap_program.specs.Walk.{Walked, Walker, Turn, Goes, Stops, Compared, Equal, Different, aborted, enough, meeting, compared, turnWhole, turnOn, push, goOn, walkFrom, walk}
+use Rattle.asmap_program.specs.declared.Walker.{Walker}
+use Rattle.asmap_program.specs.Walk.{Walked, Turn, Goes, Stops, Compared, Equal, Different, aborted, enough, meeting, compared, turnWhole, turnOn, push, goOn, walkFrom, walk}
 use Rattle.asmap_program.proofs.Tree.{Moves, closes, opened, matched, defaulted, View, view, Accepts, last, more, accepts}
 use Rattle.asmap_program.proofs.Depth.{carries}
 
@@ -146,12 +147,12 @@ unfolding enough
 onward-enough true s i t h = h
 onward-enough false s i t h = tt
 
-module _ (address : ℕ → ℕ) (m : Map) (law : Laws m) (w : ℕ) where
+module _ (address : ℕ → ℕ) (m : Map) (law : Laws m) where
   onward-meeting : (s : Walker) (i : Instruction) → s .at < endOf i → (c : Compared) → Onward s (meeting s i c)
   onward-meeting s i h Equal = h
   onward-meeting s i h (Different x) = tt
 
-  onward-whole : (s : Walker) (i : Instruction) → s .at < endOf i → (k : ℕ) → Onward s (turnWhole address m w s i k)
+  onward-whole : (s : Walker) (i : Instruction) → s .at < endOf i → (k : ℕ) → Onward s (turnWhole address m s i k)
   onward-whole s i h zero = tt
   onward-whole s i h (suc zero) = onward-enough _ s i _ (either (eqb (address (s .used)) 1))
     where
@@ -162,16 +163,16 @@ module _ (address : ℕ → ℕ) (m : Map) (law : Laws m) (w : ℕ) where
       onward-enough _ s i _ (onward-meeting s i h (compared address (lengthOf (i .operand)) (i .operand) (s .used)))
   onward-whole s i h (suc (suc (suc n))) = h
 
-  onward : (s : Walker) (r : Fetched) → m .fetch (s .at) ≡ r → Onward s (turnOn address m w s r)
+  onward : (s : Walker) (r : Fetched) → m .fetch (s .at) ≡ r → Onward s (turnOn address m s r)
   onward s (Whole i) f = let a = law .stands _ _ f in onward-whole s i (omega arith) (i .opcode)
   onward s CutOpcode f = tt
   onward s (CutOperand op) f = tt
 
   -- at or past the end nothing is read
-  off-end : (s : Walker) → m .bits ≤ s .at → turnOn address m w s (m .fetch (s .at)) ≡ aborted s []
+  off-end : (s : Walker) → m .bits ≤ s .at → turnOn address m s (m .fetch (s .at)) ≡ aborted s []
   off-end s h = pick (m .fetch (s .at)) refl
     where
-      pick : (r : Fetched) → m .fetch (s .at) ≡ r → turnOn address m w s r ≡ aborted s []
+      pick : (r : Fetched) → m .fetch (s .at) ≡ r → turnOn address m s r ≡ aborted s []
       pick (Whole i) f = let a = law .stands _ _ f in absurd (omega arith)
       pick CutOpcode f = refl
       pick (CutOperand op) f = refl
@@ -181,33 +182,33 @@ module _ (address : ℕ → ℕ) (m : Map) (law : Laws m) (w : ℕ) where
   go-alike s k k′ h (Goes i s′) v = ap (λ (r : Walked). push i r) (h s′ v)
   go-alike s k k′ h (Stops r) v = refl
 
-  walk-enough : (f g : ℕ) (s : Walker) → m .bits ≤ s .at + f → m .bits ≤ s .at + g → walkFrom address m w f s ≡ walkFrom address m w g s
+  walk-enough : (f g : ℕ) (s : Walker) → m .bits ≤ s .at + f → m .bits ≤ s .at + g → walkFrom address m f s ≡ walkFrom address m g s
   unfolding walkFrom
   walk-enough zero zero s h k = refl
   walk-enough zero (suc g) s h k = rw (off-end s (omega arith))
   walk-enough (suc f) zero s h k = rw (off-end s (omega arith))
   walk-enough (suc f) (suc g) s h k =
-      go-alike s _ _ (λ s′ p. walk-enough f g s′ (omega arith) (omega arith)) (turnOn address m w s (m .fetch (s .at))) (onward s (m .fetch (s .at)) refl)
+      go-alike s _ _ (λ s′ p. walk-enough f g s′ (omega arith) (omega arith)) (turnOn address m s (m .fetch (s .at))) (onward s (m .fetch (s .at)) refl)
 
-module _ (address : ℕ → ℕ) (m : Map) (w : ℕ) where
+module _ (address : ℕ → ℕ) (m : Map) where
   -- the walk from a state on
   unfoldable pub walked : Walker → Walked
-  walked s = walkFrom address m w (m .bits - s .at) s
+  walked s = walkFrom address m (m .bits - s .at) s
 
-module _ (address : ℕ → ℕ) (m : Map) (law : Laws m) (w : ℕ) where
+module _ (address : ℕ → ℕ) (m : Map) (law : Laws m) where
   -- the equation of the loop: one turn, and on
-  pub walked-step : (s : Walker) → walked address m w s ≡ goOn (walked address m w) (turnOn address m w s (m .fetch (s .at)))
+  pub walked-step : (s : Walker) → walked address m s ≡ goOn (walked address m) (turnOn address m s (m .fetch (s .at)))
   unfolding walked walkFrom
   walked-step s =
-      walk-enough address m law w (m .bits - s .at) (suc (m .bits - s .at)) s (omega arith) (omega arith)
-      ∙ go-alike address m law w s _ _
-      (λ s′ h. walk-enough address m law w (m .bits - s .at) (m .bits - s′ .at) s′ (omega arith) (omega arith))
-      (turnOn address m w s (m .fetch (s .at))) (onward address m law w s (m .fetch (s .at)) refl)
+      walk-enough address m law (m .bits - s .at) (suc (m .bits - s .at)) s (omega arith) (omega arith)
+      ∙ go-alike address m law s _ _
+      (λ s′ h. walk-enough address m law (m .bits - s .at) (m .bits - s′ .at) s′ (omega arith) (omega arith))
+      (turnOn address m s (m .fetch (s .at))) (onward address m law s (m .fetch (s .at)) refl)
 
   -- the walk is the walk from its start on
-  pub walked-start : walk address m w ≡ walked address m w (record { at = 0; used = 0; default = 0 })
+  pub walked-start : (w : ℕ) → walk address m w ≡ walked address m (record { at = 0; used = 0; width = w; default = 0 })
   unfolding walk walked
-  walked-start = walk-enough address m law w (m .bits) (m .bits - 0) _ (omega arith) (omega arith)
+  walked-start w = walk-enough address m law (m .bits) (m .bits - 0) _ (omega arith) (omega arith)
 
 -- what a loop that counts knows: n instructions are behind, and the rest is the walk from here
 pub record Ahead (whole rest : Walked) (n : ℕ) : Type 0 where
@@ -221,17 +222,17 @@ ahead-on {whole} {n} k t {i} {s′} e a =
     let b : Ahead whole (push i (k s′)) n = subst (λ (x : Turn). Ahead whole (goOn k x) n) e a in
     record { kind = b .kind; number = b .number; bits = b .bits; count = omega arith }
 
-module _ (address : ℕ → ℕ) (m : Map) (law : Laws m) (w : ℕ) where
-  pub ahead-start : Ahead (walk address m w) (walked address m w (record { at = 0; used = 0; default = 0 })) 0
-  ahead-start = rw (walked-start address m law w) record { kind = refl; number = refl; bits = refl; count = omega arith }
+module _ (address : ℕ → ℕ) (m : Map) (law : Laws m) where
+  pub ahead-start : (w : ℕ) → Ahead (walk address m w) (walked address m (record { at = 0; used = 0; width = w; default = 0 })) 0
+  ahead-start w = rw (walked-start address m law w) record { kind = refl; number = refl; bits = refl; count = omega arith }
 
-  pub ahead-goes : {n : ℕ} (s : Walker) {i : Instruction} {s′ : Walker} → turnOn address m w s (m .fetch (s .at)) ≡ Goes i s′
-      → Ahead (walk address m w) (walked address m w s) n → Ahead (walk address m w) (walked address m w s′) (suc n)
-  ahead-goes {n} s e a =
-      ahead-on (walked address m w) _ e (subst (λ (r : Walked). Ahead (walk address m w) r n) (walked-step address m law w s) a)
+  pub ahead-goes : (w : ℕ) {n : ℕ} (s : Walker) {i : Instruction} {s′ : Walker} → turnOn address m s (m .fetch (s .at)) ≡ Goes i s′
+      → Ahead (walk address m w) (walked address m s) n → Ahead (walk address m w) (walked address m s′) (suc n)
+  ahead-goes w {n} s e a =
+      ahead-on (walked address m) _ e (subst (λ (r : Walked). Ahead (walk address m w) r n) (walked-step address m law s) a)
 
-  pub ahead-stops : {n : ℕ} (s : Walker) {r : Walked} → turnOn address m w s (m .fetch (s .at)) ≡ Stops r
-      → Ahead (walk address m w) (walked address m w s) n → Ahead (walk address m w) r n
-  ahead-stops {n} s e a =
-      subst (λ (x : Turn). Ahead (walk address m w) (goOn (walked address m w) x) n) e
-      (subst (λ (r : Walked). Ahead (walk address m w) r n) (walked-step address m law w s) a)
+  pub ahead-stops : (w : ℕ) {n : ℕ} (s : Walker) {r : Walked} → turnOn address m s (m .fetch (s .at)) ≡ Stops r
+      → Ahead (walk address m w) (walked address m s) n → Ahead (walk address m w) r n
+  ahead-stops w {n} s e a =
+      subst (λ (x : Turn). Ahead (walk address m w) (goOn (walked address m) x) n) e
+      (subst (λ (r : Walked). Ahead (walk address m w) r n) (walked-step address m law s) a)

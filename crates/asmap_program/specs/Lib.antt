@@ -1,4 +1,5 @@
 pub mod Map
+pub mod Widths
 pub mod Check
 pub mod Tree
 pub mod Walk

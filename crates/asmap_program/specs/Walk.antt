@@ -1,5 +1,5 @@
--- The defined walk (document 01, Walk; `interpret`), over a width of w address bits. It is made from the map and the address alone, and of
--- any map, accepted or not.
+-- The defined walk (document 01, Walk; `interpret`), begun with w address bits (document 02, CR 3). It is made from the map and the address
+-- alone, and of any map, accepted or not.
 -- Assumes nothing.
 use Prim.Native.Nat.{ℕ, zero, suc, _+_}
 use mathlib.Core.Bool.{Bool, true, false, cond}
@@ -7,6 +7,7 @@ use mathlib.Core.List.{List, [], _∷_}
 use lib.Dec.{leb, ltb, eqb}
 use lib.ListN.{length}
 use Rattle.asmap_program.specs.declared.Instruction.{Instruction}
+use Rattle.asmap_program.specs.declared.Walker.{Walker}
 use Rattle.asmap_program.specs.declared.Kind.{Kind}
 use Rattle.asmap_program.specs.declared.Kind.the-variants.{Returned, Differed, Aborted}
 use Rattle.asmap_program.specs.Map.{endOf, targetOf, Fetched, Whole, CutOpcode, CutOperand, Map, bitOf, lengthOf}
@@ -23,15 +24,10 @@ pub record Walked : Type 0 where
 abbrev pub countOf : Walked → ℕ
 countOf r = length (r .read)
 
--- Where a walk stands: the place, the address bits used so far, and the default.
-pub record Walker : Type 0 where
-  pub at : ℕ
-  pub used : ℕ
-  pub default : ℕ
-
--- Walk, the start: map bit 0, no address bit used, default 0.
-abbrev pub walkStart : Walker
-walkStart = record { at = 0; used = 0; default = 0 }
+-- Walk, the start with w address bits: map bit 0, none of them used, default 0. The state carries the width (document 02, CR 3), and no turn
+-- changes it.
+abbrev pub walkStart : ℕ → Walker
+walkStart w = record { at = 0; used = 0; width = w; default = 0 }
 
 -- What a turn of the walk comes to: behind an instruction, on; or the end.
 pub data Turn : Type 0 where
@@ -71,21 +67,21 @@ module _ (a : ℕ → ℕ) where
 
 -- Walk, MATCH, after comparing: on at its end where all bits were equal; at a difference the walk ends, with the default as its number.
 abbrev pub meeting : Walker → Instruction → Compared → Turn
-meeting s i Equal = Goes i (record { at = endOf i; used = s .used + lengthOf (i .operand); default = s .default })
+meeting s i Equal = Goes i (record { at = endOf i; used = s .used + lengthOf (i .operand); width = s .width; default = s .default })
 meeting s i (Different u) = Stops (record { kind = Differed; number = s .default; bits = u; read = i ∷ [] })
 
-module _ (a : ℕ → ℕ) (m : Map) (w : ℕ) where
+module _ (a : ℕ → ℕ) (m : Map) where
   -- Walk, at an instruction read whole, by its opcode. RETURN ends the walk with its operand. JUMP uses an address bit, and goes to its
   -- target where that is 1 (though the target be past the map's end), else to its end. MATCH compares its operand's bits below the
   -- leading one. DEFAULT makes its operand the default, until another does; it uses no address bit.
   abbrev pub turnWhole : Walker → Instruction → ℕ → Turn
   turnWhole s i zero = Stops (record { kind = Returned; number = i .operand; bits = s .used; read = i ∷ [] })
   turnWhole s i (suc zero) =
-      enough (ltb (s .used) w) s i
-      (Goes i (record { at = cond (eqb (a (s .used)) 1) (targetOf i) (endOf i); used = suc (s .used); default = s .default }))
+      enough (ltb (s .used) (s .width)) s i
+      (Goes i (record { at = cond (eqb (a (s .used)) 1) (targetOf i) (endOf i); used = suc (s .used); width = s .width; default = s .default }))
   turnWhole s i (suc (suc zero)) =
-      enough (leb (s .used + lengthOf (i .operand)) w) s i (meeting s i (compared a (lengthOf (i .operand)) (i .operand) (s .used)))
-  turnWhole s i (suc (suc (suc n))) = Goes i (record { at = endOf i; used = s .used; default = i .operand })
+      enough (leb (s .used + lengthOf (i .operand)) (s .width)) s i (meeting s i (compared a (lengthOf (i .operand)) (i .operand) (s .used)))
+  turnWhole s i (suc (suc (suc n))) = Goes i (record { at = endOf i; used = s .used; width = s .width; default = i .operand })
 
   -- Walk, by what can be read here: a code cut by the map's end aborts, and its instruction is not read.
   abbrev pub turnOn : Walker → Fetched → Turn
@@ -99,6 +95,6 @@ module _ (a : ℕ → ℕ) (m : Map) (w : ℕ) where
   walkFrom zero s = record { kind = Aborted; number = 0; bits = s .used; read = [] }
   walkFrom (suc f) s = goOn (λ (s′ : Walker). walkFrom f s′) (turnOn s (m .fetch (s .at)))
 
-  -- The walk of the address through the map.
-  unfoldable pub walk : Walked
-  walk = walkFrom (m .bits) walkStart
+  -- The walk of the address, by its first w bits, through the map.
+  unfoldable pub walk : ℕ → Walked
+  walk w = walkFrom (m .bits) (walkStart w)

@@ -4,12 +4,23 @@ ghost use mathlib.Core.Path.{_≡_};
 ghost use Prim.Native.Nat.{_<_};
 ghost use Rattle.asmap_program.specs.Map.{lengthOf, Width};
 ghost use Rattle.asmap_program.specs.Map as opcode;
+ghost use Rattle.asmap_program.specs.Widths.{isWidth};
 
 // A map has at most so many bytes (document 01, "What a call hands back", 1).
 pub const MAX_MAP_BYTES: usize = 16777216;
 
-// The address bits of the public calls.
+// The address bits of the public calls that take no width.
 pub const ADDRESS_BITS: u8 = 128;
+
+// Whether a call can be made at this width: 32 bits, as addresses of four bytes have, or 128.
+pub fn is_width(width: u32) -> bool
+    ensures { λ r. ⌜ r ≡ isWidth width ⌝ }
+{
+    if width == 32 {
+        return true;
+    }
+    width == 128
+}
 
 // The opcodes (document 01, Codes).
 pub const RETURN: u32 = 0;
@@ -61,6 +72,15 @@ pub enum Previous {
 pub enum Verdict {
     Accepted(u32, u8),
     Refused(u8),
+}
+
+// Where a walk stands: the place, the address bits used so far, the width, which is how many bits the address has, and the default. The
+// defined walk and the code that walks share it.
+pub struct Walker {
+    pub at: usize,
+    pub used: u8,
+    pub width: u8,
+    pub default: u32,
 }
 
 // How a walk ends: at a RETURN, at a MATCH that differs, or aborted. Its number does not tell which: 0 can be the default too.
