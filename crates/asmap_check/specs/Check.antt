@@ -9,6 +9,7 @@ use lib.ListN.{length}
 use Rattle.asmap_program.specs.declared.Verdict.{Verdict}
 use Rattle.asmap_program.specs.declared.Verdict.the-variants.{Accepted, Refused}
 use Rattle.asmap_program.specs.Map.{limit}
+use Rattle.asmap_program.specs.Widths.{isWidth, atWidth}
 use Rattle.asmap_program.specs.Check.{accepted, check, stopOf}
 use Rattle.asmap_program.specs.Core.{coreCheck}
 use Rattle.asmap_codes.specs.Instruction.{mapOf}
@@ -26,10 +27,18 @@ unlessLong false v = v
 abbrev pub checkOf : List ℕ → ℕ → Verdict
 checkOf m w = unlessLong (ltb limit (length m)) (check (mapOf m) w)
 
+-- The check at a width (document 02, CR 3): 18, first of all, for a width that is neither 32 nor 128.
+abbrev pub checkAt : List ℕ → ℕ → Verdict
+checkAt m w = atWidth w Refused (checkOf m w)
+
 -- Core's SanityCheckASMap (the paper core-asmap.md) over w address bits accepts a map within the limit exactly where r does. The limit is
 -- document 01's; Core has none.
 abbrev pub LikeCore : List ℕ → ℕ → Verdict → Type 0
 LikeCore m w r = length m ≤ limit → coreCheck (fileOf m) w ≡ accepted r
+
+-- the same at 32 and at 128
+abbrev pub LikeCoreAt : List ℕ → ℕ → Verdict → Type 0
+LikeCoreAt m w r = isWidth w ≡ true → LikeCore m w r
 
 -- The reason in a verdict: 0 where it accepts.
 abbrev pub reasonOf : Verdict → ℕ
@@ -44,3 +53,7 @@ stopsUnlessLong false s = s
 -- Where the check of a map's bytes over w address bits stops: with which reason, and at which place. A map over the limit is 1.
 abbrev pub stoppedOf : List ℕ → ℕ → Stopped
 stoppedOf m w = stopsUnlessLong (ltb limit (length m)) (stopped.At (reasonOf (check (mapOf m) w)) (stopOf (mapOf m) w))
+
+-- the same at a width: 18 where it is none
+abbrev pub stoppedAt : List ℕ → ℕ → Stopped
+stoppedAt m w = atWidth w stopped.Refused (stoppedOf m w)

@@ -2,9 +2,9 @@
 // prefixes the map tells apart, which is counted on the way.
 //
 // Two kinds of function. The arms (`asmap_check_act: sanity_act` and those it calls) read an instruction and answer an `Act`; they take
-// the map and numbers but never the state, which a call copies with both its arrays. The loop here (`sanity_check_bits`) carries the act
-// out; the state passes through three methods alone, which touch its numbers only. A method that indexed an array would have both
-// arrays, 640 bytes, copied to it and back at each call; so the loop itself stores an open jump and reads it.
+// the map and numbers but never the state, which a call copies with both its arrays. The loop here (`run_check`) carries the act out; the
+// state passes through three methods alone, which touch its numbers only. A method that indexed an array would have both arrays, 640 bytes,
+// copied to it and back at each call; so the loop itself stores an open jump and reads it.
 ghost use mathlib.Core.Path.{_≡_};
 ghost use Prim.Native.Nat.{_+_, _-_, _≤_, _<_, max};
 ghost use lib.Dec.{ltb};
@@ -13,7 +13,7 @@ ghost use Rattle.asmap_program.specs.Map.{limit};
 ghost use Rattle.asmap_program.specs.Check.{afterMatch};
 ghost use Rattle.asmap_check.specs.models.State.{Arrays, top, judged};
 ghost use Rattle.asmap_check.specs.models.Counted.{countedAs, countedOf, most, Few};
-ghost use Rattle.asmap_check.specs.Check.{checkOf, LikeCore, reasonOf, stoppedOf};
+ghost use Rattle.asmap_check.specs.Check.{checkOf, checkAt, LikeCore, LikeCoreAt, reasonOf, stoppedOf, stoppedAt};
 use asmap_check_act::Act;
 use asmap_program::ADDRESS_BITS;
 use asmap_program::MAX_MAP_BYTES;
@@ -138,7 +138,7 @@ fn judge(verdict: Verdict, place: usize, pieces: usize) -> Judged
 
 // The check of a map within the limit over a number of address bits, which the public calls fix: the arrays hold as many jumps as there
 // are bits. A RETURN gives one piece, a MATCH one for each of its bits: counted here, a listing needs no pass of its own to know its length.
-fn sanity_check_bits(map: &[u8], bits: u8) -> Judged
+fn run_check(map: &[u8], bits: u8) -> Judged
     requires { ⌜ (length (now map) ≤ limit) × (bits ≤ 128) ⌝ }
     ensures { λ r. ⌜ (r ≡ judged (now (map .entry)) bits) × (r .pieces ≤ most) ⌝ }
 {
@@ -203,15 +203,35 @@ fn too_long(map: &[u8]) -> bool
     MAX_MAP_BYTES < map.len()
 }
 
+// The check over a number of address bits, for the calls below and for those of other crates, which all fix it.
+pub fn check_over(map: &[u8], bits: u8) -> Verdict
+    requires { ⌜ bits ≤ 128 ⌝ }
+    ensures { λ r. ⌜ r ≡ checkOf (now (map .entry)) bits ⌝ }
+    ensures core { λ r. ⌜ LikeCore (now (map .entry)) bits r ⌝ }
+{
+    if too_long(map) {
+        return Verdict::Refused(1);
+    }
+    run_check(map, bits).verdict
+}
+
 // The check: accepted with the number of instructions and the greatest depth, or refused, 1 to 10. Any bytes may be handed in.
 pub fn sanity_check(map: &[u8]) -> Verdict
     ensures { λ r. ⌜ r ≡ checkOf (now (map .entry)) 128 ⌝ }
     ensures core { λ r. ⌜ LikeCore (now (map .entry)) 128 r ⌝ }
 {
-    if too_long(map) {
-        return Verdict::Refused(1);
+    check_over(map, ADDRESS_BITS)
+}
+
+// The check at a width: 18 for one that is neither 32 nor 128, whatever the map is; else as above.
+pub fn sanity_check_bits(map: &[u8], width: u32) -> Verdict
+    ensures { λ r. ⌜ r ≡ checkAt (now (map .entry)) width ⌝ }
+    ensures core { λ r. ⌜ LikeCoreAt (now (map .entry)) width r ⌝ }
+{
+    if asmap_program::is_width(width) {
+        return check_over(map, width as u8);
     }
-    sanity_check_bits(map, ADDRESS_BITS).verdict
+    Verdict::Refused(18)
 }
 
 // The reason in a verdict.
@@ -224,17 +244,35 @@ fn reason_of(verdict: Verdict) -> u8
     }
 }
 
+// The check over a number of address bits, and the place at which it stops.
+fn stop_over(map: &[u8], bits: u8) -> Stopped
+    requires { ⌜ bits ≤ 128 ⌝ }
+    ensures { λ r. ⌜ r ≡ stoppedOf (now (map .entry)) bits ⌝ }
+{
+    if too_long(map) {
+        return Stopped::Refused(1);
+    }
+    let judged = run_check(map, bits);
+    let verdict = judged.verdict;
+    Stopped::At(reason_of(verdict), judged.place)
+}
+
 // The check, and the place at which it stops: for whoever has to say where in a map the fault was met. Any bytes may be handed in; refused is
 // a map over the limit alone, 1.
 pub fn sanity_check_stop(map: &[u8]) -> Stopped
     ensures { λ r. ⌜ r ≡ stoppedOf (now (map .entry)) 128 ⌝ }
 {
-    if too_long(map) {
-        return Stopped::Refused(1);
+    stop_over(map, ADDRESS_BITS)
+}
+
+// The same at a width: 18 for one that is neither 32 nor 128, before 1.
+pub fn sanity_check_stop_bits(map: &[u8], width: u32) -> Stopped
+    ensures { λ r. ⌜ r ≡ stoppedAt (now (map .entry)) width ⌝ }
+{
+    if asmap_program::is_width(width) {
+        return stop_over(map, width as u8);
     }
-    let judged = sanity_check_bits(map, ADDRESS_BITS);
-    let verdict = judged.verdict;
-    Stopped::At(reason_of(verdict), judged.place)
+    Stopped::Refused(18)
 }
 
 // An acceptance with the pieces counted, or the refusal.
@@ -247,15 +285,16 @@ fn with_pieces(verdict: Verdict, pieces: usize) -> Counted
     }
 }
 
-// The check, with the prefixes that the map tells apart counted: for whoever has to know how long a listing is before it is written. Refused
-// as the check does, 1 to 10.
-pub fn sanity_check_pieces(map: &[u8]) -> Counted
-    ensures { λ r. ⌜ (r ≡ countedOf (now (map .entry)) 128) × Few r ⌝ }
+// The check over a number of address bits, with the prefixes that the map tells apart counted: for whoever has to know how long a listing is
+// before it is written. Refused as the check does, 1 to 10.
+pub fn sanity_check_pieces(map: &[u8], bits: u8) -> Counted
+    requires { ⌜ bits ≤ 128 ⌝ }
+    ensures { λ r. ⌜ (r ≡ countedOf (now (map .entry)) bits) × Few r ⌝ }
 {
     if too_long(map) {
         return Counted::Refused(1);
     }
-    let judged = sanity_check_bits(map, ADDRESS_BITS);
+    let judged = run_check(map, bits);
     let verdict = judged.verdict;
     with_pieces(verdict, judged.pieces)
 }

@@ -1,4 +1,4 @@
--- At 128 bits; what the loop came to, as the pieces of an accepted map.
+-- What the loop came to, as the pieces of an accepted map.
 -- Assumes nothing.
 use mathlib.Core.Path.{_≡_, _∙_, sym, subst}
 use Prim.Native.Nat.{ℕ, _≤_}
@@ -26,22 +26,22 @@ too-long-requires : tie.Need-too-long-requires
 too-long-requires c κs = search needs
 
 returns : tie.Need-returns
-returns c = (counted-long (c .before .before .before .args .map .now) 128 (ltb-true limit _ (sym (c .before .too-long .ensures) ∙ c .if1 .taken)), tt)
+returns c = let a = c .before .before .before .args in (counted-long (a .map .now) (a .bits) (ltb-true limit _ (sym (c .before .too-long .ensures) ∙ c .if1 .taken)), tt)
 
-sanity-check-bits-requires : tie.Need-sanity-check-bits-requires
-sanity-check-bits-requires c κs = (ltb-false limit _ (sym (c .before .too-long .ensures) ∙ c .if1 .left), omega arith)
+run-check-requires : tie.Need-run-check-requires
+run-check-requires c κs = (ltb-false limit _ (sym (c .before .too-long .ensures) ∙ c .if1 .left), omega arith)
 
 with-pieces-requires : tie.Need-with-pieces-requires
 with-pieces-requires c κs = search needs
 
 returns-2 : tie.Need-returns-2
 returns-2 c =
-    let j = c .before .sanity-check-bits in (
+    let j = c .before .run-check in (
       c .with-pieces .ensures
-          ∙ counted-at _ 128 (ltb-false limit _ (sym (c .before .before .before .too-long .ensures) ∙ c .before .before .if1 .left)) (j .result) (j .ensures .0),
+          ∙ counted-at _ (c .before .before .before .before .before .args .bits) (ltb-false limit _ (sym (c .before .before .before .too-long .ensures) ∙ c .before .before .if1 .left)) (j .result) (j .ensures .0),
       few _ (j .result .pieces) (j .result .verdict) (c .with-pieces .ensures) (j .ensures .1),
     )
 
 pub sanity-check-pieces-spec : {M : Type 1} → statement M
 sanity-check-pieces-spec =
-    tie.close (tie.spec too-long-requires returns sanity-check-bits-requires with-pieces-requires returns-2)
+    tie.close (tie.spec too-long-requires returns run-check-requires with-pieces-requires returns-2)
