@@ -14,7 +14,8 @@ use Rattle.asmap_program.specs.declared.Instruction.{Instruction}
 use Rattle.asmap_program.specs.declared.Kind.{Kind}
 use Rattle.asmap_program.specs.declared.Kind.the-variants.{Returned, Differed, Aborted}
 use Rattle.asmap_program.specs.Map.{Fetched, CutOpcode, CutOperand, bitOf, lengthOf, addressBit}
-use Rattle.asmap_program.specs.Walk.{Walked, Walker, Turn, Goes, Stops, Compared, Equal, Different, compared, aborted, enough, meeting, turnWhole, turnOn, walk}
+use Rattle.asmap_program.specs.declared.Walker.{Walker}
+use Rattle.asmap_program.specs.Walk.{Walked, walkStart, Turn, Goes, Stops, Compared, Equal, Different, compared, aborted, enough, meeting, turnWhole, turnOn, walk}
 use Rattle.asmap_program.proofs.Length.{length-below}
 use Rattle.asmap_program.proofs.Loop.{walked, Ahead, ahead-start, ahead-goes, ahead-stops}
 use Rattle.asmap_codes.specs.declared.Code.the-variants.{Value, Cut}
@@ -33,7 +34,7 @@ module _ (m a : List ℕ) (w : ℕ) where
   EndsBy kind number count bits = _≡_ {A = Ending} (record { kind = kind; number = number; count = count; bits = bits }) (summary (walkOf m a w))
 
   pub record Walking (pos used default count : ℕ) : Type 0 where
-    pub ahead : Ahead (walk (addressBit a) (mapOf m) w) (walked (addressBit a) (mapOf m) w (record { at = pos; used = used; default = default })) count
+    pub ahead : Ahead (walk (addressBit a) (mapOf m) w) (walked (addressBit a) (mapOf m) (record { at = pos; used = used; width = w; default = default })) count
     pub fits : length m ≤ 16777216
     pub width : w ≤ 8 * length a
     pub narrow : w < 256
@@ -41,11 +42,14 @@ module _ (m a : List ℕ) (w : ℕ) where
     pub few : count ≤ pos
     pub room : used ≤ w
 
-  pub walking-start : length m ≤ 16777216 → w ≤ 8 * length a → w < 256 → Walking 0 0 0 0
-  walking-start h k l = record { ahead = ahead-start (addressBit a) (mapOf m) (laws m) w; fits = h; width = k; narrow = l; near = omega arith; few = omega arith; room = omega arith }
+  starting : length m ≤ 16777216 → w ≤ 8 * length a → w < 256 → Walking 0 0 0 0
+  starting h k l = record { ahead = ahead-start (addressBit a) (mapOf m) (laws m) w; fits = h; width = k; narrow = l; near = omega arith; few = omega arith; room = omega arith }
+
+  pub walking-start : (s : Walker) → s ≡ walkStart w → length m ≤ 16777216 → w ≤ 8 * length a → w < 256 → Walking (s .at) (s .used) (s .default) 0 × (s .width ≡ w)
+  walking-start s e h k l = subst (λ (s : Walker). Walking (s .at) (s .used) (s .default) 0 × (s .width ≡ w)) (sym e) (starting h k l, refl)
 
   stops : {pos used default count : ℕ} → Walking pos used default count → (r : Walked)
-      → turnOn (addressBit a) (mapOf m) w (record { at = pos; used = used; default = default }) (mapOf m .fetch pos) ≡ Stops r
+      → turnOn (addressBit a) (mapOf m) (record { at = pos; used = used; width = w; default = default }) (mapOf m .fetch pos) ≡ Stops r
       → EndsBy (r .kind) (r .number) (count + length (r .read)) (r .bits)
   unfolding walkOf
   stops v r e =
@@ -54,17 +58,17 @@ module _ (m a : List ℕ) (w : ℕ) where
 
 module _ {m a : List ℕ} {w pos used default count : ℕ} (v : Walking m a w pos used default count) where
   abbrev s : Walker
-  s = record { at = pos; used = used; default = default }
+  s = record { at = pos; used = used; width = w; default = default }
 
   -- an opcode that was read
   pub opcode-read : {op at : ℕ} → codeAt m pos typeRow ≡ Value op at → (at ≤ 8 * length m) × (op < 4)
   opcode-read {op} {at} e = let x = value-at m pos typeRow op at (lit< tt) e in (x .inside, x .below)
 
   -- a cut code aborts, and is not counted
-  none-read : (f : Fetched) → mapOf m .fetch pos ≡ f → turnOn (addressBit a) (mapOf m) w s f ≡ aborted s [] → EndsBy m a w Aborted 0 count used
+  none-read : (f : Fetched) → mapOf m .fetch pos ≡ f → turnOn (addressBit a) (mapOf m) s f ≡ aborted s [] → EndsBy m a w Aborted 0 count used
   none-read f e q =
       let z : count + 0 ≡ count = omega arith in
-      rw z at (stops m a w v (record { kind = Aborted; number = 0; bits = used; read = [] }) (ap (turnOn (addressBit a) (mapOf m) w s) e ∙ q))
+      rw z at (stops m a w v (record { kind = Aborted; number = 0; bits = used; read = [] }) (ap (turnOn (addressBit a) (mapOf m) s) e ∙ q))
 
   pub cut-opcode : codeAt m pos typeRow ≡ Cut → EndsBy m a w Aborted 0 count used
   cut-opcode e = none-read CutOpcode (fetch-cut m pos e) refl
@@ -89,7 +93,7 @@ pub record Read (m : List ℕ) (pos op x n : ℕ) : Type 0 where
 
 module _ {m a : List ℕ} {w pos used default count op at x n : ℕ} (R : Taken m a w pos used default count op at x n) where
   abbrev s′ : Walker
-  s′ = record { at = pos; used = used; default = default }
+  s′ = record { at = pos; used = used; width = w; default = default }
 
   abbrev i : Instruction
   i = record { opcode = op; operand = x; place = pos; size = n - pos }
@@ -101,18 +105,18 @@ module _ {m a : List ℕ} {w pos used default count op at x n : ℕ} (R : Taken 
       record { start = omega (arith, o .past, v .past); inside = v .inside; near = omega (arith, v .inside, R .walking .fits); known = o .below; above = v .above; below = v .below }
 
   -- the turn of the defined walk, by an opcode k
-  turns : (t : Turn) (k : ℕ) → op ≡ k → turnWhole (addressBit a) (mapOf m) w s′ i k ≡ t → turnOn (addressBit a) (mapOf m) w s′ (mapOf m .fetch pos) ≡ t
+  turns : (t : Turn) (k : ℕ) → op ≡ k → turnWhole (addressBit a) (mapOf m) s′ i k ≡ t → turnOn (addressBit a) (mapOf m) s′ (mapOf m .fetch pos) ≡ t
   turns t k o e =
-      ap (turnOn (addressBit a) (mapOf m) w s′) (fetch-operand m pos op at (R .opcode) (Value x n) (R .operand))
-      ∙ ap (λ (c : ℕ). turnWhole (addressBit a) (mapOf m) w s′ i c) o
+      ap (turnOn (addressBit a) (mapOf m) s′) (fetch-operand m pos op at (R .opcode) (Value x n) (R .operand))
+      ∙ ap (λ (c : ℕ). turnWhole (addressBit a) (mapOf m) s′ i c) o
       ∙ e
 
-  last : (k : ℕ) → op ≡ k → (kind : Kind) (number bits : ℕ) → turnWhole (addressBit a) (mapOf m) w s′ i k ≡ Stops (record { kind = kind; number = number; bits = bits; read = i ∷ [] })
+  last : (k : ℕ) → op ≡ k → (kind : Kind) (number bits : ℕ) → turnWhole (addressBit a) (mapOf m) s′ i k ≡ Stops (record { kind = kind; number = number; bits = bits; read = i ∷ [] })
       → EndsBy m a w kind number (count + 1) bits
   last k o kind number bits e = stops m a w (R .walking) (record { kind = kind; number = number; bits = bits; read = i ∷ [] }) (turns _ k o e)
 
   -- it goes on at pos′, with `used′` address bits used and default d
-  goes : (k : ℕ) → op ≡ k → (pos′ used′ d : ℕ) → turnWhole (addressBit a) (mapOf m) w s′ i k ≡ Goes i (record { at = pos′; used = used′; default = d })
+  goes : (k : ℕ) → op ≡ k → (pos′ used′ d : ℕ) → turnWhole (addressBit a) (mapOf m) s′ i k ≡ Goes i (record { at = pos′; used = used′; width = w; default = d })
       → pos < pos′ → pos′ < 2 ^ 32 → used′ ≤ w → Walking m a w pos′ used′ d (count + 1)
   goes k o pos′ used′ d e h l r =
       let z : suc count ≡ count + 1 = omega arith in
@@ -150,7 +154,7 @@ module _ {m a : List ℕ} {w pos used default count op at x n : ℕ} (R : Taken 
   jump-goes o h b e =
       let f = jump-onward o b in
       goes 1 o (cond b (n + x) n) (used + 1) default
-      (rw (lt-ltb used w h, end-is, e) (ap (λ (u : ℕ). Goes i (record { at = cond b (n + x) n; used = u; default = default })) (omega arith)))
+      (rw (lt-ltb used w h, end-is, e) (ap (λ (u : ℕ). Goes i (record { at = cond b (n + x) n; used = u; width = w; default = default })) (omega arith)))
       (f .0) (f .1) (omega arith)
 
   -- a JUMP to the map's end or past it: no opcode is there, and its bit was read
@@ -167,15 +171,22 @@ module _ {m a : List ℕ} {w pos used default count op at x n : ℕ} (R : Taken 
   unfolding enough
   match-ends o h = last 2 o Aborted 0 used (rw (lt-leb (used + lengthOf x) w h))
 
-  match-turn : used + lengthOf x ≤ w → (c : Compared) → compared (addressBit a) (lengthOf x) x used ≡ c → turnWhole (addressBit a) (mapOf m) w s′ i 2 ≡ meeting s′ i c
+  match-turn : used + lengthOf x ≤ w → (c : Compared) → compared (addressBit a) (lengthOf x) x used ≡ c → turnWhole (addressBit a) (mapOf m) s′ i 2 ≡ meeting s′ i c
   unfolding enough
   match-turn h c z = rw (le-leb (used + lengthOf x) w h, z)
 
-  pub match-differs : op ≡ 2 → used + lengthOf x ≤ w → (u : ℕ) → compared (addressBit a) (lengthOf x) x used ≡ Different u → EndsBy m a w Differed default (count + 1) u
-  match-differs o h u z = last 2 o Differed default u (match-turn h (Different u) z)
+  -- d: the default, as the walk's state has it by then
+  pub match-differs : op ≡ 2 → used + lengthOf x ≤ w → (u : ℕ) → compared (addressBit a) (lengthOf x) x used ≡ Different u → {d : ℕ} → d ≡ default
+      → EndsBy m a w Differed d (count + 1) u
+  match-differs o h u z e =
+      subst (λ (d : ℕ). EndsBy m a w Differed d (count + 1) u) (sym e) (last 2 o Differed default u (match-turn h (Different u) z))
 
-  pub match-goes : op ≡ 2 → used + lengthOf x ≤ w → compared (addressBit a) (lengthOf x) x used ≡ Equal → (u : ℕ) → u ≡ used + lengthOf x → Walking m a w n u default (count + 1)
-  match-goes o h z u y = goes 2 o n u default (match-turn h Equal z ∙ rw (end-is, y)) (read .start) (omega (arith, read .near)) (omega arith)
+  pub match-goes : op ≡ 2 → used + lengthOf x ≤ w → compared (addressBit a) (lengthOf x) x used ≡ Equal → (u : ℕ) → u ≡ used + lengthOf x
+      → {pos′ d : ℕ} → pos′ ≡ n → d ≡ default → Walking m a w pos′ u d (count + 1)
+  match-goes o h z u y {d = d} e q =
+      subst (λ (p : ℕ). Walking m a w p u d (count + 1)) (sym e)
+      (subst (λ (d : ℕ). Walking m a w n u d (count + 1)) (sym q)
+      (goes 2 o n u default (match-turn h Equal z ∙ rw (end-is, y)) (read .start) (omega (arith, read .near)) (omega arith)))
 
   pub default-goes : op ≢ 0 → op ≢ 1 → op ≢ 2 → Walking m a w n used x (count + 1)
   default-goes z y t =

@@ -1,6 +1,7 @@
 -- What is promised of each walk of a map that the check accepts: demand 3, and the number that Bitcoin Core gives.
 -- Assumes nothing.
 use Prim.Native.Nat.{ℕ, _+_, _*_, _≤_}
+use mathlib.Core.Bool.{true}
 use mathlib.Core.Path.{_≡_}
 use mathlib.Core.List.{List, List·Memᴰ}
 use lib.ListN.{length}
@@ -8,6 +9,7 @@ use Rattle.asmap_program.specs.declared.Instruction.{Instruction}
 use Rattle.asmap_program.specs.declared.Kind.the-variants.{Differed}
 use Rattle.asmap_program.specs.declared.Verdict.the-variants.{Accepted}
 use Rattle.asmap_program.specs.Map.{addressBit}
+use Rattle.asmap_program.specs.Widths.{isWidth}
 use Rattle.asmap_program.specs.Check.{unpacked}
 use Rattle.asmap_program.specs.Core.{Number, coreInterpret}
 use Rattle.asmap_program.specs.Demand.{NoDefault, Answers, Walks}
@@ -47,3 +49,16 @@ Demand3 m a r = WhereAccepted m a r (λ (e : Ending). Kept m a 128 e × (e .coun
 -- Core's Interpret on the same bytes answers that number; so it never leaves its loop
 abbrev pub CoreNumber : List ℕ → List ℕ → Interpreted → Type 0
 CoreNumber m a r = WhereAccepted m a r (λ (e : Ending). coreInterpret (addressBit a) 128 (fileOf m) ≡ Number (e .number))
+
+-- ---- at a width, 32 or 128 (document 02, CR 3)
+
+-- the same of the check at the width w, and of an address of w bits
+abbrev pub WhereAcceptedAt : List ℕ → List ℕ → ℕ → Interpreted → (Ending → Type 0) → Type 0
+WhereAcceptedAt m a w r P = isWidth w ≡ true → (c d : ℕ) → checkOf m w ≡ Accepted c d → 8 * length a ≡ w → (e : Ending) × (r ≡ Ended e) × P e
+
+-- demand 3: what `Kept` says for every w, never more than 2 w + 1 instructions among it
+abbrev pub Demand3At : List ℕ → List ℕ → ℕ → Interpreted → Type 0
+Demand3At m a w r = WhereAcceptedAt m a w r (Kept m a w)
+
+abbrev pub CoreNumberAt : List ℕ → List ℕ → ℕ → Interpreted → Type 0
+CoreNumberAt m a w r = WhereAcceptedAt m a w r (λ (e : Ending). coreInterpret (addressBit a) w (fileOf m) ≡ Number (e .number))
