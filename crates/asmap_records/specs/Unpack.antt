@@ -3,6 +3,7 @@ use Prim.Native.Nat.{ℕ}
 use mathlib.Core.List.{List}
 use Rattle.asmap_program.specs.declared.Verdict.{Verdict}
 use Rattle.asmap_program.specs.declared.Verdict.the-variants.{Accepted, Refused}
+use Rattle.asmap_program.specs.Widths.{atWidth}
 use Rattle.asmap_program.specs.Check.{unpacked}
 use Rattle.asmap_codes.specs.Instruction.{mapOf}
 use Rattle.asmap_check.specs.Check.{checkOf}
@@ -17,3 +18,7 @@ unpackAs m w (Refused n) = No n
 -- The bytes that unpack makes of a map's.
 unfoldable pub unpackOf : List ℕ → ℕ → Result
 unpackOf m w = unpackAs m w (checkOf m w)
+
+-- the same at a width (document 02, CR 3): 18 where it is none
+abbrev pub unpackAt : List ℕ → ℕ → Result
+unpackAt m w = atWidth w No (unpackOf m w)

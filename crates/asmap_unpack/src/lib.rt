@@ -9,8 +9,9 @@ ghost use Rattle.asmap_program.specs.declared.Verdict.the-variants.{Accepted};
 ghost use Rattle.asmap_codes.specs.Instruction.{mapOf};
 ghost use Rattle.asmap_records.specs.Record.{recordOf, recordsOf};
 ghost use Rattle.asmap_records.specs.Output.{Hands};
-ghost use Rattle.asmap_records.specs.Unpack.{unpackOf};
+ghost use Rattle.asmap_records.specs.Unpack.{unpackOf, unpackAt};
 use asmap_codes::DecodedInstruction;
+use asmap_program::ADDRESS_BITS;
 use asmap_program::Instruction;
 use asmap_program::Verdict;
 use asmap_records::Answer;
@@ -46,11 +47,12 @@ fn put_list(map: &[u8], count: usize, out: &mut [u8])
     }
 }
 
-// Unpacks a map that the check accepts at 128 address bits. Refusals: the check's, 1 to 10, then 14; a refused call writes nothing.
-pub fn unpack(map: &[u8], out: &mut [u8]) -> Answer
-    ensures { λ r. ⌜ Hands (unpackOf (now (map .entry)) 128) (now (out .entry)) (now (out .exit)) r ⌝ }
+// Unpacks a map that the check accepts over a number of address bits. The calls below fix it.
+fn unpack_over(map: &[u8], bits: u8, out: &mut [u8]) -> Answer
+    requires { ⌜ bits ≤ 128 ⌝ }
+    ensures { λ r. ⌜ Hands (unpackOf (now (map .entry)) bits) (now (out .entry)) (now (out .exit)) r ⌝ }
 {
-    let verdict = asmap_check::sanity_check(map);
+    let verdict = asmap_check::check_over(map, bits);
     match verdict {
         Verdict::Refused(reason) => Answer::Refused(reason),
         Verdict::Accepted(count, _) => {
@@ -63,4 +65,21 @@ pub fn unpack(map: &[u8], out: &mut [u8]) -> Answer
             Answer::Wrote(bytes)
         }
     }
+}
+
+// Unpacks a map that the check accepts at 128 address bits. Refusals: the check's, 1 to 10, then 14; a refused call writes nothing.
+pub fn unpack(map: &[u8], out: &mut [u8]) -> Answer
+    ensures { λ r. ⌜ Hands (unpackOf (now (map .entry)) 128) (now (out .entry)) (now (out .exit)) r ⌝ }
+{
+    unpack_over(map, ADDRESS_BITS, out)
+}
+
+// The same at a width: 18 for one that is neither 32 nor 128, before the check.
+pub fn unpack_bits(map: &[u8], width: u32, out: &mut [u8]) -> Answer
+    ensures { λ r. ⌜ Hands (unpackAt (now (map .entry)) width) (now (out .entry)) (now (out .exit)) r ⌝ }
+{
+    if asmap_program::is_width(width) {
+        return unpack_over(map, width as u8, out);
+    }
+    Answer::Refused(18)
 }

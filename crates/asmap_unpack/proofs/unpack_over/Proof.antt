@@ -1,4 +1,4 @@
--- `asmap_unpack::unpack` meets its contract: the check's verdict decides, and what is listed is the check's own list.
+-- `asmap_unpack::unpack_over` meets its contract: the check's verdict decides, and what is listed is the check's own list.
 -- Assumes nothing.
 use borrow.Author.Needs.{needs}
 use mathlib.Core.Path.{_≡_, _∙_, sym}
@@ -12,11 +12,11 @@ use Rattle.asmap_records.specs.Unpack.{unpackOf}
 use Rattle.asmap_records.proofs.OutputLaws.{hands-no, hands-short, hands-made}
 use Rattle.asmap_check.proofs.Standing.{accepted-within}
 use Rattle.asmap_records.proofs.UnpackLaws.{unpack-as, unpack-length}
-use Rattle.asmap_unpack.proofs.unpack.Statement.{statement}
-use Rattle.asmap_unpack.proofs.unpack.Tie as tie
+use Rattle.asmap_unpack.proofs.unpack_over.Statement.{statement}
+use Rattle.asmap_unpack.proofs.unpack_over.Tie as tie
 
-sanity-check-requires : tie.Need-sanity-check-requires
-sanity-check-requires c κs = search needs
+check-over-requires : tie.Need-check-over-requires
+check-over-requires c κs = search needs
 
 enum-known-verdict : tie.Need-enum-known-verdict
 enum-known-verdict c = search needs
@@ -28,21 +28,21 @@ cast-records : tie.Need-cast-records
 cast-records c = omega arith
 
 -- the map was accepted: with how many instructions, and what the check's own crate says of it
-told : (c : tie.After-known-told2) → checkOf (c .before .before .before .before .before .before .args .map .now) 128 ≡ Accepted (c .before .verdict2 .given .0 .0) (c .before .verdict2 .given .0 .1 .0)
-told c = sym (c .before .before .before .sanity-check .ensures .0) ∙ c .before .verdict2 .given .1
+told : (c : tie.After-known-told2) → checkOf (c .before .before .before .before .before .before .args .map .now) (c .before .before .before .before .before .before .args .bits) ≡ Accepted (c .before .verdict2 .given .0 .0) (c .before .verdict2 .given .0 .1 .0)
+told c = sym (c .before .before .before .check-over .ensures .0) ∙ c .before .verdict2 .given .1
 
 returns : tie.Need-returns
 returns c =
     let a = c .before .before .before .before .before .before .before .args in
     let m = a .map .now in
     let t = told (c .before) in
-    let n = unpack-length m 128 _ _ (accepted-within m 128 _ _ t .1) in
-    hands-short (unpackOf m 128) (a .out .now) (recordsOf (unpacked (mapOf m) 128)) (unpack-as m 128 _ (sym t)) (omega (arith, n, c .if1 .taken))
+    let n = unpack-length m (a .bits) _ _ (accepted-within m (a .bits) _ _ t .1) in
+    hands-short (unpackOf m (a .bits)) (a .out .now) (recordsOf (unpacked (mapOf m) (a .bits))) (unpack-as m (a .bits) _ (sym t)) (omega (arith, n, c .if1 .taken))
 
 put-list-requires : tie.Need-put-list-requires
 put-list-requires c κs =
-    let m = c .before .before .before .before .before .before .before .before .args .map .now in
-    (accepted-within m 128 _ _ (told (c .before .before)) .0, omega (arith, c .before .if1 .left))
+    let a = c .before .before .before .before .before .before .before .before .args in
+    (accepted-within (a .map .now) (a .bits) _ _ (told (c .before .before)) .0, omega (arith, c .before .if1 .left))
 
 mul-bytes : tie.Need-mul-bytes
 mul-bytes c = omega arith
@@ -52,7 +52,7 @@ returns-2 c =
     let a = c .before .before .before .before .before .before .args in
     let m = a .map .now in
     let g = c .before .verdict .given in
-    hands-no (unpackOf m 128) (a .out .now) (g .0 .0) (unpack-as m 128 (Refused (g .0 .0)) (sym (g .1) ∙ c .before .before .before .sanity-check .ensures .0))
+    hands-no (unpackOf m (a .bits)) (a .out .now) (g .0 .0) (unpack-as m (a .bits) (Refused (g .0 .0)) (sym (g .1) ∙ c .before .before .before .check-over .ensures .0))
 
 same-length : tie.Need-same-length
 same-length c = c .before .out .given
@@ -62,15 +62,15 @@ returns-3 c =
     let a = c .before .before .before .before .before .before .before .before .before .before .before .args in
     let m = a .map .now in
     let t = told (c .before .before .before .before .before) in
-    let s = accepted-within m 128 _ _ t in
-    let n = unpack-length m 128 _ _ (s .1) in
-    hands-made (unpackOf m 128) (a .out .now) (recordsOf (unpacked (mapOf m) 128)) _ _ (unpack-as m 128 _ (sym t)) (sym n) (omega (arith, n, c .before .before .before .before .if1 .left)) (c .before .before .put-list .ensures 128 _ (s .1))
+    let s = accepted-within m (a .bits) _ _ t in
+    let n = unpack-length m (a .bits) _ _ (s .1) in
+    hands-made (unpackOf m (a .bits)) (a .out .now) (recordsOf (unpacked (mapOf m) (a .bits))) _ _ (unpack-as m (a .bits) _ (sym t)) (sym n) (omega (arith, n, c .before .before .before .before .if1 .left)) (c .before .before .put-list .ensures (a .bits) _ (s .1))
 
-pub unpack-spec : {M : Type 1} → statement M
-unpack-spec =
+pub unpack-over-spec : {M : Type 1} → statement M
+unpack-over-spec =
     tie.close
     (tie.spec
-    sanity-check-requires
+    check-over-requires
     enum-known-verdict
     enum-known-verdict-2
     cast-records
