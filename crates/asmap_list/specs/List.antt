@@ -6,6 +6,7 @@ use mathlib.Core.List.{List}
 use lib.ListN.{length}
 use Rattle.asmap_program.specs.declared.Verdict.{Verdict}
 use Rattle.asmap_program.specs.declared.Verdict.the-variants.{Accepted, Refused}
+use Rattle.asmap_program.specs.Widths.{atWidth}
 use Rattle.asmap_codes.specs.Instruction.{mapOf}
 use Rattle.asmap_check.specs.Check.{checkOf}
 use Rattle.asmap_records.specs.Output.{Result, Made, No}
@@ -31,3 +32,10 @@ bytesOf (No n) = needed.Refused n
 -- The bytes that a listing needs.
 abbrev pub neededOf : List ℕ → ℕ → Needed
 neededOf m w = bytesOf (listOf m w)
+
+-- Both at a width (document 02, CR 3): 18 where it is none.
+abbrev pub listAt : List ℕ → ℕ → Result
+listAt m w = atWidth w No (listOf m w)
+
+abbrev pub neededAt : List ℕ → ℕ → Needed
+neededAt m w = bytesOf (listAt m w)

@@ -9,12 +9,13 @@ ghost use Rattle.asmap_codes.specs.Instruction.{mapOf};
 ghost use Rattle.asmap_records.specs.Output.{Hands};
 ghost use Rattle.prefix_records.specs.Record.{recordsOf};
 ghost use Rattle.asmap_listing.specs.Listing.{listing};
-ghost use Rattle.asmap_list.specs.List.{listOf, neededOf};
+ghost use Rattle.asmap_list.specs.List.{listOf, listAt, neededOf, neededAt};
 ghost use Rattle.asmap_list.specs.Promise.{Covers};
 ghost use Rattle.asmap_list.specs.models.Listed.{Listed};
 use asmap_check::Counted;
 use asmap_list_step::Next;
 use asmap_list_step::Spot;
+use asmap_program::ADDRESS_BITS;
 use asmap_records::Answer;
 use prefix_records::Address;
 
@@ -56,13 +57,12 @@ fn put_listing(map: &[u8], count: usize, out: &mut [u8])
     }
 }
 
-// Lists a map that the check accepts at 128 address bits. Refusals: the check's, 1 to 10, then 14; a refused call writes nothing.
-// A number of 0 in a record is that of a MATCH that differs before a DEFAULT was met. It is not "unmapped", and no walk there is aborted.
-pub fn list(map: &[u8], out: &mut [u8]) -> Answer
-    ensures { λ r. ⌜ Hands (listOf (now (map .entry)) 128) (now (out .entry)) (now (out .exit)) r ⌝ }
-    ensures covers { λ r. ⌜ Covers (now (map .entry)) 128 ⌝ }
+// Lists a map that the check accepts over a number of address bits. The calls below fix it.
+fn list_over(map: &[u8], bits: u8, out: &mut [u8]) -> Answer
+    requires { ⌜ bits ≤ 128 ⌝ }
+    ensures { λ r. ⌜ Hands (listOf (now (map .entry)) bits) (now (out .entry)) (now (out .exit)) r ⌝ }
 {
-    let counted = asmap_check::sanity_check_pieces(map);
+    let counted = asmap_check::sanity_check_pieces(map, bits);
     match counted {
         Counted::Refused(reason) => Answer::Refused(reason),
         Counted::Pieces(pieces) => {
@@ -76,13 +76,52 @@ pub fn list(map: &[u8], out: &mut [u8]) -> Answer
     }
 }
 
-// How many bytes the listing of a map needs, for whoever has to lend them. Refused as the check does, 1 to 10.
-pub fn list_bytes(map: &[u8]) -> Needed
-    ensures { λ r. ⌜ r ≡ neededOf (now (map .entry)) 128 ⌝ }
+// Lists a map that the check accepts at 128 address bits. Refusals: the check's, 1 to 10, then 14; a refused call writes nothing.
+// A number of 0 in a record is that of a MATCH that differs before a DEFAULT was met. It is not "unmapped", and no walk there is aborted.
+pub fn list(map: &[u8], out: &mut [u8]) -> Answer
+    ensures { λ r. ⌜ Hands (listOf (now (map .entry)) 128) (now (out .entry)) (now (out .exit)) r ⌝ }
+    ensures covers { λ r. ⌜ Covers (now (map .entry)) 128 ⌝ }
 {
-    let counted = asmap_check::sanity_check_pieces(map);
+    list_over(map, ADDRESS_BITS, out)
+}
+
+// The same at a width: 18 for one that is neither 32 nor 128, before the check. At 32 a record has its address in the first 4 of the 16 bytes,
+// with zeros behind, and a prefix length of at most 32.
+pub fn list_bits(map: &[u8], width: u32, out: &mut [u8]) -> Answer
+    ensures { λ r. ⌜ Hands (listAt (now (map .entry)) width) (now (out .entry)) (now (out .exit)) r ⌝ }
+    ensures covers { λ r. ⌜ Covers (now (map .entry)) width ⌝ }
+{
+    if asmap_program::is_width(width) {
+        return list_over(map, width as u8, out);
+    }
+    Answer::Refused(18)
+}
+
+// How many bytes the listing of a map needs, over a number of address bits.
+fn bytes_over(map: &[u8], bits: u8) -> Needed
+    requires { ⌜ bits ≤ 128 ⌝ }
+    ensures { λ r. ⌜ r ≡ neededOf (now (map .entry)) bits ⌝ }
+{
+    let counted = asmap_check::sanity_check_pieces(map, bits);
     match counted {
         Counted::Refused(reason) => Needed::Refused(reason),
         Counted::Pieces(pieces) => Needed::Bytes(24 * pieces),
     }
+}
+
+// How many bytes the listing of a map needs, for whoever has to lend them. Refused as the check does, 1 to 10.
+pub fn list_bytes(map: &[u8]) -> Needed
+    ensures { λ r. ⌜ r ≡ neededOf (now (map .entry)) 128 ⌝ }
+{
+    bytes_over(map, ADDRESS_BITS)
+}
+
+// The same at a width: 18 for one that is neither 32 nor 128, before the check.
+pub fn list_bytes_bits(map: &[u8], width: u32) -> Needed
+    ensures { λ r. ⌜ r ≡ neededAt (now (map .entry)) width ⌝ }
+{
+    if asmap_program::is_width(width) {
+        return bytes_over(map, width as u8);
+    }
+    Needed::Refused(18)
 }

@@ -1,13 +1,15 @@
 -- Addresses as numbers and by their bits: each number below 2 ^ w is an address, and an address lies in a piece exactly where its first bits
 -- are the piece's prefix. So of an accepted map's listing, for each number below 2 ^ w.
 -- Assumes nothing.
-use Prim.Native.Nat.{ℕ, zero, suc, _+_, _-_, _*_, _/_, _^_, _≤_, _<_}
+use Prim.Native.Nat.{ℕ, zero, suc, _+_, _-_, _*_, _/_, _%_, _^_, _≤_, _<_}
 use mathlib.Core.Bool.{Bool, true, false, _&&_}
 use mathlib.Core.Path.{_≡_, refl, sym, ap, subst, _∙_}
-use mathlib.Core.List.{List}
-use native.Mathlib.Nat.{mod-lt, div-eq-of-lt, div-div-eq-div-mul, div-one, pow-suc, mul-le-mul-right}
+use mathlib.Core.List.{List, [], _∷_}
+use native.Mathlib.Nat.{mod-lt, div-eq-of-lt, div-div-eq-div-mul, div-one, pow-suc, mul-le-mul-right, mul-assoc, zero-add, suc-add}
 use native.Mathlib.Omega.{arith}
 use lib.Dec.{leb, ltb, eqb}
+use lib.ListN.{length, getD}
+use lib.Pow.{pow-pos}
 use borrow.Author.Tests.{lt-ltb, le-ltb, le-leb, lt-leb, ltb-true, ltb-false, eqb-true, eqb-false}
 use Rattle.asmap_program.specs.Map.{Map, Laws, addressBit, bitOf}
 use Rattle.asmap_program.specs.Check.{check}
@@ -43,6 +45,32 @@ pub number-again : (w x : ℕ) → x < 2 ^ w → numberOf (bitsOf w x) w ≡ x
 number-again w x h =
     let e : w - w ≡ 0 = omega arith in
     first-bits w x w h (omega arith) ∙ ap (λ (n : ℕ). x / 2 ^ n) e ∙ div-one x
+
+-- ---- behind the bytes of an address there are zeros
+
+past-end : (bytes : List ℕ) (n : ℕ) → length bytes ≤ n → getD bytes n 0 ≡ 0
+past-end [] n h = refl
+past-end (b ∷ bs) zero h = absurd (omega arith)
+past-end (b ∷ bs) (suc n) h = past-end bs n (omega arith)
+
+no-bit : (bytes : List ℕ) (u : ℕ) → 8 * length bytes ≤ u → addressBit bytes u ≡ 0
+no-bit bytes u h =
+    ap (λ (n : ℕ). bitOf n (7 - u % 8)) (past-end bytes (u / 8) (omega arith))
+    ∙ ap (λ (n : ℕ). n % 2) (div-eq-of-lt (pow-pos (7 - u % 8)))
+
+zeros-behind : (bytes : List ℕ) (w k : ℕ) → 8 * length bytes ≤ w → numberOf (addressBit bytes) (k + w) ≡ numberOf (addressBit bytes) w * 2 ^ k
+unfolding numberOf
+zeros-behind bytes w zero h = ap (numberOf (addressBit bytes)) (zero-add w) ∙ omega arith
+zeros-behind bytes w (suc k) h =
+    let n = numberOf (addressBit bytes) w in
+    ap (numberOf (addressBit bytes)) (suc-add k w)
+    ∙ omega (arith, no-bit bytes (k + w) (omega arith), zeros-behind bytes w k h, ap (λ (x : ℕ). n * x) (pow-suc 2 k), sym (mul-assoc n (2 ^ k) 2))
+
+-- an address of w bits among those of v bits
+pub number-wider : (bytes : List ℕ) (w v : ℕ) → w ≤ v → 8 * length bytes ≤ w → numberOf (addressBit bytes) v ≡ numberOf (addressBit bytes) w * 2 ^ (v - w)
+number-wider bytes w v h l =
+    let e : v ≡ v - w + w = omega arith in
+    ap (numberOf (addressBit bytes)) e ∙ zeros-behind bytes w (v - w) l
 
 -- an address lies in a piece exactly where it begins with the prefix
 pub begins : (a : ℕ → ℕ) → Bits a → (w : ℕ) (p : Piece) → p .length ≤ w

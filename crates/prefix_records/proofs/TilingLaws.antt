@@ -5,11 +5,11 @@ use Prim.Native.Nat.{ℕ, zero, suc, _+_, _-_, _*_, _^_, _≤_, _<_}
 use mathlib.Core.Bool.{Bool, true, false, _&&_}
 use mathlib.Core.Path.{_≡_, refl, sym, ap, subst, _∙_}
 use mathlib.Core.List.{List, [], _∷_, _++_}
-use native.Mathlib.Nat.{add-zero, add-suc, suc-mul, zero-mul, mul-assoc, mul-left-comm, pow-succ', mul-one}
+use native.Mathlib.Nat.{add-zero, add-suc, suc-mul, zero-mul, mul-assoc, mul-left-comm, pow-succ', mul-one, mul-le-mul-right, mul-lt-mul-of-pos-right}
 use native.Mathlib.Omega.{arith}
 use lib.Dec.{leb, ltb}
 use lib.Pow.{pow-add, pow-pos}
-use borrow.Author.Tests.{ltb-true, ltb-false, lt-ltb, le-ltb, le-leb, lt-leb}
+use borrow.Author.Tests.{ltb-true, ltb-false, leb-true, leb-false, lt-ltb, le-ltb, le-leb, lt-leb}
 use Rattle.prefix_records.specs.Tiling.{Piece, firstOf, pastOf, Tiles, Block, holds, keep, holding, JustOne, numberOf, Bits}
 
 -- ---- numbers
@@ -72,6 +72,36 @@ tiles-all w v h ps t =
     let q : 2 ^ w * 2 ^ (v - w) ≡ 2 ^ v = sym (pow-add 2 w (v - w)) ∙ ap (λ (n : ℕ). 2 ^ n) e in
     subst (λ (n : ℕ). Tiles v 0 n ps) q
     (subst (λ (n : ℕ). Tiles v n (2 ^ w * 2 ^ (v - w)) ps) (zero-mul (2 ^ (v - w))) (tiles-wider w v 0 (2 ^ w) h ps t))
+
+-- of two numbers times another the one is less, or at most the other, exactly where it was
+pub times-less : (x y k : ℕ) → 0 < k → ltb x y ≡ ltb (x * k) (y * k)
+times-less x y k h = go (ltb x y) refl
+  where
+    go : (b : Bool) → ltb x y ≡ b → b ≡ ltb (x * k) (y * k)
+    go true e = sym (lt-ltb (x * k) (y * k) (mul-lt-mul-of-pos-right (ltb-true x y e) h))
+    go false e = sym (le-ltb (x * k) (y * k) (mul-le-mul-right k (ltb-false x y e)))
+
+times-most : (x y k : ℕ) → 0 < k → leb x y ≡ leb (x * k) (y * k)
+times-most x y k h = go (leb x y) refl
+  where
+    go : (b : Bool) → leb x y ≡ b → b ≡ leb (x * k) (y * k)
+    go true e = sym (le-leb (x * k) (y * k) (mul-le-mul-right k (leb-true x y e)))
+    go false e = sym (lt-leb (x * k) (y * k) (mul-lt-mul-of-pos-right (leb-false x y e) h))
+
+-- an address of w bits lies in the same pieces as the one with zeros behind it
+holds-wider : (w v x : ℕ) → w ≤ v → (p : Piece) → p .length ≤ w → holds w x p ≡ holds v (x * 2 ^ (v - w)) p
+holds-wider w v x h p l =
+    let k = 2 ^ (v - w) in
+    let z = pow-pos (v - w) in
+    ap (λ (b : Bool). b && ltb x (pastOf w p)) (times-most (firstOf w p) x k z ∙ ap (λ (n : ℕ). leb n (x * k)) (sym (wider w v (p .prefix) (p .length) l h)))
+    ∙ ap (λ (b : Bool). leb (firstOf v p) (x * k) && b) (times-less x (pastOf w p) k z ∙ ap (ltb (x * k)) (sym (wider w v (p .prefix + 1) (p .length) l h)))
+
+pub holding-wider : (w v x lo hi : ℕ) → w ≤ v → (ps : List Piece) → Tiles w lo hi ps → holding w x ps ≡ holding v (x * 2 ^ (v - w)) ps
+unfolding holding
+holding-wider w v x lo hi h [] t = refl
+holding-wider w v x lo hi h (p ∷ ps) t =
+    ap (λ (b : Bool). keep b p (holding w x ps)) (holds-wider w v x h p (t .1))
+    ∙ ap (keep (holds v (x * 2 ^ (v - w)) p) p) (holding-wider w v x (pastOf w p) hi h ps (t .2))
 
 -- ---- where an address lies
 

@@ -1,70 +1,18 @@
--- `asmap_list::list` meets its contract: the check's count decides, and the law of the listing is cited for what is promised beside.
+-- `asmap_list::list` meets its contract: the law of the listing is cited for what is promised beside.
 -- Assumes nothing.
 use borrow.Author.Needs.{needs}
-use mathlib.Core.Path.{_∙_, sym}
-use native.Mathlib.Omega.{arith}
-use Rattle.asmap_codes.specs.Instruction.{mapOf}
-use Rattle.asmap_records.proofs.OutputLaws.{hands-no, hands-short, hands-made}
-use Rattle.prefix_records.specs.Record.{recordsOf}
-use Rattle.asmap_listing.specs.Listing.{listing}
-use Rattle.asmap_list.specs.List.{listOf}
-use Rattle.asmap_list.proofs.CallLaws.{Counts, counts, refuses, covered}
+use Rattle.asmap_list.proofs.CallLaws.{covered}
 use Rattle.asmap_list.proofs.list.Statement.{statement}
 use Rattle.asmap_list.proofs.list.Tie as tie
 
--- the map was accepted, with its pieces counted
-known : (c : tie.After-known-told2) → Counts (c .before .before .before .before .before .before .args .map .now) 128 (c .before .counted2 .given .0 .0)
-known c = counts _ 128 (omega arith) _ (sym (c .before .counted2 .given .1) ∙ c .before .before .before .sanity-check-pieces .ensures .0)
-
-sanity-check-pieces-requires : tie.Need-sanity-check-pieces-requires
-sanity-check-pieces-requires c κs = search needs
-
-enum-known-counted : tie.Need-enum-known-counted
-enum-known-counted c = search needs
-
-enum-known-counted-2 : tie.Need-enum-known-counted-2
-enum-known-counted-2 c = search needs
-
-returns : tie.Need-returns
-returns c =
-    let a = c .before .before .before .before .before .before .before .args in
-    let m = a .map .now in
-    let k = known (c .before) in
-    (hands-short (listOf m 128) (a .out .now) (recordsOf (listing (mapOf m))) (k .made) (omega (arith, k .long, c .if1 .taken)), covered m 128)
-
-mul-bytes : tie.Need-mul-bytes
-mul-bytes c = search needs
-
-put-listing-requires : tie.Need-put-listing-requires
-put-listing-requires c κs = let k = known (c .before .before) in (k .within, omega (arith, c .before .if1 .left), k .listed)
-
-returns-2 : tie.Need-returns-2
-returns-2 c =
-    let a = c .before .before .before .before .before .before .args in
-    let m = a .map .now in
-    let g = c .before .counted .given in
-    (hands-no (listOf m 128) (a .out .now) (g .0 .0) (refuses m 128 (omega arith) (g .0 .0) (sym (g .1) ∙ c .before .before .before .sanity-check-pieces .ensures .0)), covered m 128)
+list-over-requires : tie.Need-list-over-requires
+list-over-requires c κs = search needs
 
 same-length : tie.Need-same-length
 same-length c = search needs
 
-returns-3 : tie.Need-returns-3
-returns-3 c =
-    let a = c .before .before .before .before .before .before .before .before .before .before .before .args in
-    let m = a .map .now in
-    let k = known (c .before .before .before .before .before) in
-    (hands-made (listOf m 128) (a .out .now) (recordsOf (listing (mapOf m))) _ _ (k .made) (omega (arith, k .long)) (omega (arith, k .long, c .before .before .before .before .if1 .left)) (c .before .before .put-listing .ensures), covered m 128)
+returns : tie.Need-returns
+returns c = (c .before .before .list-over .ensures, covered (c .before .before .before .before .before .before .args .map .now) 128)
 
 pub list-spec : {M : Type 1} → statement M
-list-spec =
-    tie.close
-    (tie.spec
-    sanity-check-pieces-requires
-    enum-known-counted
-    enum-known-counted-2
-    returns
-    mul-bytes
-    put-listing-requires
-    returns-2
-    same-length
-    returns-3)
+list-spec = tie.close (tie.spec list-over-requires same-length returns)
