@@ -5,7 +5,7 @@ use mathlib.Core.Bool.{Bool, true, false}
 use mathlib.Core.Path.{_≡_, refl, sym, ap, subst, _∙_}
 use mathlib.Core.List.{List, [], _∷_, _++_}
 use native.Mathlib.Omega.{arith}
-use lib.Dec.{ltb, eqb}
+use lib.Dec.{eqb}
 use lib.ListN.{length}
 use lib.Seq.{sets}
 use borrow.Author.Tests.{lt-ltb, le-ltb, eqb-true, eqb-false}
@@ -17,9 +17,8 @@ use Rattle.asmap_program.specs.Check.{unpacked}
 use Rattle.asmap_program.specs.models.Pieces.{countPieces}
 use Rattle.asmap_codes.specs.Instruction.{mapOf}
 use Rattle.asmap_check.specs.Check.{checkOf}
-use Rattle.asmap_check.specs.declared.Counted.{Counted}
 use Rattle.asmap_check.specs.declared.Counted.the-variants.{Pieces, Refused}
-use Rattle.asmap_check.specs.models.Counted.{countedAs, countedOf, most, Few}
+use Rattle.asmap_check.specs.models.Counted.{countedAs, countedOf, most}
 use Rattle.asmap_check.proofs.Reasons.{Judged, map-judged}
 use Rattle.asmap_records.specs.Output.{Result, Made, No, refuse, within, leaves, Hands}
 use Rattle.asmap_records.proofs.RecordLaws.{sets-front}
@@ -28,44 +27,45 @@ use Rattle.asmap_records.specs.declared.Answer.{Answer}
 use Rattle.asmap_records.specs.declared.Answer.the-variants as answer
 use Rattle.prefix_records.specs.Tiling.{numberOf}
 use Rattle.prefix_changes.specs.Change.{Change, changes, among, Tells}
-use Rattle.prefix_changes.specs.Record.{changeRecordsOf, firstChanged}
-use Rattle.prefix_changes.proofs.ChangeLaws.{changes-few, changes-rise, changes-same, changes-back}
+use Rattle.prefix_changes.specs.Record.{firstChanged}
+use Rattle.prefix_changes.proofs.ChangeLaws.{changes-rise, changes-same, changes-back}
 use Rattle.prefix_changes.proofs.TellLaws.{tells}
+use Rattle.prefix_changes.proofs.WiderLaws.{changes-wider}
 use Rattle.prefix_changes.proofs.RecordLaws.{length-changes}
 use Rattle.asmap_listing.specs.Listing.{listing}
 use Rattle.asmap_program.specs.Map.{addressBit}
 use Rattle.asmap_list.specs.declared.Needed.{Needed}
 use Rattle.asmap_list.specs.declared.Needed.the-variants as needed
-use Rattle.asmap_list.specs.List.{bytesOf}
-use Rattle.asmap_list.proofs.CallLaws.{Counts, counts, covered}
-use Rattle.asmap_compare.specs.Compare.{Comparison, Told, Refuses, changesOf, comparedAs, comparison, recordsMade, compareOf, firstMade, neededWith, Finds}
-use Rattle.asmap_compare.specs.Promise.{endsAt, Compared, Compares}
+use Rattle.asmap_list.proofs.CallLaws.{counts, covered}
+use Rattle.asmap_compare.specs.Compare.{Comparison, Told, Refuses, changesOf, comparedAs, comparison, recordsMade, neededWith, Finds}
+use Rattle.asmap_compare.specs.Promise.{endsAt, Compares}
 use Rattle.asmap_compare.specs.models.Side.{Ready}
 
 -- ---- what a count tells
 
-pub ready : (m : List ℕ) (n : ℕ) → Pieces n ≡ countedOf m 128 → n ≤ most → Ready m × (length (listing (mapOf m)) ≡ n)
-ready m n e h =
-    let c = counts m 128 (omega arith) n e in
-    (record { within = c .within; scans = c .listed .scans; tiles = c .listed .tiles; few = omega (arith, c .listed .count, h) }, c .listed .count)
+module _ (m : List ℕ) (w : ℕ) (narrow : w ≤ 128) where
+  pub ready : (n : ℕ) → Pieces n ≡ countedOf m w → n ≤ most → Ready m × (length (listing (mapOf m)) ≡ n)
+  ready n e h =
+      let c = counts m w narrow n e in
+      (record { within = c .within; scans = c .listed .scans; tiles = c .listed .tiles; few = omega (arith, c .listed .count, h) }, c .listed .count)
 
-pub accepts : (m : List ℕ) (n : ℕ) → Pieces n ≡ countedOf m 128 → (c : ℕ) × (d : ℕ) × (checkOf m 128 ≡ verdict.Accepted c d)
-accepts m n e = go (checkOf m 128) refl e
-  where
-    go : (v : Verdict) → checkOf m 128 ≡ v → Pieces n ≡ countedAs (countPieces (unpacked (mapOf m) 128)) v → (c : ℕ) × (d : ℕ) × (checkOf m 128 ≡ verdict.Accepted c d)
-    go (verdict.Accepted c d) h q = (c, d, h)
-    go (verdict.Refused r) h q = let z : _≡_ {A = ℕ} 0 1 = cc in absurd (omega arith)
+  pub accepts : (n : ℕ) → Pieces n ≡ countedOf m w → (c : ℕ) × (d : ℕ) × (checkOf m w ≡ verdict.Accepted c d)
+  accepts n e = go (checkOf m w) refl e
+    where
+      go : (v : Verdict) → checkOf m w ≡ v → Pieces n ≡ countedAs (countPieces (unpacked (mapOf m) w)) v → (c : ℕ) × (d : ℕ) × (checkOf m w ≡ verdict.Accepted c d)
+      go (verdict.Accepted c d) h q = (c, d, h)
+      go (verdict.Refused r) h q = let z : _≡_ {A = ℕ} 0 1 = cc in absurd (omega arith)
 
-pub refuses : (m : List ℕ) (r : ℕ) → Refused r ≡ countedOf m 128 → checkOf m 128 ≡ verdict.Refused r
-refuses m r e = go (checkOf m 128) refl e
-  where
-    go : (v : Verdict) → checkOf m 128 ≡ v → Refused r ≡ countedAs (countPieces (unpacked (mapOf m) 128)) v → checkOf m 128 ≡ verdict.Refused r
-    go (verdict.Accepted c d) h q = let z : _≡_ {A = ℕ} 0 1 = cc in absurd (omega arith)
-    go (verdict.Refused n) h q = let z : r ≡ n = cc in h ∙ ap verdict.Refused (sym z)
+  pub refuses : (r : ℕ) → Refused r ≡ countedOf m w → checkOf m w ≡ verdict.Refused r
+  refuses r e = go (checkOf m w) refl e
+    where
+      go : (v : Verdict) → checkOf m w ≡ v → Refused r ≡ countedAs (countPieces (unpacked (mapOf m) w)) v → checkOf m w ≡ verdict.Refused r
+      go (verdict.Accepted c d) h q = let z : _≡_ {A = ℕ} 0 1 = cc in absurd (omega arith)
+      go (verdict.Refused n) h q = let z : r ≡ n = cc in h ∙ ap verdict.Refused (sym z)
 
--- the number of a refusal has room for 100 more
-pub small-reason : (m : List ℕ) (r : ℕ) → checkOf m 128 ≡ verdict.Refused r → r ≤ 10
-small-reason m r e = subst (Judged (λ n. n ≤ 10)) e (map-judged (λ n. n ≤ 10) (λ n l h. h) m 128 (omega arith))
+  -- the number of a refusal has room for 100 more
+  pub small-reason : (r : ℕ) → checkOf m w ≡ verdict.Refused r → r ≤ 10
+  small-reason r e = subst (Judged (λ n. n ≤ 10)) e (map-judged (λ n. n ≤ 10) (λ n l h. h) m w (omega arith))
 
 -- ---- what the calls make of it
 
@@ -84,17 +84,24 @@ module _ (old new : List ℕ) (w : ℕ) where
   new-refused c d r e f =
       ap (λ (v : Verdict). comparedAs (changesOf old new w) v (checkOf new w)) e ∙ ap (comparedAs (changesOf old new w) (verdict.Accepted c d)) f
 
+-- the loop compares pieces among addresses of 128 bits, and finds the changes over w bits
+pub told-wide : (old new : List ℕ) (w : ℕ) → w ≤ 128 → (c d c′ d′ : ℕ) → checkOf old w ≡ verdict.Accepted c d → checkOf new w ≡ verdict.Accepted c′ d′
+    → comparison old new w ≡ Told (changesOf old new 128)
+told-wide old new w narrow c d c′ d′ e f =
+    told old new w c d c′ d′ e f
+    ∙ ap Told (changes-wider w 128 narrow 0 0 (2 ^ w) (2 ^ w) (listing (mapOf old)) (listing (mapOf new)) (covered old w c d e .tiles) (covered new w c′ d′ f .tiles))
+
 pub hands-refused : (x : Comparison) (o : List ℕ) (n : ℕ) → x ≡ Refuses n → Hands (recordsMade x) o o (answer.Refused n)
 hands-refused x o n e = hands-no (recordsMade x) o n (ap recordsMade e)
 
-pub hands-told : (x : Comparison) (cs : List Change) (o o′ : List ℕ) (r : Answer) → x ≡ Told cs → Hands (Made (changeRecordsOf cs)) o o′ r → Hands (recordsMade x) o o′ r
-hands-told x cs o o′ r e h = subst (λ (y : Comparison). Hands (recordsMade y) o o′ r) (sym e) h
+pub hands-same : (x y : Comparison) (o o′ : List ℕ) (r : Answer) → x ≡ y → Hands (recordsMade y) o o′ r → Hands (recordsMade x) o o′ r
+hands-same x y o o′ r e h = subst (λ (y : Comparison). Hands (recordsMade y) o o′ r) (sym e) h
 
 pub finds-refused : (x : Comparison) (o : List ℕ) (n : ℕ) → x ≡ Refuses n → Finds x o o (needed.Refused n)
 finds-refused x o n e = subst (λ (y : Comparison). Finds y o o (needed.Refused n)) (sym e) record { answer = refl; output = refl }
 
-pub finds-told : (x : Comparison) (cs : List Change) (o o′ : List ℕ) (r : Needed) → x ≡ Told cs → Finds (Told cs) o o′ r → Finds x o o′ r
-finds-told x cs o o′ r e h = subst (λ (y : Comparison). Finds y o o′ r) (sym e) h
+pub finds-same : (x y : Comparison) (o o′ : List ℕ) (r : Needed) → x ≡ y → Finds y o o′ r → Finds x o o′ r
+finds-same x y o o′ r e h = subst (λ (y : Comparison). Finds y o o′ r) (sym e) h
 
 -- ---- the first address that differs
 

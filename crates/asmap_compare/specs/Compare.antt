@@ -7,6 +7,7 @@ use mathlib.Core.List.{List}
 use lib.ListN.{length}
 use Rattle.asmap_program.specs.declared.Verdict.{Verdict}
 use Rattle.asmap_program.specs.declared.Verdict.the-variants.{Accepted, Refused}
+use Rattle.asmap_program.specs.Widths.{atWidth}
 use Rattle.asmap_codes.specs.Instruction.{mapOf}
 use Rattle.asmap_check.specs.Check.{checkOf}
 use Rattle.asmap_records.specs.Output.{Result, Made, No, within, leaves}
@@ -35,6 +36,10 @@ comparedAs cs (Accepted c d) (Accepted c′ d′) = Told cs
 unfoldable pub comparison : List ℕ → List ℕ → ℕ → Comparison
 comparison old new w = comparedAs (changesOf old new w) (checkOf old w) (checkOf new w)
 
+-- The same at a width, which both maps have (document 02, CR 3): 18 where it is none.
+abbrev pub comparisonAt : List ℕ → List ℕ → ℕ → Comparison
+comparisonAt old new w = atWidth w Refuses (comparison old new w)
+
 -- The bytes that the comparison makes: a record for each change.
 abbrev pub recordsMade : Comparison → Result
 recordsMade (Told cs) = Made (changeRecordsOf cs)
@@ -42,6 +47,9 @@ recordsMade (Refuses n) = No n
 
 abbrev pub compareOf : List ℕ → List ℕ → ℕ → Result
 compareOf old new w = recordsMade (comparison old new w)
+
+abbrev pub compareAt : List ℕ → List ℕ → ℕ → Result
+compareAt old new w = recordsMade (comparisonAt old new w)
 
 -- The 16 bytes that the other call makes: the first address that differs.
 abbrev pub firstMade : Comparison → Result

@@ -13,13 +13,14 @@ ghost use Rattle.asmap_records.specs.Output.{Made, Hands};
 ghost use Rattle.prefix_records.specs.Tiling.{Piece};
 ghost use Rattle.prefix_records.specs.models.Cursor.{valueOf, recordAt, Behind};
 ghost use Rattle.prefix_changes.specs.Record.{changeRecordsOf};
-ghost use Rattle.asmap_compare.specs.Compare.{Told, changesOf, comparison, compareOf, Finds};
+ghost use Rattle.asmap_compare.specs.Compare.{Told, changesOf, comparison, comparisonAt, compareOf, compareAt, Finds};
 ghost use Rattle.asmap_compare.specs.Promise.{Compares};
 ghost use Rattle.asmap_compare.specs.models.Side.{Ready, Coming, Comes, Fronted, Paired, placeOf, putIf, added, Noted, Roomy, RoomFor, Whole, mostChanges};
 use asmap_check::Counted;
 use asmap_list::Needed;
 use asmap_list_step::Next;
 use asmap_list_step::Spot;
+use asmap_program::ADDRESS_BITS;
 use asmap_records::Answer;
 use prefix_records::Address;
 
@@ -279,23 +280,42 @@ fn write_if_room(old: &[u8], new: &[u8], pieces: usize, out: &mut [u8]) -> Answe
     write_changes(old, new, out)
 }
 
-// Compares two maps that the check accepts at 128 address bits. Refusals: the old map's check, 1 to 10; the new map's, 101 to 110, which is the check's
-// number and 100 more; then 14. A refused call writes nothing.
-pub fn compare(old: &[u8], new: &[u8], out: &mut [u8]) -> Answer
-    ensures { λ r. ⌜ Hands (compareOf (now (old .entry)) (now (new .entry)) 128) (now (out .entry)) (now (out .exit)) r ⌝ }
-    ensures compares { λ r. ⌜ Compares (now (old .entry)) (now (new .entry)) 128 ⌝ }
+// Compares two maps that the check accepts over a number of address bits. The calls below fix it.
+fn compare_over(old: &[u8], new: &[u8], bits: u8, out: &mut [u8]) -> Answer
+    requires { ⌜ bits ≤ 128 ⌝ }
+    ensures { λ r. ⌜ Hands (compareOf (now (old .entry)) (now (new .entry)) bits) (now (out .entry)) (now (out .exit)) r ⌝ }
 {
-    let old_counted = asmap_check::sanity_check_pieces(old);
+    let old_counted = asmap_check::sanity_check_pieces(old, bits);
     match old_counted {
         Counted::Refused(reason) => Answer::Refused(reason),
         Counted::Pieces(olds) => {
-            let new_counted = asmap_check::sanity_check_pieces(new);
+            let new_counted = asmap_check::sanity_check_pieces(new, bits);
             match new_counted {
                 Counted::Refused(reason) => Answer::Refused(100 + reason),
                 Counted::Pieces(news) => write_if_room(old, new, olds + news, out),
             }
         }
     }
+}
+
+// Compares two maps that the check accepts at 128 address bits. Refusals: the old map's check, 1 to 10; the new map's, 101 to 110, which is the check's
+// number and 100 more; then 14. A refused call writes nothing.
+pub fn compare(old: &[u8], new: &[u8], out: &mut [u8]) -> Answer
+    ensures { λ r. ⌜ Hands (compareOf (now (old .entry)) (now (new .entry)) 128) (now (out .entry)) (now (out .exit)) r ⌝ }
+    ensures compares { λ r. ⌜ Compares (now (old .entry)) (now (new .entry)) 128 ⌝ }
+{
+    compare_over(old, new, ADDRESS_BITS, out)
+}
+
+// The same at a width, which both maps have: 18 for one that is neither 32 nor 128, before the checks.
+pub fn compare_bits(old: &[u8], new: &[u8], width: u32, out: &mut [u8]) -> Answer
+    ensures { λ r. ⌜ Hands (compareAt (now (old .entry)) (now (new .entry)) width) (now (out .entry)) (now (out .exit)) r ⌝ }
+    ensures compares { λ r. ⌜ Compares (now (old .entry)) (now (new .entry)) width ⌝ }
+{
+    if asmap_program::is_width(width) {
+        return compare_over(old, new, width as u8, out);
+    }
+    Answer::Refused(18)
 }
 
 // How many bytes the changes of two maps that the check accepts need, and the first address that differs, into 16 bytes.
@@ -313,21 +333,40 @@ fn find_changes(old: &[u8], new: &[u8], first: &mut [u8]) -> Needed
     Needed::Bytes(28 * found.pieces)
 }
 
-// How many bytes `compare` needs, for whoever has to lend them, and the first address that differs: 0 bytes and 16 zeros where none does. Refused as
-// `compare` is, with 14 where fewer than 16 bytes are lent for the address; a refused call writes nothing.
-pub fn compare_bytes(old: &[u8], new: &[u8], first: &mut [u8]) -> Needed
-    ensures { λ r. ⌜ Finds (comparison (now (old .entry)) (now (new .entry)) 128) (now (first .entry)) (now (first .exit)) r ⌝ }
-    ensures compares { λ r. ⌜ Compares (now (old .entry)) (now (new .entry)) 128 ⌝ }
+// How many bytes a comparison needs, over a number of address bits, and the first address that differs.
+fn bytes_over(old: &[u8], new: &[u8], bits: u8, first: &mut [u8]) -> Needed
+    requires { ⌜ bits ≤ 128 ⌝ }
+    ensures { λ r. ⌜ Finds (comparison (now (old .entry)) (now (new .entry)) bits) (now (first .entry)) (now (first .exit)) r ⌝ }
 {
-    let old_counted = asmap_check::sanity_check_pieces(old);
+    let old_counted = asmap_check::sanity_check_pieces(old, bits);
     match old_counted {
         Counted::Refused(reason) => Needed::Refused(reason),
         Counted::Pieces(_) => {
-            let new_counted = asmap_check::sanity_check_pieces(new);
+            let new_counted = asmap_check::sanity_check_pieces(new, bits);
             match new_counted {
                 Counted::Refused(reason) => Needed::Refused(100 + reason),
                 Counted::Pieces(_) => find_changes(old, new, first),
             }
         }
     }
+}
+
+// How many bytes `compare` needs, for whoever has to lend them, and the first address that differs: 0 bytes and 16 zeros where none does. Refused as
+// `compare` is, with 14 where fewer than 16 bytes are lent for the address; a refused call writes nothing.
+pub fn compare_bytes(old: &[u8], new: &[u8], first: &mut [u8]) -> Needed
+    ensures { λ r. ⌜ Finds (comparison (now (old .entry)) (now (new .entry)) 128) (now (first .entry)) (now (first .exit)) r ⌝ }
+    ensures compares { λ r. ⌜ Compares (now (old .entry)) (now (new .entry)) 128 ⌝ }
+{
+    bytes_over(old, new, ADDRESS_BITS, first)
+}
+
+// The same at a width, which both maps have: 18 for one that is neither 32 nor 128, before the checks.
+pub fn compare_bytes_bits(old: &[u8], new: &[u8], width: u32, first: &mut [u8]) -> Needed
+    ensures { λ r. ⌜ Finds (comparisonAt (now (old .entry)) (now (new .entry)) width) (now (first .entry)) (now (first .exit)) r ⌝ }
+    ensures compares { λ r. ⌜ Compares (now (old .entry)) (now (new .entry)) width ⌝ }
+{
+    if asmap_program::is_width(width) {
+        return bytes_over(old, new, width as u8, first);
+    }
+    Needed::Refused(18)
 }

@@ -1,3 +1,4 @@
 pub mod ChangeLaws
 pub mod TellLaws
+pub mod WiderLaws
 pub mod RecordLaws

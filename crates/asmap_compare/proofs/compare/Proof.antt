@@ -1,76 +1,19 @@
--- `asmap_compare::compare` meets its contract: both checks decide, and the law of changes is cited for what is promised beside.
+-- `asmap_compare::compare` meets its contract: the law of changes is cited for what is promised beside.
 -- Assumes nothing.
 use borrow.Author.Needs.{needs}
-use native.Mathlib.Omega.{arith}
-use mathlib.Core.Path.{sym, subst, _∙_}
-use Rattle.asmap_check.specs.models.Counted.{Few}
-use Rattle.asmap_compare.specs.Compare.{changesOf, comparison}
-use Rattle.asmap_compare.proofs.CallLaws.{ready, accepts, refuses, small-reason, told, old-refused, new-refused, hands-refused, hands-told, compared}
-use Rattle.asmap_compare.proofs.MergeLaws.{bounded-changes}
+use Rattle.asmap_compare.proofs.CallLaws.{compared}
 use Rattle.asmap_compare.proofs.compare.Statement.{statement}
 use Rattle.asmap_compare.proofs.compare.Tie as tie
 
-sanity-check-pieces-requires : tie.Need-sanity-check-pieces-requires
-sanity-check-pieces-requires c κs = search needs
-
-enum-known-old-counted : tie.Need-enum-known-old-counted
-enum-known-old-counted c = search needs
-
-enum-known-old-counted-2 : tie.Need-enum-known-old-counted-2
-enum-known-old-counted-2 c = search needs
-
-sanity-check-pieces-requires-2 : tie.Need-sanity-check-pieces-requires-2
-sanity-check-pieces-requires-2 c κs = search needs
-
-enum-known-new-counted : tie.Need-enum-known-new-counted
-enum-known-new-counted c = search needs
-
-add-t12 : tie.Need-add-t12
-add-t12 c = omega (arith, small-reason (c .before .before .before .before .before .before .before .before .before .before .before .args .new .now) _ (refuses (c .before .before .before .before .before .before .before .before .before .before .before .args .new .now) _ (sym (c .before .new-counted .given .1) ∙ c .before .before .before .sanity-check-pieces2 .ensures .0)))
-
-enum-known-new-counted-2 : tie.Need-enum-known-new-counted-2
-enum-known-new-counted-2 c = search needs
-
-add-write-if-room : tie.Need-add-write-if-room
-add-write-if-room c = omega (arith, (subst Few (c .before .before .before .before .before .old-counted2 .given .1) (c .before .before .before .before .before .before .before .sanity-check-pieces .ensures .1)), (subst Few (c .before .new-counted2 .given .1) (c .before .before .before .sanity-check-pieces2 .ensures .1)))
-
-write-if-room-requires : tie.Need-write-if-room-requires
-write-if-room-requires c κs =
-    let x = ready (c .before .before .before .before .before .before .before .before .before .before .before .before .args .old .now) _ (sym (c .before .before .before .before .before .before .old-counted2 .given .1) ∙ c .before .before .before .before .before .before .before .before .sanity-check-pieces .ensures .0) (subst Few (c .before .before .before .before .before .before .old-counted2 .given .1) (c .before .before .before .before .before .before .before .before .sanity-check-pieces .ensures .1)) in
-    let y = ready (c .before .before .before .before .before .before .before .before .before .before .before .before .args .new .now) _ (sym (c .before .before .new-counted2 .given .1) ∙ c .before .before .before .before .sanity-check-pieces2 .ensures .0) (subst Few (c .before .before .new-counted2 .given .1) (c .before .before .before .before .sanity-check-pieces2 .ensures .1)) in
-    (x .0, y .0, bounded-changes _ _ _ _ (x .0) (y .0) (x .1) (y .1))
-
-returns : tie.Need-returns
-returns c = (hands-refused (comparison (c .before .before .before .before .before .before .before .args .old .now) (c .before .before .before .before .before .before .before .args .new .now) 128) (c .before .before .before .before .before .before .before .args .out .now) _ (old-refused (c .before .before .before .before .before .before .before .args .old .now) (c .before .before .before .before .before .before .before .args .new .now) 128 _ (refuses (c .before .before .before .before .before .before .before .args .old .now) _ (sym (c .before .old-counted .given .1) ∙ c .before .before .before .sanity-check-pieces .ensures .0))), compared _ _ 128)
-
-returns-2 : tie.Need-returns-2
-returns-2 c =
-    let x = accepts (c .before .before .before .before .before .before .before .before .before .before .before .args .old .now) _ (sym (c .before .before .before .before .before .old-counted2 .given .1) ∙ c .before .before .before .before .before .before .before .sanity-check-pieces .ensures .0) in
-    (hands-refused (comparison (c .before .before .before .before .before .before .before .before .before .before .before .args .old .now) (c .before .before .before .before .before .before .before .before .before .before .before .args .new .now) 128) (c .before .before .before .before .before .before .before .before .before .before .before .args .out .now) _ (new-refused (c .before .before .before .before .before .before .before .before .before .before .before .args .old .now) (c .before .before .before .before .before .before .before .before .before .before .before .args .new .now) 128 _ _ _ (x .2) (refuses (c .before .before .before .before .before .before .before .before .before .before .before .args .new .now) _ (sym (c .before .new-counted .given .1) ∙ c .before .before .before .sanity-check-pieces2 .ensures .0))), compared _ _ 128)
+compare-over-requires : tie.Need-compare-over-requires
+compare-over-requires c κs = search needs
 
 same-length : tie.Need-same-length
 same-length c = search needs
 
-returns-3 : tie.Need-returns-3
-returns-3 c =
-    let x = accepts (c .before .before .before .before .before .before .before .before .before .before .before .before .before .before .before .args .old .now) _ (sym (c .before .before .before .before .before .before .before .before .before .old-counted2 .given .1) ∙ c .before .before .before .before .before .before .before .before .before .before .before .sanity-check-pieces .ensures .0) in
-    let y = accepts (c .before .before .before .before .before .before .before .before .before .before .before .before .before .before .before .args .new .now) _ (sym (c .before .before .before .before .before .new-counted2 .given .1) ∙ c .before .before .before .before .before .before .before .sanity-check-pieces2 .ensures .0) in
-    (hands-told (comparison (c .before .before .before .before .before .before .before .before .before .before .before .before .before .before .before .args .old .now) (c .before .before .before .before .before .before .before .before .before .before .before .before .before .before .before .args .new .now) 128) (changesOf (c .before .before .before .before .before .before .before .before .before .before .before .before .before .before .before .args .old .now) (c .before .before .before .before .before .before .before .before .before .before .before .before .before .before .before .args .new .now) 128) (c .before .before .before .before .before .before .before .before .before .before .before .before .before .before .before .args .out .now) _ _ (told (c .before .before .before .before .before .before .before .before .before .before .before .before .before .before .before .args .old .now) (c .before .before .before .before .before .before .before .before .before .before .before .before .before .before .before .args .new .now) 128 _ _ _ _ (x .2) (y .2)) (c .before .before .write-if-room .ensures), compared _ _ 128)
+returns : tie.Need-returns
+returns c =
+    (c .before .before .compare-over .ensures, compared (c .before .before .before .before .before .before .before .args .old .now) (c .before .before .before .before .before .before .before .args .new .now) 128)
 
 pub compare-spec : {M : Type 1} → statement M
-compare-spec =
-    tie.close
-    (tie.spec
-    sanity-check-pieces-requires
-    enum-known-old-counted
-    enum-known-old-counted-2
-    sanity-check-pieces-requires-2
-    enum-known-new-counted
-    add-t12
-    enum-known-new-counted-2
-    add-write-if-room
-    write-if-room-requires
-    returns
-    returns-2
-    same-length
-    returns-3)
+compare-spec = tie.close (tie.spec compare-over-requires same-length returns)
