@@ -1,9 +1,11 @@
 -- How a call comes to what it promises (`Hands`): from what the crate below answers, and that no refusal of it is 0.
 -- Assumes nothing.
 use Prim.Native.Nat.{ℕ, _<_}
+use mathlib.Core.Bool.{Bool, true, false, cond}
 use mathlib.Core.Path.{_≡_, _∙_, ap}
 use mathlib.Core.List.{List, _∷_}
 use native.Mathlib.Omega.{arith}
+use Rattle.asmap_program.specs.Widths.{isWidth, atWidth}
 use Rattle.answers.specs.Outcome.{Outcome, Done, No, handed, IsDone, Hands}
 
 -- a refusal has a number from 1 on
@@ -20,6 +22,16 @@ pub counted : (o : Outcome) → Refuses (λ n. 0 < n) o → Counted o
 unfolding Refuses Counted
 counted (Done numbers) h = tt
 counted (No n) h = h
+
+-- a call at a width: 18 is no 0
+pub counted-at : {A : Type 0} (out : A → Outcome) (refused : ℕ → A) (x : A) (w : ℕ) → Counted (out (refused 18)) → Counted (out x)
+    → Counted (out (atWidth w refused x))
+unfolding atWidth
+counted-at out refused x w h k = go (isWidth w)
+  where
+    go : (b : Bool) → Counted (out (cond b x (refused 18)))
+    go true = k
+    go false = h
 
 zero : (o : Outcome) (r : ℕ) (lent left : List ℕ) → Counted o → r ∷ left ≡ handed o lent → r ≡ 0 → IsDone o
 unfolding Counted handed IsDone

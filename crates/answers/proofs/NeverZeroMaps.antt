@@ -1,31 +1,33 @@
 -- Which numbers check, walk, unpack, pack, the listing and the comparison refuse with; none of them is 0.
 -- Assumes nothing.
-use Prim.Native.Nat.{ℕ, zero, suc, _+_, _/_, _≤_, _<_}
+use Prim.Native.Nat.{ℕ, zero, suc, _+_, _*_, _/_, _≤_, _<_}
 use mathlib.Core.Bool.{Bool, true, false, not}
-use mathlib.Core.List.{List, [], _∷_}
+use mathlib.Core.List.{List}
 use native.Mathlib.Omega.{arith}
 use lib.Dec.{eqb, ltb}
 use lib.ListN.{length, drop}
 use Rattle.asmap_program.specs.declared.Verdict.{Verdict}
 use Rattle.asmap_program.specs.declared.Verdict.the-variants.{Accepted, Refused}
 use Rattle.asmap_program.specs.Map.{limit, Map}
+use Rattle.asmap_program.specs.Widths.{atWidth}
 use Rattle.asmap_program.specs.Check.{check, stopOf}
 use Rattle.asmap_codes.specs.Instruction.{mapOf}
-use Rattle.asmap_check.specs.Check.{checkOf, reasonOf, stopsUnlessLong, stoppedOf}
+use Rattle.asmap_check.specs.Check.{checkOf, checkAt, reasonOf, stopsUnlessLong, stoppedOf, stoppedAt}
 use Rattle.asmap_check.proofs.Reasons.{Judged, check-judged, map-judged}
 use Rattle.asmap_check.specs.declared.Stopped.the-variants.{At}
+use Rattle.asmap_check.specs.declared.Stopped.the-variants as stopped
 use Rattle.asmap_walk.specs.declared.Ending.{Ending}
 use Rattle.asmap_walk.specs.declared.Interpreted.the-variants.{Ended}
-use Rattle.asmap_walk.specs.Interpret.{refusedIf, summary, walkOf, interpretOf}
+use Rattle.asmap_walk.specs.declared.Interpreted.the-variants as walk
+use Rattle.asmap_walk.specs.Interpret.{refusedIf, summary, walkOf, interpretOver, interpretOf, interpretAt}
 use Rattle.asmap_records.specs.Output.{Result, Made, No, refuse, on, within, answerOf}
-use Rattle.asmap_records.specs.Unpack.{unpackAs, unpackOf}
+use Rattle.asmap_records.specs.Unpack.{unpackAs, unpackOf, unpackAt}
 use Rattle.asmap_records.specs.Pack.{fieldBits, recordBits, recordsBits, packBits, packOf}
-use Rattle.asmap_list.specs.List.{listAs, listOf, bytesOf, neededOf}
+use Rattle.asmap_list.specs.List.{listAs, listOf, listAt, bytesOf, neededOf, neededAt}
 use Rattle.prefix_changes.specs.Change.{Change}
-use Rattle.asmap_list.specs.declared.Needed.{Needed}
-use Rattle.asmap_compare.specs.Compare.{Comparison, Told, Refuses as Named, changesOf, comparedAs, comparison, recordsMade, compareOf, firstMade, neededWith}
+use Rattle.asmap_compare.specs.Compare.{Comparison, Told, Refuses as Named, changesOf, comparedAs, comparison, comparisonAt, recordsMade, compareOf, compareAt, firstMade, neededWith}
 use Rattle.answers.specs.Maps.{mapChecked, checkStopped, walkMade, bytesWritten, bytesNeeded}
-use Rattle.answers.proofs.Handing.{Counted, Refuses, counted}
+use Rattle.answers.proofs.Handing.{Counted, Refuses, counted, counted-at}
 
 -- ---- the check. P: what is shown of its number
 
@@ -193,3 +195,45 @@ compare-written k old new w = counted _ (compare-numbers (λ n. 0 < n) old new w
 pub compare-needed : (k : ℕ) (old new : List ℕ) (w : ℕ)
     → Counted (bytesNeeded (neededWith (comparison old new w) (within k (firstMade (comparison old new w)))))
 compare-needed k old new w = counted _ (find-numbers (λ n. 0 < n) old new w (never-0 old w) (never-100 new w) k (omega arith))
+
+-- ---- at a width: none of those, and 18, is 0
+
+pub map-checked-at : (m : List ℕ) (w : ℕ) → Counted (mapChecked (checkAt m w))
+unfolding Counted mapChecked
+map-checked-at m w = counted-at mapChecked Refused (checkOf m w) w (omega arith) (map-checked m w)
+
+pub check-stopped-at : (m : List ℕ) (w : ℕ) → Counted (checkStopped (stoppedAt m w))
+unfolding Counted checkStopped
+check-stopped-at m w = counted-at checkStopped stopped.Refused (stoppedOf m w) w (omega arith) (check-stopped m w)
+
+pub walk-made-at : (m a : List ℕ) (w : ℕ) → Counted (walkMade (interpretAt m a w))
+unfolding Counted walkMade
+walk-made-at m a w =
+    counted-at walkMade walk.Refused (interpretOver m a w) w (omega arith)
+    (counted-walk (not (eqb (8 * length a) w)) (ltb limit (length m)) (summary (walkOf m a w)))
+
+-- what is written, and k bytes of room
+written-at : (k w : ℕ) (made : Result) → Counted (bytesWritten (answerOf (within k made))) → Counted (bytesWritten (answerOf (within k (atWidth w No made))))
+unfolding Counted bytesWritten
+written-at k w made h = counted-at (λ (r : Result). bytesWritten (answerOf (within k r))) No made w (omega arith) h
+
+pub unpack-written-at : (k : ℕ) (m : List ℕ) (w : ℕ) → Counted (bytesWritten (answerOf (within k (unpackAt m w))))
+unpack-written-at k m w = written-at k w (unpackOf m w) (unpack-written k m w)
+
+pub list-written-at : (k : ℕ) (m : List ℕ) (w : ℕ) → Counted (bytesWritten (answerOf (within k (listAt m w))))
+list-written-at k m w = written-at k w (listOf m w) (list-written k m w)
+
+pub list-needed-at : (m : List ℕ) (w : ℕ) → Counted (bytesNeeded (neededAt m w))
+unfolding Counted bytesNeeded
+list-needed-at m w = counted-at (λ (r : Result). bytesNeeded (bytesOf r)) No (listOf m w) w (omega arith) (list-needed m w)
+
+pub compare-written-at : (k : ℕ) (old new : List ℕ) (w : ℕ) → Counted (bytesWritten (answerOf (within k (compareAt old new w))))
+unfolding Counted bytesWritten
+compare-written-at k old new w =
+    counted-at (λ (c : Comparison). bytesWritten (answerOf (within k (recordsMade c)))) Named (comparison old new w) w (omega arith) (compare-written k old new w)
+
+pub compare-needed-at : (k : ℕ) (old new : List ℕ) (w : ℕ)
+    → Counted (bytesNeeded (neededWith (comparisonAt old new w) (within k (firstMade (comparisonAt old new w)))))
+unfolding Counted bytesNeeded
+compare-needed-at k old new w =
+    counted-at (λ (c : Comparison). bytesNeeded (neededWith c (within k (firstMade c)))) Named (comparison old new w) w (omega arith) (compare-needed k old new w)

@@ -1,21 +1,25 @@
 -- What the crates below promise of their answers, carried over to the numbers that the calls hand out: demand 3 for walk and pick,
 -- what Core answers, and how each walk behind a group ends.
 -- Assumes nothing.
-use Prim.Native.Nat.{ℕ}
+use Prim.Native.Nat.{ℕ, _≤_}
 use mathlib.Core.Path.{_≡_, _∙_, sym, ap, subst}
 use mathlib.Core.Logic.{_⊎_, inl, inr}
 use mathlib.Core.List.{List, [], _∷_}
 use native.Mathlib.Omega.{arith}
+use lib.Dec.{eqb}
+use lib.ListN.{length}
 use borrow.Author.Tests.{eq-eqb, ne-eqb}
 use Rattle.asmap_program.specs.declared.Kind.{Kind}
 use Rattle.asmap_program.specs.declared.Verdict.{Verdict}
 use Rattle.asmap_program.specs.declared.Verdict.the-variants as verdict
-use Rattle.asmap_program.specs.Core.{Read, Number}
+use Rattle.asmap_program.specs.Map.{limit, addressBit}
+use Rattle.asmap_program.specs.Core.{Read, Number, coreCheck, coreInterpret}
 use Rattle.asmap_program.specs.Demand.{NoDefault, Answers}
 use Rattle.asmap_codes.specs.declared.Decoded.{Decoded}
 use Rattle.asmap_codes.specs.declared.Decoded.the-variants as code
-use Rattle.asmap_codes.specs.Core.{CoreReads}
-use Rattle.asmap_check.specs.Check.{LikeCore}
+use Rattle.asmap_codes.specs.Core.{CoreReads, fileOf}
+use Rattle.asmap_check.specs.Check.{LikeCore, LikeCoreAt}
+use Rattle.asmap_walk.specs.declared.Ending.{Ending}
 use Rattle.asmap_walk.specs.declared.Interpreted.{Interpreted}
 use Rattle.asmap_walk.specs.declared.Interpreted.the-variants.{Ended}
 use Rattle.asmap_walk.specs.Interpret.{walkOf, summary}
@@ -30,7 +34,7 @@ use Rattle.answers.specs.Outcome.{handed, IsDone, Hands}
 use Rattle.answers.specs.Maps.{mapChecked, kindNumber, endNumbers, walkMade}
 use Rattle.answers.specs.Codes.{codeRead}
 use Rattle.answers.specs.Groups.{groupFound, totalsOf, pickMade, Picks}
-use Rattle.answers.specs.Promise.{Finished, Demand3, CoreVerdict, CoreNumber, CoreCode}
+use Rattle.answers.specs.Promise.{Finished, Demand3, Demand3At, CoreVerdictAt, CoreNumber, CoreNumberAt, CoreCode}
 use Rattle.answers.proofs.Handing.{Counted, hands}
 
 -- ---- the walk
@@ -40,36 +44,50 @@ numbered : (k : Kind) (n : ℕ) → n ≡ kindNumber k → Answers k → (n ≡ 
 numbered k n e (inl h) = inl (e ∙ ap kindNumber h)
 numbered k n e (inr h) = inr (e ∙ ap kindNumber h)
 
-finished : (m a : List ℕ) (r kind number count bits : ℕ) → walk.Kept m a 128 (summary (walkOf m a 128))
-    → r ∷ kind ∷ number ∷ count ∷ bits ∷ [] ≡ 0 ∷ endNumbers (summary (walkOf m a 128)) → Finished m a r kind number count bits
-finished m a r kind number count bits k e =
-    let w = summary (walkOf m a 128) in
-    let ek : kind ≡ kindNumber (w .kind) = cc in
-    let en : w .number ≡ number = cc in
-    let ec : count ≡ w .count = cc in
-    let eb : bits ≡ w .bits = cc in
-    let zero : number ≡ 0 → (kind ≡ 2) × NoDefault (walkOf m a 128 .read) =
-    λ z. let d = k .zero (en ∙ z) in (ek ∙ ap kindNumber (d .0), d .1) in
-    record { done = cc; exact = cc; ended = numbered (w .kind) kind ek (k .ended); zero = zero; bounded = omega (arith, k .bounded); most = omega (arith, k .most); kept = k }
+-- w: the address bits; x: what the walk below answered
+module _ (m a : List ℕ) (w : ℕ) (x : Interpreted) (r kind number count bits : ℕ) (lent : List ℕ) (out : r ∷ kind ∷ number ∷ count ∷ bits ∷ [] ≡ handed (walkMade x) lent) where
+  finished : walk.Kept m a w (summary (walkOf m a w)) → r ∷ kind ∷ number ∷ count ∷ bits ∷ [] ≡ 0 ∷ endNumbers (summary (walkOf m a w)) → Finished m a w r kind number count bits
+  finished k e =
+      let f = summary (walkOf m a w) in
+      let ek : kind ≡ kindNumber (f .kind) = cc in
+      let en : f .number ≡ number = cc in
+      let ec : count ≡ f .count = cc in
+      let eb : bits ≡ f .bits = cc in
+      let zero : number ≡ 0 → (kind ≡ 2) × NoDefault (walkOf m a w .read) =
+      λ z. let d = k .zero (en ∙ z) in (ek ∙ ap kindNumber (d .0), d .1) in
+      record { done = cc; exact = cc; ended = numbered (f .kind) kind ek (k .ended); zero = zero; bounded = omega (arith, k .bounded); most = omega (arith, k .most); kept = k }
+
+  walk-kept : (f : Ending) → x ≡ Ended f → walk.Kept m a w f → Finished m a w r kind number count bits
+  unfolding handed walkMade
+  walk-kept f q k = let h : x ≡ Ended (summary (walkOf m a w)) = q ∙ ap Ended (k .exact) in finished (subst (walk.Kept m a w) (k .exact) k) (rw h at out)
+
+  -- the number is the one that Core gives
+  walk-core : (f : Ending) → x ≡ Ended f → coreInterpret (addressBit a) w (fileOf m) ≡ Number (f .number) → coreInterpret (addressBit a) w (fileOf m) ≡ Number number
+  unfolding handed walkMade
+  walk-core f q e =
+      let h : r ∷ kind ∷ number ∷ count ∷ bits ∷ [] ≡ 0 ∷ endNumbers f = rw q at out in
+      let n : f .number ≡ number = cc in
+      e ∙ ap Number n
+
+  -- at a width
+  pub walk-finished-at : walk.Demand3At m a w x → Demand3At m a w r kind number count bits
+  walk-finished-at p t c d h l = let k = p t c d h l in walk-kept (k .0) (k .1) (k .2)
+
+  pub core-number-at : walk.CoreNumberAt m a w x → CoreNumberAt m a w number
+  core-number-at p t c d h l = let k = p t c d h l in walk-core (k .0) (k .1) (k .2)
 
 pub walk-finished : (m a : List ℕ) (x : Interpreted) (r kind number count bits : ℕ) (lent : List ℕ) → walk.Demand3 m a x
     → r ∷ kind ∷ number ∷ count ∷ bits ∷ [] ≡ handed (walkMade x) lent → Demand3 m a r kind number count bits
-unfolding handed walkMade
 walk-finished m a x r kind number count bits lent p e c d h l =
     let t = p c d h l in
-    let k = t .2 .0 in
-    let q : x ≡ Ended (summary (walkOf m a 128)) = t .1 ∙ ap Ended (k .exact) in
-    finished m a r kind number count bits (subst (walk.Kept m a 128) (k .exact) k) (rw q at e)
+    let f = walk-kept m a 128 x r kind number count bits lent e (t .0) (t .1) (t .2 .0) in
+    (f, f .most)
 
--- the number is the one that Core gives
 pub core-number : (m a : List ℕ) (x : Interpreted) (r kind number count bits : ℕ) (lent : List ℕ) → walk.CoreNumber m a x
     → r ∷ kind ∷ number ∷ count ∷ bits ∷ [] ≡ handed (walkMade x) lent → CoreNumber m a number
-unfolding handed walkMade
 core-number m a x r kind number count bits lent p e c d h l =
     let t = p c d h l in
-    let q : r ∷ kind ∷ number ∷ count ∷ bits ∷ [] ≡ 0 ∷ endNumbers (t .0) = rw (t .1) at e in
-    let n : t .0 .number ≡ number = cc in
-    t .2 ∙ ap Number n
+    walk-core m a 128 x r kind number count bits lent e (t .0) (t .1) (t .2)
 
 -- ---- a code that was read is what Core reads
 
@@ -92,10 +110,14 @@ core-code m at {y} r e p h = read-by-core m at y (subst (λ (d : Decoded). CoreR
 
 -- ---- the check: 0 where Core accepts, and no other number
 
-pub core-verdict : (m : List ℕ) (x : Verdict) {r : ℕ} {lent left : List ℕ} → LikeCore m 128 x → Hands (mapChecked x) r lent left → CoreVerdict m r
+pub core-verdict : (m : List ℕ) (w : ℕ) (x : Verdict) {r : ℕ} {lent left : List ℕ} → LikeCore m w x → Hands (mapChecked x) r lent left
+    → length m ≤ limit → coreCheck (fileOf m) w ≡ eqb r 0
 unfolding handed IsDone mapChecked
-core-verdict m (verdict.Accepted c d) {r} p h l = let e = h .numbers in let z : r ≡ 0 = cc in p l ∙ sym (eq-eqb r 0 z)
-core-verdict m (verdict.Refused n) {r} p h l = p l ∙ sym (ne-eqb r 0 (λ z. h .zero-is-done z))
+core-verdict m w (verdict.Accepted c d) {r} p h l = let e = h .numbers in let z : r ≡ 0 = cc in p l ∙ sym (eq-eqb r 0 z)
+core-verdict m w (verdict.Refused n) {r} p h l = p l ∙ sym (ne-eqb r 0 (λ z. h .zero-is-done z))
+
+pub core-verdict-at : (m : List ℕ) (w : ℕ) (x : Verdict) {r : ℕ} {lent left : List ℕ} → LikeCoreAt m w x → Hands (mapChecked x) r lent left → CoreVerdictAt m w r
+core-verdict-at m w x p h t = core-verdict m w x (p t) h
 
 -- ---- groups and pick: where the answer is 0, what was found is in the lent numbers at exit
 

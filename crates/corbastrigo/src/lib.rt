@@ -10,3 +10,4 @@ pub mod codes;
 pub mod filters;
 pub mod groups;
 pub mod maps;
+pub mod widths;
