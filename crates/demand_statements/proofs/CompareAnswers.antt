@@ -1,8 +1,8 @@
 -- From what the comparison's calls promise to what a caller of any two maps can tell.
 -- Assumes nothing.
-use Prim.Native.Nat.{ℕ, _+_, _*_, _≤_, _<_}
+use Prim.Native.Nat.{ℕ, _+_, _≤_}
 use mathlib.Core.Bool.{Bool, true, false}
-use mathlib.Core.Path.{_≡_, refl, sym, ap, subst, _∙_}
+use mathlib.Core.Path.{_≡_, refl, sym, ap, _∙_}
 use mathlib.Core.List.{List, [], _∷_, _++_}
 use mathlib.Core.Logic.{_⊎_, inl, inr}
 use native.Mathlib.Omega.{arith}
@@ -13,23 +13,22 @@ use borrow.Author.Tests.{lt-ltb, le-ltb}
 use Rattle.asmap_program.specs.declared.Verdict.{Verdict}
 use Rattle.asmap_program.specs.declared.Verdict.the-variants.{Accepted, Refused}
 use Rattle.asmap_check.specs.Check.{checkOf}
-use Rattle.asmap_records.specs.Output.{Result, Made, No, refuse, within, answerOf, leaves}
+use Rattle.asmap_records.specs.Output.{Made, refuse, within, answerOf, leaves}
 use Rattle.prefix_changes.specs.Change.{Change}
 use Rattle.prefix_changes.specs.Record.{changeRecordsOf, firstChanged}
 use Rattle.asmap_compare.specs.Compare.{Comparison, Told, Refuses, changesOf, comparison, recordsMade, compareOf, firstMade, neededWith}
 use Rattle.asmap_compare.specs.Promise.{Compares}
-use Rattle.asmap_walk.specs.Interpret.{interpretOf}
+use Rattle.asmap_walk.specs.Interpret.{interpretOver}
 use Rattle.prefix_changes.proofs.RecordLaws.{length-changes}
 use Rattle.asmap_compare.proofs.CallLaws.{told, old-refused, new-refused, first-length}
 use Rattle.answers.specs.Outcome.{handed, IsDone, Hands}
 use Rattle.answers.specs.Maps.{walkMade, bytesWritten, bytesNeeded, Writes, Finds}
-use Rattle.answers.specs.Promise.{Demand3}
 use Rattle.answers.proofs.NeverZeroMaps.{map-numbers, compare-numbers, find-numbers}
 use Rattle.demand_statements.specs.AnyInput.{Changes, FindsFirst}
 use Rattle.demand_statements.specs.Agreed.{AgreedWalks}
 use Rattle.demand_statements.proofs.AnswerLaws.{kept, numbered, refused-as, done-as}
 use Rattle.demand_statements.proofs.TripLaws.{wrote, left-alone}
-use Rattle.demand_statements.proofs.WalkLaws.{sixteen-bytes}
+use Rattle.demand_statements.proofs.WalkLaws.{has-bits, Ends}
 use Rattle.demand_statements.proofs.ListAnswers.{walk-number}
 
 -- a number that either check, or a room too short, gives
@@ -42,16 +41,16 @@ of-two (inr k) = k
 
 -- ---- the comparison
 
-pub changed : (m n o o′ : List ℕ) {r written written′ : ℕ} → Writes (compareOf m n 128) o o′ r (written ∷ []) (written′ ∷ []) → Changes m n o o′ r written written′
+pub changed : (m n : List ℕ) (w : ℕ) (o o′ : List ℕ) {r written written′ : ℕ} → Writes (compareOf m n w) o o′ r (written ∷ []) (written′ ∷ []) → Changes m n w o o′ r written written′
 unfolding bytesWritten
-changed m n o o′ w = record {
+changed m n w o o′ v = record {
   numbers = of-two (numbered OfTwo _
-      (compare-numbers OfTwo m n 128 (map-numbers OfTwo (λ k l h. inl h) m 128 (inl (omega arith)))
-      (map-numbers (λ k. OfTwo (100 + k)) (λ k l h. inr (inr (omega arith, omega arith))) n 128 (inr (inr (omega arith, omega arith)))) (length o) (inr (inl refl))) (w .hands));
-  old-refused = λ k e. refused-as _ (ap (λ (x : Comparison). bytesWritten (answerOf (within (length o) (recordsMade x)))) (old-refused m n 128 k e)) (w .hands);
-  new-refused = λ c d k e f. refused-as _ (ap (λ (x : Comparison). bytesWritten (answerOf (within (length o) (recordsMade x)))) (new-refused m n 128 c d k e f)) (w .hands);
-  past = λ z. wrote (compareOf m n 128) w z .past;
-  untouched = left-alone (compareOf m n 128) w;
+      (compare-numbers OfTwo m n w (map-numbers OfTwo (λ k l h. inl h) m w (inl (omega arith)))
+      (map-numbers (λ k. OfTwo (100 + k)) (λ k l h. inr (inr (omega arith, omega arith))) n w (inr (inr (omega arith, omega arith)))) (length o) (inr (inl refl))) (v .hands));
+  old-refused = λ k e. refused-as _ (ap (λ (x : Comparison). bytesWritten (answerOf (within (length o) (recordsMade x)))) (old-refused m n w k e)) (v .hands);
+  new-refused = λ c d k e f. refused-as _ (ap (λ (x : Comparison). bytesWritten (answerOf (within (length o) (recordsMade x)))) (new-refused m n w c d k e f)) (v .hands);
+  past = λ z. wrote (compareOf m n w) v z .past;
+  untouched = left-alone (compareOf m n w) v;
 }
 
 -- ---- what it needs
@@ -81,34 +80,34 @@ left-finds : (c : Comparison) (o o′ : List ℕ) {r : ℕ} {lent left : List �
 left-finds (Told cs) o o′ w n = left-first cs o o′ (ltb (length o) (length (firstChanged cs))) (w .hands) (w .output) n
 left-finds (Refuses k) o o′ w n = w .output
 
-pub found : (m n o o′ : List ℕ) {r bytes bytes′ : ℕ} → Finds (comparison m n 128) o o′ r (bytes ∷ []) (bytes′ ∷ []) → FindsFirst m n o o′ r bytes bytes′
+pub found : (m n : List ℕ) (w : ℕ) (o o′ : List ℕ) {r bytes bytes′ : ℕ} → Finds (comparison m n w) o o′ r (bytes ∷ []) (bytes′ ∷ []) → FindsFirst m n w o o′ r bytes bytes′
 unfolding bytesNeeded refuse
-found m n o o′ {r} {bytes} {bytes′} w = record {
+found m n w o o′ {r} {bytes} {bytes′} v = record {
   numbers = of-two (numbered OfTwo _
-      (find-numbers OfTwo m n 128 (map-numbers OfTwo (λ k l h. inl h) m 128 (inl (omega arith)))
-      (map-numbers (λ k. OfTwo (100 + k)) (λ k l h. inr (inr (omega arith, omega arith))) n 128 (inr (inr (omega arith, omega arith)))) (length o) (inr (inl refl))) (w .hands));
-  old-refused = λ k e. refused-as _ (ap (λ (x : Comparison). bytesNeeded (neededWith x (within (length o) (firstMade x)))) (old-refused m n 128 k e)) (w .hands);
-  new-refused = λ c d k e f. refused-as _ (ap (λ (x : Comparison). bytesNeeded (neededWith x (within (length o) (firstMade x)))) (new-refused m n 128 c d k e f)) (w .hands);
+      (find-numbers OfTwo m n w (map-numbers OfTwo (λ k l h. inl h) m w (inl (omega arith)))
+      (map-numbers (λ k. OfTwo (100 + k)) (λ k l h. inr (inr (omega arith, omega arith))) n w (inr (inr (omega arith, omega arith)))) (length o) (inr (inl refl))) (v .hands));
+  old-refused = λ k e. refused-as _ (ap (λ (x : Comparison). bytesNeeded (neededWith x (within (length o) (firstMade x)))) (old-refused m n w k e)) (v .hands);
+  new-refused = λ c d k e f. refused-as _ (ap (λ (x : Comparison). bytesNeeded (neededWith x (within (length o) (firstMade x)))) (new-refused m n w c d k e f)) (v .hands);
   answered = λ c d c′ d′ e f l.
-      done-as _ (ap (λ (x : Comparison). bytesNeeded (neededWith x (within (length o) (firstMade x)))) (told m n 128 c d c′ d′ e f)
-      ∙ ap (λ (b : Bool). bytesNeeded (neededWith (Told (changesOf m n 128)) (refuse b 14 (Made (firstChanged (changesOf m n 128)))))) (le-ltb (length o) (length (firstChanged (changesOf m n 128))) (omega (arith, first-length (changesOf m n 128), l)))) (w .hands);
+      done-as _ (ap (λ (x : Comparison). bytesNeeded (neededWith x (within (length o) (firstMade x)))) (told m n w c d c′ d′ e f)
+      ∙ ap (λ (b : Bool). bytesNeeded (neededWith (Told (changesOf m n w)) (refuse b 14 (Made (firstChanged (changesOf m n w)))))) (le-ltb (length o) (length (firstChanged (changesOf m n w))) (omega (arith, first-length (changesOf m n w), l)))) (v .hands);
   no-room = λ c d c′ d′ e f l.
-      refused-as _ (ap (λ (x : Comparison). bytesNeeded (neededWith x (within (length o) (firstMade x)))) (told m n 128 c d c′ d′ e f)
-      ∙ ap (λ (b : Bool). bytesNeeded (neededWith (Told (changesOf m n 128)) (refuse b 14 (Made (firstChanged (changesOf m n 128)))))) (lt-ltb (length o) (length (firstChanged (changesOf m n 128))) (omega (arith, first-length (changesOf m n 128), l)))) (w .hands);
-  past = past-finds (comparison m n 128) o o′ w;
-  untouched = λ z. (left-finds (comparison m n 128) o o′ w z, let e = kept _ (w .hands) z in cc);
+      refused-as _ (ap (λ (x : Comparison). bytesNeeded (neededWith x (within (length o) (firstMade x)))) (told m n w c d c′ d′ e f)
+      ∙ ap (λ (b : Bool). bytesNeeded (neededWith (Told (changesOf m n w)) (refuse b 14 (Made (firstChanged (changesOf m n w)))))) (lt-ltb (length o) (length (firstChanged (changesOf m n w))) (omega (arith, first-length (changesOf m n w), l)))) (v .hands);
+  past = past-finds (comparison m n w) o o′ v;
+  untouched = λ z. (left-finds (comparison m n w) o o′ v z, let e = kept _ (v .hands) z in cc);
 }
 
 -- ---- two maps compared, and an address walked through both
 
 -- a comparison that was not refused has accepted maps
-both-accepted : (m n : List ℕ) (cs : List Change) → comparison m n 128 ≡ Told cs
-    → (c : ℕ) × (d : ℕ) × (c′ : ℕ) × (d′ : ℕ) × (checkOf m 128 ≡ Accepted c d) × (checkOf n 128 ≡ Accepted c′ d′)
+both-accepted : (m n : List ℕ) (w : ℕ) (cs : List Change) → comparison m n w ≡ Told cs
+    → (c : ℕ) × (d : ℕ) × (c′ : ℕ) × (d′ : ℕ) × (checkOf m w ≡ Accepted c d) × (checkOf n w ≡ Accepted c′ d′)
 unfolding comparison
-both-accepted m n cs e = go (checkOf m 128) refl (checkOf n 128) refl
+both-accepted m n w cs e = go (checkOf m w) refl (checkOf n w) refl
   where
-    go : (v : Verdict) → checkOf m 128 ≡ v → (u : Verdict) → checkOf n 128 ≡ u
-        → (c : ℕ) × (d : ℕ) × (c′ : ℕ) × (d′ : ℕ) × (checkOf m 128 ≡ Accepted c d) × (checkOf n 128 ≡ Accepted c′ d′)
+    go : (v : Verdict) → checkOf m w ≡ v → (u : Verdict) → checkOf n w ≡ u
+        → (c : ℕ) × (d : ℕ) × (c′ : ℕ) × (d′ : ℕ) × (checkOf m w ≡ Accepted c d) × (checkOf n w ≡ Accepted c′ d′)
     go (Refused k) h u g = let x = rw h at e in let z : _≡_ {A = ℕ} 0 1 = cc in absurd (omega arith)
     go (Accepted c d) h (Refused k) g = let x = rw (h, g) at e in let z : _≡_ {A = ℕ} 0 1 = cc in absurd (omega arith)
     go (Accepted c d) h (Accepted c′ d′) g = (c, d, c′, d′, h, g)
@@ -131,15 +130,15 @@ none-told : (cs : List Change) → length (changeRecordsOf cs) ≡ 0 → cs ≡ 
 none-told [] e = refl
 none-told (c ∷ cs) e = absurd (omega (arith, e, length-changes (c ∷ cs)))
 
-pub agreed : (m n a o o′ : List ℕ) {q r r′ bytes kind x count bits kind′ x′ count′ bits′ : ℕ} {lent lent₁ lent₂ left₁ left₂ : List ℕ}
-    → Finds (comparison m n 128) o o′ q lent (bytes ∷ []) → Compares m n 128 → q ≡ 0
-    → Hands (walkMade (interpretOf m a)) r lent₁ left₁ → Demand3 m a r kind x count bits → r ≡ 0
-    → Hands (walkMade (interpretOf n a)) r′ lent₂ left₂ → Demand3 n a r′ kind′ x′ count′ bits′ → AgreedWalks r′ bytes x x′
-agreed m n a o o′ w compares z h d y h′ d′ y′ none =
-    let t = told-length (comparison m n 128) o o′ w z in
-    let v = both-accepted m n (t .0) (t .1) in
-    let same : t .0 ≡ changesOf m n 128 = told-same (sym (t .1) ∙ told m n 128 (v .0) (v .1) (v .2) (v .3) (v .4) (v .5)) in
+pub agreed : (m n a : List ℕ) (w : ℕ) (o o′ : List ℕ) {q r r′ bytes kind x count bits kind′ x′ count′ bits′ : ℕ} {lent lent₁ lent₂ left₁ left₂ : List ℕ}
+    → Finds (comparison m n w) o o′ q lent (bytes ∷ []) → Compares m n w → q ≡ 0
+    → Hands (walkMade (interpretOver m a w)) r lent₁ left₁ → Ends m a w r kind x count bits → r ≡ 0
+    → Hands (walkMade (interpretOver n a w)) r′ lent₂ left₂ → Ends n a w r′ kind′ x′ count′ bits′ → AgreedWalks r′ bytes x x′
+agreed m n a w o o′ f compares z h d y h′ d′ y′ none =
+    let t = told-length (comparison m n w) o o′ f z in
+    let v = both-accepted m n w (t .0) (t .1) in
+    let same : t .0 ≡ changesOf m n w = told-same (sym (t .1) ∙ told m n w (v .0) (v .1) (v .2) (v .3) (v .4) (v .5)) in
     let nothing = sym same ∙ none-told (t .0) (sym (t .2) ∙ none) in
-    walk-number m a (d (v .0) (v .1) (v .4) (sixteen-bytes m a h y))
+    walk-number m a w (d (v .0) (v .1) (v .4) (has-bits m a w h y))
     ∙ compares (v .0) (v .1) (v .2) (v .3) (v .4) (v .5) .silent nothing a
-    ∙ sym (walk-number n a (d′ (v .2) (v .3) (v .5) (sixteen-bytes n a h′ y′)))
+    ∙ sym (walk-number n a w (d′ (v .2) (v .3) (v .5) (has-bits n a w h′ y′)))

@@ -1,4 +1,5 @@
 pub mod AnswerLaws
+pub mod WidthLaws
 pub mod CodeAnswers
 pub mod TripLaws
 pub mod MapAnswers
@@ -13,3 +14,4 @@ pub mod PickAnswers
 pub mod FilterAnswers
 pub mod CoreAnswers
 pub mod CompareAnswers
+pub mod WidthAnswers

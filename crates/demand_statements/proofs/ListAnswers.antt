@@ -14,90 +14,91 @@ use Rattle.asmap_program.specs.Walk.{walk}
 use Rattle.asmap_codes.specs.Instruction.{mapOf}
 use Rattle.asmap_codes.proofs.MapLaws.{map-fetch}
 use Rattle.asmap_check.specs.Check.{checkOf}
-use Rattle.asmap_walk.specs.Interpret.{walkOf, interpretOf}
+use Rattle.asmap_walk.specs.Interpret.{walkOf, interpretOver}
 use Rattle.asmap_records.specs.Output.{Result, Made, No}
 use Rattle.asmap_records.proofs.OutputLaws.{made-same}
 use Rattle.asmap_records.proofs.Reading.{stands}
 use Rattle.byte_numbers.proofs.NumberLaws.{AllBytes}
-use Rattle.prefix_records.specs.Tiling.{Piece, firstOf, pastOf, Tiles}
+use Rattle.prefix_records.specs.Tiling.{Piece, firstOf, pastOf, Tiles, holding, numberOf}
 use Rattle.prefix_records.specs.Record.{recordsOf}
-use Rattle.prefix_records.proofs.TilingLaws.{tiles-le}
+use Rattle.prefix_records.proofs.TilingLaws.{tiles-le, tiles-all, wider, holding-wider}
 use Rattle.prefix_records.proofs.RecordLaws.{length-records}
 use Rattle.prefix_records.proofs.PlaceLaws.{At, at-place, first-at, next-at, last-at, short-at, Place, one-place, held-from, held-if}
 use Rattle.asmap_listing.specs.Listing.{listing}
 use Rattle.asmap_listing.proofs.NumberLaws.{number-below}
+use Rattle.asmap_listing.proofs.AddressLaws.{number-wider}
 use Rattle.asmap_list.specs.List.{listAs, listOf, bytesOf, neededOf}
 use Rattle.asmap_list.specs.Promise.{Covers}
 use Rattle.answers.specs.Outcome.{handed, Hands}
 use Rattle.answers.specs.Maps.{walkMade, bytesNeeded, Writes}
-use Rattle.answers.specs.Promise.{Demand3, Finished}
+use Rattle.answers.specs.Promise.{Finished}
 use Rattle.answers.proofs.NeverZeroMaps.{map-numbers, list-numbers, length-numbers}
 use Rattle.demand_statements.specs.AnyInput.{Lists, Needs}
 use Rattle.demand_statements.specs.Listed.{address, first, prefix, past, number, Tiled, InOne, ListedWalk, ListedWithRoom}
 use Rattle.demand_statements.proofs.AnswerLaws.{kept, numbered, refused-as, done-as}
 use Rattle.demand_statements.proofs.TripLaws.{wrote, has-room, no-room}
-use Rattle.demand_statements.proofs.WalkLaws.{sixteen-bytes}
+use Rattle.demand_statements.proofs.WalkLaws.{has-bits, Ends}
 use Rattle.demand_statements.proofs.MapAnswers.{at-most-10, CheckOr14, by-check}
 use Rattle.demand_statements.proofs.ListBytes.{Reads, reads, in-front, address-number}
 
 -- ---- any input
 
-not-made : (m : List ℕ) (n : ℕ) → checkOf m 128 ≡ Refused n → listOf m 128 ≡ No n
+not-made : (m : List ℕ) (w n : ℕ) → checkOf m w ≡ Refused n → listOf m w ≡ No n
 unfolding listOf
-not-made m n e = ap (listAs m) e
+not-made m w n e = ap (listAs m) e
 
-made : (m : List ℕ) (c d : ℕ) → checkOf m 128 ≡ Accepted c d → listOf m 128 ≡ Made (recordsOf (listing (mapOf m)))
+made : (m : List ℕ) (w c d : ℕ) → checkOf m w ≡ Accepted c d → listOf m w ≡ Made (recordsOf (listing (mapOf m)))
 unfolding listOf
-made m c d e = ap (listAs m) e
+made m w c d e = ap (listAs m) e
 
-pub lists : (m o o′ : List ℕ) {r written written′ : ℕ} → Writes (listOf m 128) o o′ r (written ∷ []) (written′ ∷ []) → Lists m o o′ r written written′
-lists m o o′ w =
-    let b = by-check m o o′ (listOf m 128) (not-made m) (list-numbers CheckOr14 (length o) m 128) w in
+pub lists : (m : List ℕ) (w : ℕ) (o o′ : List ℕ) {r written written′ : ℕ} → Writes (listOf m w) o o′ r (written ∷ []) (written′ ∷ []) → Lists m w o o′ r written written′
+lists m w o o′ h =
+    let b = by-check m w o o′ (listOf m w) (not-made m w) (list-numbers CheckOr14 (length o) m w) h in
     record { numbers = b .numbers; refused = b .refused; past = b .past; untouched = b .untouched }
 
-pub needs : (m : List ℕ) {r : ℕ} {entry exit : List ℕ} → Hands (bytesNeeded (neededOf m 128)) r entry exit → Needs m r entry exit
+pub needs : (m : List ℕ) (w : ℕ) {r : ℕ} {entry exit : List ℕ} → Hands (bytesNeeded (neededOf m w)) r entry exit → Needs m w r entry exit
 unfolding bytesNeeded
-needs m h = record {
-  numbers = at-most-10 (numbered (λ n. n ≤ 10) _ (length-numbers (λ n. n ≤ 10) m 128 (map-numbers (λ n. n ≤ 10) (λ n l k. k) m 128 (omega arith))) h);
-  accepted = λ c d e. done-as _ (ap (λ (x : Result). bytesNeeded (bytesOf x)) (made m c d e)) h;
-  refused = λ n e. refused-as _ (ap (λ (x : Result). bytesNeeded (bytesOf x)) (not-made m n e)) h;
+needs m w h = record {
+  numbers = at-most-10 (numbered (λ n. n ≤ 10) _ (length-numbers (λ n. n ≤ 10) m w (map-numbers (λ n. n ≤ 10) (λ n l k. k) m w (omega arith))) h);
+  accepted = λ c d e. done-as _ (ap (λ (x : Result). bytesNeeded (bytesOf x)) (made m w c d e)) h;
+  refused = λ n e. refused-as _ (ap (λ (x : Result). bytesNeeded (bytesOf x)) (not-made m w n e)) h;
   untouched = kept _ h;
 }
 
 -- ---- room
 
 -- what was asked for is the length of what is made
-needed-is : (m : List ℕ) (c d : ℕ) {q needed : ℕ} {entry : List ℕ} → checkOf m 128 ≡ Accepted c d
-    → Hands (bytesNeeded (neededOf m 128)) q entry (needed ∷ []) → needed ≡ length (recordsOf (listing (mapOf m)))
+needed-is : (m : List ℕ) (w c d : ℕ) {q needed : ℕ} {entry : List ℕ} → checkOf m w ≡ Accepted c d
+    → Hands (bytesNeeded (neededOf m w)) q entry (needed ∷ []) → needed ≡ length (recordsOf (listing (mapOf m)))
 unfolding handed bytesNeeded
-needed-is m c d e h = let k = rw (made m c d e) at (h .numbers) in cc
+needed-is m w c d e h = let k = rw (made m w c d e) at (h .numbers) in cc
 
 -- a map that was listed is accepted
-accepts : (m bs : List ℕ) → listOf m 128 ≡ Made bs → (c : ℕ) × (d : ℕ) × (checkOf m 128 ≡ Accepted c d)
+accepts : (m : List ℕ) (w : ℕ) (bs : List ℕ) → listOf m w ≡ Made bs → (c : ℕ) × (d : ℕ) × (checkOf m w ≡ Accepted c d)
 unfolding listOf
-accepts m bs e = go (checkOf m 128) refl
+accepts m w bs e = go (checkOf m w) refl
   where
-    go : (v : Verdict) → checkOf m 128 ≡ v → (c : ℕ) × (d : ℕ) × (checkOf m 128 ≡ Accepted c d)
+    go : (v : Verdict) → checkOf m w ≡ v → (c : ℕ) × (d : ℕ) × (checkOf m w ≡ Accepted c d)
     go (Accepted c d) h = (c, d, h)
     go (Refused n) h = let k = sym (ap (listAs m) h) ∙ e in let z : _≡_ {A = ℕ} 0 1 = cc in absurd (omega arith)
 
 -- the first call refused, and nothing was listed
-pub unlisted : (m o : List ℕ) {r needed written : ℕ} {entry exit : List ℕ} → Hands (bytesNeeded (neededOf m 128)) r entry exit → (r ≡ 0 → ⊥) → ListedWithRoom m o r needed written
-unlisted m o h n = record {
+pub unlisted : (m : List ℕ) (w : ℕ) (o : List ℕ) {r needed written : ℕ} {entry exit : List ℕ} → Hands (bytesNeeded (neededOf m w)) r entry exit → (r ≡ 0 → ⊥) → ListedWithRoom m w o r needed written
+unlisted m w o h n = record {
   exact = λ z. absurd (n z);
-  answered = λ c d e l. needs m h .accepted c d e;
-  no-room = λ c d e l. absurd (n (needs m h .accepted c d e));
+  answered = λ c d e l. needs m w h .accepted c d e;
+  no-room = λ c d e l. absurd (n (needs m w h .accepted c d e));
 }
 
-pub with-room : (m o o′ : List ℕ) {q r needed written : ℕ} {entry lent : List ℕ} → Hands (bytesNeeded (neededOf m 128)) q entry (needed ∷ [])
-    → Writes (listOf m 128) o o′ r lent (written ∷ []) → ListedWithRoom m o r needed written
-with-room m o o′ h w = record {
+pub with-room : (m : List ℕ) (w : ℕ) (o o′ : List ℕ) {q r needed written : ℕ} {entry lent : List ℕ} → Hands (bytesNeeded (neededOf m w)) q entry (needed ∷ [])
+    → Writes (listOf m w) o o′ r lent (written ∷ []) → ListedWithRoom m w o r needed written
+with-room m w o o′ h x = record {
   exact = λ z.
-      let u = wrote (listOf m 128) w z in
-      let v = accepts m (u .bytes) (u .these) in
-      u .many ∙ ap length (made-same (sym (made m (v .0) (v .1) (v .2)) ∙ u .these)) ∙ sym (needed-is m (v .0) (v .1) (v .2) h);
-  answered = λ c d e l. has-room (listOf m 128) _ o o′ (made m c d e) (omega (arith, needed-is m c d e h)) w;
-  no-room = λ c d e l. no-room (listOf m 128) _ o o′ (made m c d e) (omega (arith, needed-is m c d e h)) w;
+      let u = wrote (listOf m w) x z in
+      let v = accepts m w (u .bytes) (u .these) in
+      u .many ∙ ap length (made-same (sym (made m w (v .0) (v .1) (v .2)) ∙ u .these)) ∙ sym (needed-is m w (v .0) (v .1) (v .2) h);
+  answered = λ c d e l. has-room (listOf m w) _ o o′ (made m w c d e) (omega (arith, needed-is m w c d e h)) x;
+  no-room = λ c d e l. no-room (listOf m w) _ o o′ (made m w c d e) (omega (arith, needed-is m w c d e h)) x;
 }
 
 -- ---- records that tile, off their bytes
@@ -116,7 +117,11 @@ first-below lo (p ∷ ps) zero q t a =
     (subst (λ (n : ℕ). firstOf 128 p < n) (pow-add 2 64 64) (below _ _ (2 ^ 128) (some-address p) (tiles-le 128 (pastOf 128 p) (2 ^ 128) ps (t .2))))
 first-below lo (p ∷ ps) (suc j) q t a = first-below (pastOf 128 p) ps j q (t .2) a
 
-module _ (o : List ℕ) (ps : List Piece) (n : ℕ) (tiles : Tiles 128 0 (2 ^ 128) ps) (long : length ps ≡ n) (bytes : take (24 * n) o ≡ recordsOf ps) where
+-- ps tile the addresses of w bits, and with zeros behind those of 128
+module _ (w : ℕ) (narrow : w ≤ 128) (o : List ℕ) (ps : List Piece) (n : ℕ) (tiling : Tiles w 0 (2 ^ w) ps) (long : length ps ≡ n) (bytes : take (24 * n) o ≡ recordsOf ps) where
+  tiles : Tiles 128 0 (2 ^ 128) ps
+  tiles = tiles-all w 128 narrow ps tiling
+
   -- the piece of a record
   read-at : (j : ℕ) (p : Piece) → j < n → At ps j p → Reads o j p
   read-at j p h a =
@@ -132,7 +137,7 @@ module _ (o : List ℕ) (ps : List Piece) (n : ℕ) (tiles : Tiles 128 0 (2 ^ 12
   at : (j : ℕ) → j < n → (p : Piece) × At ps j p
   at j h = at-place ps j (omega arith)
 
-  tiled : 1 ≤ n → Tiled o n
+  tiled : 1 ≤ n → Tiled w o n
   tiled h = record {
     some = h;
     start = let p = at 0 (omega arith) in read-at 0 (p .0) (omega arith) (p .1) .from ∙ first-at 128 0 (2 ^ 128) ps (p .0) tiles (p .1);
@@ -145,11 +150,15 @@ module _ (o : List ℕ) (ps : List Piece) (n : ℕ) (tiles : Tiles 128 0 (2 ^ 12
     end =
         let p = at (n - 1) (omega arith) in
         past-is (n - 1) (p .0) (read-at (n - 1) (p .0) (omega arith) (p .1)) ∙ last-at 128 0 (2 ^ 128) ps (n - 1) (p .0) tiles (p .1) (omega arith);
-    short = λ j l. let p = at j l in omega (arith, read-at j (p .0) l (p .1) .length, short-at 128 0 (2 ^ 128) ps j (p .0) tiles (p .1));
+    short = λ j l. let p = at j l in omega (arith, read-at j (p .0) l (p .1) .length, short-at w 0 (2 ^ w) ps j (p .0) tiling (p .1));
     zeros = λ j l.
         let p = at j l in
         let r = read-at j (p .0) l (p .1) in
         ap (λ (x : ℕ). first o j % 2 ^ (128 - x)) (r .length) ∙ ap (λ (x : ℕ). x % 2 ^ (128 - p .0 .length)) (r .from) ∙ mul-mod-left (p .0 .prefix) (2 ^ (128 - p .0 .length));
+    blank = λ j l.
+        let p = at j l in
+        let e = wider w 128 (p .0 .prefix) (p .0 .length) (short-at w 0 (2 ^ w) ps j (p .0) tiling (p .1)) narrow in
+        ap (λ (x : ℕ). x % 2 ^ (128 - w)) (read-at j (p .0) l (p .1) .from ∙ e) ∙ mul-mod-left (p .0 .prefix * 2 ^ (w - p .0 .length)) (2 ^ (128 - w));
   }
 
   -- the address x lies in just one piece p, whose number has 32 bits
@@ -171,33 +180,37 @@ module _ (o : List ℕ) (ps : List Piece) (n : ℕ) (tiles : Tiles 128 0 (2 ^ 12
       }
 
 -- the number that the walk's call handed out is that of the defined walk
-pub walk-number : (m a : List ℕ) {r kind x count bits : ℕ} → Finished m a r kind x count bits → x ≡ walk (addressBit a) (mapOf m) 128 .number
+pub walk-number : (m a : List ℕ) (w : ℕ) {r kind x count bits : ℕ} → Finished m a w r kind x count bits → x ≡ walk (addressBit a) (mapOf m) w .number
 unfolding walkOf
-walk-number m a f = let e = f .exact in cc
+walk-number m a w f = let e = f .exact in cc
 
 -- the numbers of a listing have 32 bits
 small : (m : List ℕ) (j : ℕ) (p : Piece) → At (listing (mapOf m)) j p → p .number < 4294967296
 small m = number-below (mapOf m) 4294967296 (λ p i f. stands m p i (sym (map-fetch m p) ∙ f) .operand) (omega arith)
 
 -- the listing answered q, 0, and wrote; r is the walk's answer
-pub walk-in-list : (m a o o′ : List ℕ) {q r written kind x count bits : ℕ} {lent lent′ left : List ℕ}
+pub walk-in-list : (m a : List ℕ) (w : ℕ) → w ≤ 128 → (o o′ : List ℕ) {q r written kind x count bits : ℕ} {lent lent′ left : List ℕ}
     → AllBytes a
-    → Writes (listOf m 128) o o′ q lent (written ∷ []) → Covers m 128 → q ≡ 0
-    → Hands (walkMade (interpretOf m a)) r lent′ left → Demand3 m a r kind x count bits → r ≡ 0 → ListedWalk a o′ written x
-walk-in-list m a o o′ {written = written} {x = x} bytes w covers z h d y =
-    let u = wrote (listOf m 128) w z in
-    let v = accepts m (u .bytes) (u .these) in
+    → Writes (listOf m w) o o′ q lent (written ∷ []) → Covers m w → q ≡ 0
+    → Hands (walkMade (interpretOver m a w)) r lent′ left → Ends m a w r kind x count bits → r ≡ 0 → ListedWalk w a o′ written x
+walk-in-list m a w narrow o o′ {written = written} {x = x} bytes h covers z k d y =
+    let u = wrote (listOf m w) h z in
+    let v = accepts m w (u .bytes) (u .these) in
     let ps = listing (mapOf m) in
-    let s : u .bytes ≡ recordsOf ps = made-same (sym (made m (v .0) (v .1) (v .2)) ∙ u .these) in
+    let s : u .bytes ≡ recordsOf ps = made-same (sym (made m w (v .0) (v .1) (v .2)) ∙ u .these) in
     let e : written ≡ 24 * length ps = u .many ∙ ap length s ∙ length-records ps in
     let all = covers (v .0) (v .1) (v .2) in
-    let b : take (24 * length ps) o′ ≡ recordsOf ps = ap (λ (k : ℕ). take k o′) (sym e) ∙ u .there ∙ s in
+    let b : take (24 * length ps) o′ ≡ recordsOf ps = ap (λ (n : ℕ). take n o′) (sym e) ∙ u .there ∙ s in
     let one = all .walks a in
-    let g : one .piece .number ≡ x = one .number ∙ sym (walk-number m a (d (v .0) (v .1) (v .2) (sixteen-bytes m a h y))) in
-    let k = subst (λ (i : ℕ). Place 128 i ps (one .piece)) (address-number a bytes) (one-place 128 _ ps (one .piece) (one .only)) in
+    let bits = has-bits m a w k y in
+    let g : one .piece .number ≡ x = one .number ∙ sym (walk-number m a w (d (v .0) (v .1) (v .2) bits)) in
+    let n = numberOf (addressBit a) w in
+    let f : holding 128 (n * 2 ^ (128 - w)) ps ≡ one .piece ∷ [] = sym (holding-wider w 128 n 0 (2 ^ w) narrow ps (all .tiles)) ∙ one .only in
+    let i : n * 2 ^ (128 - w) ≡ address a 0 = sym (number-wider a w 128 narrow (omega arith)) ∙ address-number a bytes in
+    let at = subst (λ (c : ℕ). Place 128 c ps (one .piece)) i (one-place 128 (n * 2 ^ (128 - w)) ps (one .piece) f) in
     record {
       records = length ps;
       whole = e;
-      tiled = tiled o′ ps (length ps) (all .tiles) refl b (omega (arith, k .inside));
-      one = subst (InOne a o′ (length ps)) g (in-one o′ ps (length ps) (all .tiles) refl b a (one .piece) k (small m (k .place) (one .piece) (k .there)));
+      tiled = tiled w narrow o′ ps (length ps) (all .tiles) refl b (omega (arith, at .inside));
+      one = subst (InOne a o′ (length ps)) g (in-one w narrow o′ ps (length ps) (all .tiles) refl b a (one .piece) at (small m (at .place) (one .piece) (at .there)));
     }

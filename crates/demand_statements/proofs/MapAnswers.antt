@@ -1,6 +1,6 @@
 -- The numbers of check, walk, unpack and pack.
 -- Assumes nothing.
-use Prim.Native.Nat.{ℕ, _%_, _≤_, _<_}
+use Prim.Native.Nat.{ℕ, _*_, _/_, _%_, _≤_, _<_}
 use mathlib.Core.Path.{_≡_, _∙_, refl, sym, ap, subst}
 use mathlib.Core.Bool.{Bool, true, false, not}
 use mathlib.Core.Logic.{_⊎_, inl, inr, _≢_}
@@ -24,7 +24,8 @@ use Rattle.asmap_check.proofs.Standing.{checked}
 use Rattle.asmap_walk.specs.declared.Ending.{Ending}
 use Rattle.asmap_walk.specs.declared.Interpreted.{Interpreted}
 use Rattle.asmap_walk.specs.declared.Interpreted.the-variants.{Ended}
-use Rattle.asmap_walk.specs.Interpret.{walkOf, summary, interpretOf, refusedIf}
+use Rattle.asmap_walk.specs.Interpret.{walkOf, summary, interpretOver, interpretOf, refusedIf}
+use Rattle.asmap_walk.proofs.Promised.{as-128}
 use Rattle.asmap_records.specs.Output.{Result, No, refuse, within, answerOf}
 use Rattle.asmap_records.specs.Unpack.{unpackOf}
 use Rattle.asmap_records.specs.Pack.{packBits, packOf}
@@ -43,12 +44,12 @@ pub at-most-10 : {r : ℕ} → (r ≡ 0) ⊎ (r ≤ 10) → r ≤ 10
 at-most-10 (inl z) = omega arith
 at-most-10 (inr l) = l
 
-module _ (m : List ℕ) {r : ℕ} {entry exit : List ℕ} where
-  pub check-10 : Hands (mapChecked (checkOf m 128)) r entry exit → r ≤ 10
-  check-10 h = at-most-10 (numbered (λ n. n ≤ 10) _ (map-numbers (λ n. n ≤ 10) (λ n l k. k) m 128 (omega arith)) h)
+module _ (m : List ℕ) (w : ℕ) {r : ℕ} {entry exit : List ℕ} where
+  pub check-10 : Hands (mapChecked (checkOf m w)) r entry exit → r ≤ 10
+  check-10 h = at-most-10 (numbered (λ n. n ≤ 10) _ (map-numbers (λ n. n ≤ 10) (λ n l k. k) m w (omega arith)) h)
 
   -- 1 is for long maps
-  long-only : Hands (mapChecked (checkOf m 128)) r entry exit → r ≡ 1 → 16777216 < length m
+  long-only : Hands (mapChecked (checkOf m w)) r entry exit → r ≡ 1 → 16777216 < length m
   long-only h z = by (decLe (length m) 16777216)
     where
       not-1 : (r ≡ 0) ⊎ (2 ≤ r) → 16777216 < length m
@@ -57,16 +58,16 @@ module _ (m : List ℕ) {r : ℕ} {entry exit : List ℕ} where
 
       by : Dec (length m ≤ 16777216) → 16777216 < length m
       by (yes l) =
-          not-1 (numbered (λ n. 2 ≤ n) (mapChecked (check (mapOf m) 128)) (check-numbers (λ n. 2 ≤ n) (λ n l k. l) (mapOf m) 128) (rw (le-ltb limit (length m) l) at h))
+          not-1 (numbered (λ n. 2 ≤ n) (mapChecked (check (mapOf m) w)) (check-numbers (λ n. 2 ≤ n) (λ n l k. l) (mapOf m) w) (rw (le-ltb limit (length m) l) at h))
       by (no l) = omega arith
 
-  pub checks : Hands (mapChecked (checkOf m 128)) r entry exit → Checks m r entry exit
+  pub checks : Hands (mapChecked (checkOf m w)) r entry exit → Checks m w r entry exit
   unfolding mapChecked
   checks h = record {
     numbers = check-10 h;
-    accepted = λ c d e. handed-out (checkOf m 128) e h;
-    refused = λ n e. refused-by (checkOf m 128) e h;
-    too-long = λ l. refused-as _ (ap (λ (b : Bool). mapChecked (unlessLong b (check (mapOf m) 128))) (lt-ltb limit (length m) l)) h;
+    accepted = λ c d e. handed-out (checkOf m w) e h;
+    refused = λ n e. refused-by (checkOf m w) e h;
+    too-long = λ l. refused-as _ (ap (λ (b : Bool). mapChecked (unlessLong b (check (mapOf m) w))) (lt-ltb limit (length m) l)) h;
     only-then = long-only h;
     untouched = kept _ h;
   }
@@ -81,18 +82,18 @@ unfolding handed IsDone checkStopped
 stop-numbers m true q why at h z = absurd (h .zero-is-done z)
 stop-numbers m false q why at h z = let k = h .numbers in (ltb-false limit (length m) q, (cc, cc))
 
-module _ (m : List ℕ) {r reason place : ℕ} {entry : List ℕ} (h : Hands (checkStopped (stoppedOf m 128)) r entry (reason ∷ place ∷ [])) where
-  found : r ≡ 0 → (length m ≤ 16777216) × ((reason ≡ reasonOf (check (mapOf m) 128)) × (place ≡ stopOf (mapOf m) 128))
-  found z = stop-numbers m (ltb limit (length m)) refl (reasonOf (check (mapOf m) 128)) (stopOf (mapOf m) 128) h z
+module _ (m : List ℕ) (w : ℕ) {r reason place : ℕ} {entry : List ℕ} (h : Hands (checkStopped (stoppedOf m w)) r entry (reason ∷ place ∷ [])) where
+  found : r ≡ 0 → (length m ≤ 16777216) × ((reason ≡ reasonOf (check (mapOf m) w)) × (place ≡ stopOf (mapOf m) w))
+  found z = stop-numbers m (ltb limit (length m)) refl (reasonOf (check (mapOf m) w)) (stopOf (mapOf m) w) h z
 
   -- the reason is the one in the verdict
-  same-reason : r ≡ 0 → (v : Verdict) → checkOf m 128 ≡ v → reason ≡ reasonOf v
-  same-reason z v e = let f = found z in f .1 .0 ∙ ap reasonOf (checked m 128 (f .0) ∙ e)
+  same-reason : r ≡ 0 → (v : Verdict) → checkOf m w ≡ v → reason ≡ reasonOf v
+  same-reason z v e = let f = found z in f .1 .0 ∙ ap reasonOf (checked m w (f .0) ∙ e)
 
-  by-test : (b : Bool) → ltb limit (length m) ≡ b → checkStopped (stoppedOf m 128) ≡ checkStopped (stopsUnlessLong b (At (reasonOf (check (mapOf m) 128)) (stopOf (mapOf m) 128)))
-  by-test b e = ap (λ (x : Bool). checkStopped (stopsUnlessLong x (At (reasonOf (check (mapOf m) 128)) (stopOf (mapOf m) 128)))) e
+  by-test : (b : Bool) → ltb limit (length m) ≡ b → checkStopped (stoppedOf m w) ≡ checkStopped (stopsUnlessLong b (At (reasonOf (check (mapOf m) w)) (stopOf (mapOf m) w)))
+  by-test b e = ap (λ (x : Bool). checkStopped (stopsUnlessLong x (At (reasonOf (check (mapOf m) w)) (stopOf (mapOf m) w)))) e
 
-  pub stops : Stops m r entry reason place
+  pub stops : Stops m w r entry reason place
   unfolding checkStopped
   stops = record {
     too-long = λ l. refused-as _ (by-test true (lt-ltb limit (length m) l)) h;
@@ -102,52 +103,58 @@ module _ (m : List ℕ) {r reason place : ℕ} {entry : List ℕ} (h : Hands (ch
     exact = λ z. found z .1 .1;
     stands = λ z.
         let f = found z in
-        subst (StopsAt (mapOf m) 128 (checkOf m 128)) (sym (f .1 .1))
-        (subst (λ (v : Verdict). StopsAt (mapOf m) 128 v (stopOf (mapOf m) 128)) (checked m 128 (f .0)) (stops-at (mapOf m) (laws m) 128));
-    inside = λ z. omega (arith, found z .1 .1, stop-inside (mapOf m) (laws m) 128, map-bits m);
+        subst (StopsAt (mapOf m) w (checkOf m w)) (sym (f .1 .1))
+        (subst (λ (v : Verdict). StopsAt (mapOf m) w v (stopOf (mapOf m) w)) (checked m w (f .0)) (stops-at (mapOf m) (laws m) w));
+    inside = λ z. omega (arith, found z .1 .1, stop-inside (mapOf m) (laws m) w, map-bits m);
     untouched = kept _ h;
   }
 
 -- where it stops, and what the check says
-pub stops-as-checked : (m : List ℕ) {a r : ℕ} {reason place : ℕ} {entry before after : List ℕ}
-    → Stops m a entry reason place → a ≡ 0 → Checks m r before after → reason ≡ r
-stops-as-checked m {r} {reason} s z k = by (checkOf m 128) refl
+pub stops-as-checked : (m : List ℕ) (w : ℕ) {a r : ℕ} {reason place : ℕ} {entry before after : List ℕ}
+    → Stops m w a entry reason place → a ≡ 0 → Checks m w r before after → reason ≡ r
+stops-as-checked m w {r} {reason} s z k = by (checkOf m w) refl
   where
-    by : (v : Verdict) → checkOf m 128 ≡ v → reason ≡ r
+    by : (v : Verdict) → checkOf m w ≡ v → reason ≡ r
     by (Accepted c d) e = s .accepted c d z e ∙ sym (k .accepted c d e .0)
     by (Refused n) e = s .refused n z e ∙ sym (k .refused n e)
 
 -- ---- the walk
 
 -- the numbers of a walk that was made, by the call's two tests
-ends-with : (sixteen long : Bool) (e : Ending) {r kind number count bits : ℕ} {entry : List ℕ}
-    → Hands (walkMade (refusedIf (not sixteen) 11 (refusedIf long 1 (Ended e)))) r entry (kind ∷ number ∷ count ∷ bits ∷ [])
+ends-with : (enough long : Bool) (e : Ending) {r kind number count bits : ℕ} {entry : List ℕ}
+    → Hands (walkMade (refusedIf (not enough) 11 (refusedIf long 1 (Ended e)))) r entry (kind ∷ number ∷ count ∷ bits ∷ [])
     → r ≡ 0 → kind ∷ number ∷ count ∷ bits ∷ [] ≡ endNumbers e
 unfolding handed IsDone walkMade
 ends-with false long e h z = absurd (h .zero-is-done z)
 ends-with true true e h z = absurd (h .zero-is-done z)
 ends-with true false e h z = let k = h .numbers in cc
 
-told : (w : Walked) {kind number count bits : ℕ} → kind ∷ number ∷ count ∷ bits ∷ [] ≡ endNumbers (summary w) → Told w kind number count bits
-told w {kind} e =
-    let k : kind ≡ kindNumber (w .kind) = cc in
+told : (v : Walked) {kind number count bits : ℕ} → kind ∷ number ∷ count ∷ bits ∷ [] ≡ endNumbers (summary v) → Told v kind number count bits
+told v {kind} e =
+    let k : kind ≡ kindNumber (v .kind) = cc in
     record { returned = λ q. k ∙ ap kindNumber q; differed = λ q. k ∙ ap kindNumber q; aborted = λ q. k ∙ ap kindNumber q; same-number = cc; same-count = cc; same-bits = cc }
 
-pub walks : (m a : List ℕ) {r kind number count bits : ℕ} {entry : List ℕ}
-    → Hands (walkMade (interpretOf m a)) r entry (kind ∷ number ∷ count ∷ bits ∷ []) → Walks m a r entry kind number count bits
+-- w: the address bits, which are whole bytes
+pub walks : (m a : List ℕ) (w : ℕ) → 8 * (w / 8) ≡ w → {r kind number count bits : ℕ} {entry : List ℕ}
+    → Hands (walkMade (interpretOver m a w)) r entry (kind ∷ number ∷ count ∷ bits ∷ []) → Walks m a w r entry kind number count bits
 unfolding walkMade
-walks m a h =
-    let e = summary (walkOf m a 128) in
+walks m a w whole h =
+    let e = summary (walkOf m a w) in
     let long = ltb limit (length m) in
     let by : Bool → Interpreted = λ (b : Bool). refusedIf (not b) 11 (refusedIf long 1 (Ended e)) in
-    let sixteen : length a ≡ 16 → walkMade (interpretOf m a) ≡ walkMade (refusedIf long 1 (Ended e)) = λ l. ap (λ (b : Bool). walkMade (by b)) (eq-eqb (length a) 16 l) in
+    let enough : length a ≡ w / 8 → walkMade (interpretOver m a w) ≡ walkMade (refusedIf long 1 (Ended e)) =
+    λ l. ap (λ (b : Bool). walkMade (by b)) (eq-eqb (8 * length a) w (omega arith)) in
     record {
-      no-address = λ n. refused-as _ (ap (λ (b : Bool). walkMade (by b)) (ne-eqb (length a) 16 n)) h;
-      too-long = λ l k. refused-as _ (sixteen l ∙ ap (λ (b : Bool). walkMade (refusedIf b 1 (Ended e))) (lt-ltb limit (length m) k)) h;
-      answered = λ l k. done-as _ (sixteen l ∙ ap (λ (b : Bool). walkMade (refusedIf b 1 (Ended e))) (le-ltb limit (length m) k)) h;
-      told = λ z. told (walkOf m a 128) (ends-with (eqb (length a) 16) long e h z);
+      no-address = λ n. refused-as _ (ap (λ (b : Bool). walkMade (by b)) (ne-eqb (8 * length a) w (λ z. n (omega arith)))) h;
+      too-long = λ l k. refused-as _ (enough l ∙ ap (λ (b : Bool). walkMade (refusedIf b 1 (Ended e))) (lt-ltb limit (length m) k)) h;
+      answered = λ l k. done-as _ (enough l ∙ ap (λ (b : Bool). walkMade (refusedIf b 1 (Ended e))) (le-ltb limit (length m) k)) h;
+      told = λ z. told (walkOf m a w) (ends-with (eqb (8 * length a) w) long e h z);
       untouched = kept _ h;
     }
+
+-- the call that takes no width walks by 128 bits
+pub over-128 : (m a : List ℕ) {r : ℕ} {lent left : List ℕ} → Hands (walkMade (interpretOf m a)) r lent left → Hands (walkMade (interpretOver m a 128)) r lent left
+over-128 m a {r} {lent} {left} h = subst (λ (x : Interpreted). Hands (walkMade x) r lent left) (sym (as-128 m a)) h
 
 -- ---- unpack and pack
 
@@ -155,14 +162,14 @@ check-or-14 : {r : ℕ} → (r ≡ 0) ⊎ ((r ≤ 10) ⊎ (r ≡ 14)) → (r ≤
 check-or-14 (inl z) = inl (omega arith)
 check-or-14 (inr k) = k
 
-not-made : (m : List ℕ) (n : ℕ) → checkOf m 128 ≡ Refused n → unpackOf m 128 ≡ No n
+not-made : (m : List ℕ) (w n : ℕ) → checkOf m w ≡ Refused n → unpackOf m w ≡ No n
 unfolding unpackOf
-not-made m n e = rw e
+not-made m w n e = rw e
 
 -- A call that writes what is made by the check's verdict, in a room as long as o.
-pub record ByCheck (m o o′ : List ℕ) (r written written′ : ℕ) : Type 0 where
+pub record ByCheck (m : List ℕ) (w : ℕ) (o o′ : List ℕ) (r written written′ : ℕ) : Type 0 where
   pub numbers : (r ≤ 10) ⊎ (r ≡ 14)
-  pub refused : (n : ℕ) → checkOf m 128 ≡ Refused n → r ≡ n
+  pub refused : (n : ℕ) → checkOf m w ≡ Refused n → r ≡ n
   pub past : r ≡ 0 → drop written′ o′ ≡ drop written′ o
   pub untouched : (r ≡ 0 → ⊥) → (o′ ≡ o) × (written′ ≡ written)
 
@@ -170,28 +177,28 @@ pub record ByCheck (m o o′ : List ℕ) (r written written′ : ℕ) : Type 0 w
 abbrev pub CheckOr14 : ℕ → Type 0
 CheckOr14 n = (n ≤ 10) ⊎ (n ≡ 14)
 
-pub by-check : (m o o′ : List ℕ) {r written written′ : ℕ} (made : Result) → ((n : ℕ) → checkOf m 128 ≡ Refused n → made ≡ No n)
-    → (CheckOr14 14 → Refuses CheckOr14 (mapChecked (checkOf m 128)) → Refuses CheckOr14 (bytesWritten (answerOf (within (length o) made))))
-    → Writes made o o′ r (written ∷ []) (written′ ∷ []) → ByCheck m o o′ r written written′
+pub by-check : (m : List ℕ) (w : ℕ) (o o′ : List ℕ) {r written written′ : ℕ} (made : Result) → ((n : ℕ) → checkOf m w ≡ Refused n → made ≡ No n)
+    → (CheckOr14 14 → Refuses CheckOr14 (mapChecked (checkOf m w)) → Refuses CheckOr14 (bytesWritten (answerOf (within (length o) made))))
+    → Writes made o o′ r (written ∷ []) (written′ ∷ []) → ByCheck m w o o′ r written written′
 unfolding bytesWritten
-by-check m o o′ made unmade numbers w = record {
-  numbers = check-or-14 (numbered CheckOr14 _ (numbers (inr refl) (map-numbers CheckOr14 (λ n l k. inl k) m 128 (inl (omega arith)))) (w .hands));
-  refused = λ n e. refused-as _ (ap (λ (x : Result). bytesWritten (answerOf (within (length o) x))) (unmade n e)) (w .hands);
-  past = λ z. wrote made w z .past;
-  untouched = left-alone made w;
+by-check m w o o′ made unmade numbers h = record {
+  numbers = check-or-14 (numbered CheckOr14 _ (numbers (inr refl) (map-numbers CheckOr14 (λ n l k. inl k) m w (inl (omega arith)))) (h .hands));
+  refused = λ n e. refused-as _ (ap (λ (x : Result). bytesWritten (answerOf (within (length o) x))) (unmade n e)) (h .hands);
+  past = λ z. wrote made h z .past;
+  untouched = left-alone made h;
 }
 
-pub unpacks : (m o o′ : List ℕ) {r written written′ : ℕ} → Writes (unpackOf m 128) o o′ r (written ∷ []) (written′ ∷ []) → Unpacks m o o′ r written written′
-unpacks m o o′ {r} {written} {written′} w =
-    let b = by-check m o o′ (unpackOf m 128) (not-made m) (unpack-numbers CheckOr14 (length o) m 128) w in
+pub unpacks : (m : List ℕ) (w : ℕ) (o o′ : List ℕ) {r written written′ : ℕ} → Writes (unpackOf m w) o o′ r (written ∷ []) (written′ ∷ []) → Unpacks m w o o′ r written written′
+unpacks m w o o′ {r} {written} {written′} h =
+    let b = by-check m w o o′ (unpackOf m w) (not-made m w) (unpack-numbers CheckOr14 (length o) m w) h in
     record {
       numbers = b .numbers;
       refused = b .refused;
       answered = λ c d e k.
-          let z = unpack-answers m o o′ c d e k w in
-          let u = wrote (unpackOf m 128) w z in
-          (z, u .many ∙ ap length (made-same (sym (unpack-made m c d e) ∙ u .these)) ∙ unpack-size m c d e);
-      no-room = λ c d e k. no-room (unpackOf m 128) _ o o′ (unpack-made m c d e) (omega (arith, unpack-size m c d e)) w;
+          let z = unpack-answers m w o o′ c d e k h in
+          let u = wrote (unpackOf m w) h z in
+          (z, u .many ∙ ap length (made-same (sym (unpack-made m w c d e) ∙ u .these)) ∙ unpack-size m w c d e);
+      no-room = λ c d e k. no-room (unpackOf m w) _ o o′ (unpack-made m w c d e) (omega (arith, unpack-size m w c d e)) h;
       past = b .past;
       untouched = b .untouched;
     }

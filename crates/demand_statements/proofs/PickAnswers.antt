@@ -41,7 +41,7 @@ abbrev Checked : ℕ → Type 0
 Checked n = (1 ≤ n) × (n ≤ 10)
 
 refusal : (m : List ℕ) {r : ℕ} {entry exit : List ℕ} → Hands (mapChecked (checkOf m 128)) r entry exit → (r ≡ 0 → ⊥) → Checked r
-refusal m {r} h n = (some r n, check-10 m h)
+refusal m {r} h n = (some r n, check-10 m 128 h)
   where
     some : (r : ℕ) → (r ≡ 0 → ⊥) → 1 ≤ r
     some zero n = absurd (n refl)

@@ -11,7 +11,7 @@ use Rattle.asmap_program.specs.declared.Instruction.{Instruction}
 use Rattle.asmap_program.specs.Check.{unpacked}
 use Rattle.asmap_codes.specs.Instruction.{mapOf}
 use Rattle.asmap_check.proofs.Standing.{accepted-within}
-use Rattle.asmap_walk.specs.Interpret.{interpretOf}
+use Rattle.asmap_walk.specs.Interpret.{interpretOver}
 use Rattle.asmap_records.specs.Record.{recordOf, recordsOf}
 use Rattle.asmap_records.specs.Unpack.{unpackOf}
 use Rattle.asmap_records.proofs.RecordLaws.{length-records}
@@ -21,10 +21,9 @@ use Rattle.asmap_records.proofs.Listing.{Listing, none, then, accepted-lists}
 use Rattle.asmap_records.proofs.Reading.{Stands, stands}
 use Rattle.answers.specs.Outcome.{Hands}
 use Rattle.answers.specs.Maps.{walkMade, Writes}
-use Rattle.answers.specs.Promise.{Demand3}
 use Rattle.demand_statements.specs.Walked.{little, RecordAt, InRecords}
 use Rattle.demand_statements.proofs.TripLaws.{wrote, unpack-accepts, unpack-made}
-use Rattle.demand_statements.proofs.WalkLaws.{sixteen-bytes}
+use Rattle.demand_statements.proofs.WalkLaws.{has-bits, Ends}
 
 -- ---- the records of a list
 
@@ -85,16 +84,16 @@ in-front n o j i r =
     }
 
 -- unpack answered q, 0, and wrote n bytes; r is the walk's answer
-pub walk-listed : (m a : List ℕ) {o o′ lent lent′ left : List ℕ} {q n r kind number count bits : ℕ} → Writes (unpackOf m 128) o o′ q lent (n ∷ []) → q ≡ 0
-    → Hands (walkMade (interpretOf m a)) r lent′ left → Demand3 m a r kind number count bits → r ≡ 0 → InRecords m a o′ n
-walk-listed m a {o′} {n} w z h p y i k =
-    let u = wrote (unpackOf m 128) w z in
-    let v = unpack-accepts m (u .bytes) (u .these) in
-    let is = unpacked (mapOf m) 128 in
-    let s : u .bytes ≡ recordsOf is = made-same (sym (unpack-made m (v .0) (v .1) (v .2)) ∙ u .these) in
-    let t = accepted-within m 128 (v .0) (v .1) (v .2) in
-    let f = p (v .0) (v .1) (v .2) (sixteen-bytes m a h y) in
-    let at = in-records m (t .0) (accepted-lists (mapOf m) 128 (t .1) .all) i (f .kept .listed i k) in
+pub walk-listed : (m a : List ℕ) (w : ℕ) {o o′ lent lent′ left : List ℕ} {q n r kind number count bits : ℕ} → Writes (unpackOf m w) o o′ q lent (n ∷ []) → q ≡ 0
+    → Hands (walkMade (interpretOver m a w)) r lent′ left → Ends m a w r kind number count bits → r ≡ 0 → InRecords m a w o′ n
+walk-listed m a w {o′} {n} x z h p y i k =
+    let u = wrote (unpackOf m w) x z in
+    let v = unpack-accepts m w (u .bytes) (u .these) in
+    let is = unpacked (mapOf m) w in
+    let s : u .bytes ≡ recordsOf is = made-same (sym (unpack-made m w (v .0) (v .1) (v .2)) ∙ u .these) in
+    let t = accepted-within m w (v .0) (v .1) (v .2) in
+    let f = p (v .0) (v .1) (v .2) (has-bits m a w h y) in
+    let at = in-records m (t .0) (accepted-lists (mapOf m) w (t .1) .all) i (f .kept .listed i k) in
     let e : 16 * length is ≡ n = sym (u .many ∙ ap length s ∙ length-records is) in
     let r : RecordAt (take n o′) n (at .0) i
     = subst (λ (l : List ℕ). RecordAt l n (at .0) i) (sym (u .there ∙ s)) (subst (λ (b : ℕ). RecordAt (recordsOf is) b (at .0) i) e (at .1)) in

@@ -76,43 +76,43 @@ left-alone made {o} w z =
     (unwritten (within (length o) made) (w .hands) (w .output) z, (cc))
 
 -- a map that was unpacked is accepted
-unpacks : (m rs : List ℕ) (v : Verdict) → unpackAs m 128 v ≡ Made rs → (c : ℕ) × (d : ℕ) × (v ≡ Accepted c d)
-unpacks m rs (Accepted c d) e = (c, d, refl)
-unpacks m rs (Refused n) e = let z : _≡_ {A = ℕ} 0 1 = cc in absurd (omega arith)
+unpacks : (m : List ℕ) (w : ℕ) (rs : List ℕ) (v : Verdict) → unpackAs m w v ≡ Made rs → (c : ℕ) × (d : ℕ) × (v ≡ Accepted c d)
+unpacks m w rs (Accepted c d) e = (c, d, refl)
+unpacks m w rs (Refused n) e = let z : _≡_ {A = ℕ} 0 1 = cc in absurd (omega arith)
 
-module _ (m : List ℕ) where
-  pub unpack-accepts : (rs : List ℕ) → unpackOf m 128 ≡ Made rs → (c : ℕ) × (d : ℕ) × (checkOf m 128 ≡ Accepted c d)
+module _ (m : List ℕ) (w : ℕ) where
+  pub unpack-accepts : (rs : List ℕ) → unpackOf m w ≡ Made rs → (c : ℕ) × (d : ℕ) × (checkOf m w ≡ Accepted c d)
   unfolding unpackOf
-  unpack-accepts rs e = unpacks m rs (checkOf m 128) e
+  unpack-accepts rs e = unpacks m w rs (checkOf m w) e
 
-  pub unpack-made : (c d : ℕ) → checkOf m 128 ≡ Accepted c d → unpackOf m 128 ≡ Made (recordsOf (unpacked (mapOf m) 128))
+  pub unpack-made : (c d : ℕ) → checkOf m w ≡ Accepted c d → unpackOf m w ≡ Made (recordsOf (unpacked (mapOf m) w))
   unfolding unpackOf
   unpack-made c d e = rw e
 
   -- sixteen bytes for each of the c instructions
-  pub unpack-size : (c d : ℕ) → checkOf m 128 ≡ Accepted c d → length (recordsOf (unpacked (mapOf m) 128)) ≡ 16 * c
-  unpack-size c d e = unpack-length m 128 c d (accepted-within m 128 c d e .1)
+  pub unpack-size : (c d : ℕ) → checkOf m w ≡ Accepted c d → length (recordsOf (unpacked (mapOf m) w)) ≡ 16 * c
+  unpack-size c d e = unpack-length m w c d (accepted-within m w c d e .1)
 
   -- unpack refuses no accepted map that has room
-  pub unpack-answers : (o o′ : List ℕ) {r : ℕ} {lent left : List ℕ} (c d : ℕ) → checkOf m 128 ≡ Accepted c d
-      → 16 * c ≤ length o → Writes (unpackOf m 128) o o′ r lent left → r ≡ 0
-  unpack-answers o o′ c d e h w =
-      has-room (unpackOf m 128) _ o o′ (unpack-made c d e) (omega (arith, unpack-size c d e)) w
+  pub unpack-answers : (o o′ : List ℕ) {r : ℕ} {lent left : List ℕ} (c d : ℕ) → checkOf m w ≡ Accepted c d
+      → 16 * c ≤ length o → Writes (unpackOf m w) o o′ r lent left → r ≡ 0
+  unpack-answers o o′ c d e h v =
+      has-room (unpackOf m w) _ o o′ (unpack-made c d e) (omega (arith, unpack-size c d e)) v
 
   module _ {records records′ bytes bytes′ : List ℕ} {r written : ℕ} where
     -- unpack refused
-    pub not-unpacked : {lent left : List ℕ} → Writes (unpackOf m 128) records records′ r lent left → (r ≡ 0 → ⊥)
-        → UnpackedThenPacked m records bytes bytes′ r written
-    not-unpacked w n = record { again = λ z. absurd (n z); answered = λ c d e h k. unpack-answers records records′ c d e h w }
+    pub not-unpacked : {lent left : List ℕ} → Writes (unpackOf m w) records records′ r lent left → (r ≡ 0 → ⊥)
+        → UnpackedThenPacked m w records bytes bytes′ r written
+    not-unpacked v n = record { again = λ z. absurd (n z); answered = λ c d e h k. unpack-answers records records′ c d e h v }
 
     -- unpack answered q, 0, and wrote n bytes; r is pack's answer
-    pub packed-again : AllBytes m → {q n : ℕ} {lent lent′ : List ℕ} → Writes (unpackOf m 128) records records′ q lent (n ∷ []) → q ≡ 0
-        → Writes (packOf (take n records′)) bytes bytes′ r lent′ (written ∷ []) → UnpackedThenPacked m records bytes bytes′ r written
-    packed-again all {q} {n} w z p =
-        let u = wrote (unpackOf m 128) w z in
+    pub packed-again : AllBytes m → {q n : ℕ} {lent lent′ : List ℕ} → Writes (unpackOf m w) records records′ q lent (n ∷ []) → q ≡ 0
+        → Writes (packOf (take n records′)) bytes bytes′ r lent′ (written ∷ []) → UnpackedThenPacked m w records bytes bytes′ r written
+    packed-again all {q} {n} x z p =
+        let u = wrote (unpackOf m w) x z in
         let a = unpack-accepts (u .bytes) (u .these) in
         let t : packOf (take n records′) ≡ Made m
-        = ap packOf (u .there) ∙ sym (ap (on packOf) (u .these)) ∙ unpacked-then-packed m 128 (a .0) (a .1) all (a .2) in
+        = ap packOf (u .there) ∙ sym (ap (on packOf) (u .these)) ∙ unpacked-then-packed m w (a .0) (a .1) all (a .2) in
         record {
           again = λ y.
               let v = wrote (packOf (take n records′)) p y in
@@ -122,14 +122,14 @@ module _ (m : List ℕ) where
         }
 
 -- pack answered q, 0, and wrote n bytes; r is unpack's answer
-pub unpacked-again : (records : List ℕ) {bytes bytes′ again again′ : List ℕ} {q n r written : ℕ} {lent lent′ : List ℕ} → AllBytes records
+pub unpacked-again : (records : List ℕ) (w : ℕ) {bytes bytes′ again again′ : List ℕ} {q n r written : ℕ} {lent lent′ : List ℕ} → AllBytes records
     → Writes (packOf records) bytes bytes′ q lent (n ∷ []) → q ≡ 0
-    → Writes (unpackOf (take n bytes′) 128) again again′ r lent′ (written ∷ []) → r ≡ 0 → Again records again′ written
-unpacked-again records {bytes′} {n} all p z w y =
+    → Writes (unpackOf (take n bytes′) w) again again′ r lent′ (written ∷ []) → r ≡ 0 → Again records again′ written
+unpacked-again records w {bytes′} {n} all p z x y =
     let v = wrote (packOf records) p z in
-    let u = wrote (unpackOf (take n bytes′) 128) w y in
-    let a = unpack-accepts (take n bytes′) (u .bytes) (u .these) in
-    let t : unpackOf (take n bytes′) 128 ≡ Made records
-    = packed-then-unpacked records (take n bytes′) 128 (a .0) (a .1) all (v .these ∙ ap Made (sym (v .there))) (a .2) in
+    let u = wrote (unpackOf (take n bytes′) w) x y in
+    let a = unpack-accepts (take n bytes′) w (u .bytes) (u .these) in
+    let t : unpackOf (take n bytes′) w ≡ Made records
+    = packed-then-unpacked records (take n bytes′) w (a .0) (a .1) all (v .these ∙ ap Made (sym (v .there))) (a .2) in
     let s : u .bytes ≡ records = made-same (sym t ∙ u .these) in
     record { as-long = u .many ∙ ap length s; same = u .there ∙ s }

@@ -53,13 +53,13 @@ pub record WritesInstruction (opcode operand r : ℕ) (entry exit : List ℕ) : 
   pub out-of-range : (operand < leastOperand opcode) ⊎ (greatestOperand opcode < operand) → r ≡ 15
   pub untouched : Untouched r entry exit
 
--- ---- check, walk, unpack, listing, pack
+-- ---- check, walk, unpack, listing, pack; w: the address bits, which are 128 for a call that takes no width
 
 -- The check: 0 to 10, as the defined check says, with its count and depth where it accepts; and 1 exactly for a map that is too long.
-pub record Checks (m : List ℕ) (r : ℕ) (entry exit : List ℕ) : Type 0 where
+pub record Checks (m : List ℕ) (w r : ℕ) (entry exit : List ℕ) : Type 0 where
   pub numbers : r ≤ 10
-  pub accepted : (c d : ℕ) → checkOf m 128 ≡ Accepted c d → (r ≡ 0) × (exit ≡ c ∷ d ∷ [])
-  pub refused : (n : ℕ) → checkOf m 128 ≡ Refused n → r ≡ n
+  pub accepted : (c d : ℕ) → checkOf m w ≡ Accepted c d → (r ≡ 0) × (exit ≡ c ∷ d ∷ [])
+  pub refused : (n : ℕ) → checkOf m w ≡ Refused n → r ≡ n
   pub too-long : 16777216 < length m → r ≡ 1
   pub only-then : r ≡ 1 → 16777216 < length m
   pub untouched : Untouched r entry exit
@@ -67,71 +67,72 @@ pub record Checks (m : List ℕ) (r : ℕ) (entry exit : List ℕ) : Type 0 wher
 -- Where the check stops: 1 exactly for a map that is too long, else 0, with the reason, which is 0 where the defined check accepts and its
 -- number where it refuses, and with the place. There the check stands in a state that it comes to from the map's start, and its next
 -- step gives its verdict; so the place is in the map, or its end.
-pub record Stops (m : List ℕ) (r : ℕ) (entry : List ℕ) (reason place : ℕ) : Type 0 where
+pub record Stops (m : List ℕ) (w r : ℕ) (entry : List ℕ) (reason place : ℕ) : Type 0 where
   pub too-long : 16777216 < length m → r ≡ 1
   pub answered : length m ≤ 16777216 → r ≡ 0
-  pub accepted : (c d : ℕ) → r ≡ 0 → checkOf m 128 ≡ Accepted c d → reason ≡ 0
-  pub refused : (n : ℕ) → r ≡ 0 → checkOf m 128 ≡ Refused n → reason ≡ n
-  pub exact : r ≡ 0 → place ≡ stopOf (mapOf m) 128
-  pub stands : r ≡ 0 → StopsAt (mapOf m) 128 (checkOf m 128) place
+  pub accepted : (c d : ℕ) → r ≡ 0 → checkOf m w ≡ Accepted c d → reason ≡ 0
+  pub refused : (n : ℕ) → r ≡ 0 → checkOf m w ≡ Refused n → reason ≡ n
+  pub exact : r ≡ 0 → place ≡ stopOf (mapOf m) w
+  pub stands : r ≡ 0 → StopsAt (mapOf m) w (checkOf m w) place
   pub inside : r ≡ 0 → place ≤ 8 * length m
   pub untouched : Untouched r entry (reason ∷ place ∷ [])
 
--- The numbers of a walk w: 1 for a RETURN, 2 for a difference, 3 for an abort; its number, the instructions read, the address bits read.
-pub record Told (w : Walked) (kind number count bits : ℕ) : Type 0 where
-  pub returned : w .kind ≡ Returned → kind ≡ 1
-  pub differed : w .kind ≡ Differed → kind ≡ 2
-  pub aborted : w .kind ≡ Aborted → kind ≡ 3
-  pub same-number : number ≡ w .number
-  pub same-count : count ≡ length (w .read)
-  pub same-bits : bits ≡ w .bits
+-- The numbers of a walk: 1 for a RETURN, 2 for a difference, 3 for an abort; its number, the instructions read, the address bits read.
+pub record Told (walk : Walked) (kind number count bits : ℕ) : Type 0 where
+  pub returned : walk .kind ≡ Returned → kind ≡ 1
+  pub differed : walk .kind ≡ Differed → kind ≡ 2
+  pub aborted : walk .kind ≡ Aborted → kind ≡ 3
+  pub same-number : number ≡ walk .number
+  pub same-count : count ≡ length (walk .read)
+  pub same-bits : bits ≡ walk .bits
 
--- The walk, of any map, accepted or not: 11 for an address that has not 16 bytes, else 1 for a map that is too long, else the defined walk.
-pub record Walks (m a : List ℕ) (r : ℕ) (entry : List ℕ) (kind number count bits : ℕ) : Type 0 where
-  pub no-address : length a ≢ 16 → r ≡ 11
-  pub too-long : length a ≡ 16 → 16777216 < length m → r ≡ 1
-  pub answered : length a ≡ 16 → length m ≤ 16777216 → r ≡ 0
-  pub told : r ≡ 0 → Told (walkOf m a 128) kind number count bits
+-- The walk, of any map, accepted or not: 11 for an address that has not as many bytes as w bits are, 16 where w is 128, else 1 for a map that is
+-- too long, else the defined walk.
+pub record Walks (m a : List ℕ) (w r : ℕ) (entry : List ℕ) (kind number count bits : ℕ) : Type 0 where
+  pub no-address : length a ≢ w / 8 → r ≡ 11
+  pub too-long : length a ≡ w / 8 → 16777216 < length m → r ≡ 1
+  pub answered : length a ≡ w / 8 → length m ≤ 16777216 → r ≡ 0
+  pub told : r ≡ 0 → Told (walkOf m a w) kind number count bits
   pub untouched : Untouched r entry (kind ∷ number ∷ count ∷ bits ∷ [])
 
 -- Unpack: the check's numbers, else 14 exactly where there is no room for 16 bytes for each of the c instructions.
-pub record Unpacks (m o o′ : List ℕ) (r written written′ : ℕ) : Type 0 where
+pub record Unpacks (m : List ℕ) (w : ℕ) (o o′ : List ℕ) (r written written′ : ℕ) : Type 0 where
   pub numbers : (r ≤ 10) ⊎ (r ≡ 14)
-  pub refused : (n : ℕ) → checkOf m 128 ≡ Refused n → r ≡ n
-  pub answered : (c d : ℕ) → checkOf m 128 ≡ Accepted c d → 16 * c ≤ length o → (r ≡ 0) × (written′ ≡ 16 * c)
-  pub no-room : (c d : ℕ) → checkOf m 128 ≡ Accepted c d → length o < 16 * c → r ≡ 14
+  pub refused : (n : ℕ) → checkOf m w ≡ Refused n → r ≡ n
+  pub answered : (c d : ℕ) → checkOf m w ≡ Accepted c d → 16 * c ≤ length o → (r ≡ 0) × (written′ ≡ 16 * c)
+  pub no-room : (c d : ℕ) → checkOf m w ≡ Accepted c d → length o < 16 * c → r ≡ 14
   pub past : r ≡ 0 → drop written′ o′ ≡ drop written′ o
   pub untouched : r ≢ 0 → (o′ ≡ o) × (written′ ≡ written)
 
 -- The listing: the check's numbers, else 14; with which room, says `Listed`.
-pub record Lists (m o o′ : List ℕ) (r written written′ : ℕ) : Type 0 where
+pub record Lists (m : List ℕ) (w : ℕ) (o o′ : List ℕ) (r written written′ : ℕ) : Type 0 where
   pub numbers : (r ≤ 10) ⊎ (r ≡ 14)
-  pub refused : (n : ℕ) → checkOf m 128 ≡ Refused n → r ≡ n
+  pub refused : (n : ℕ) → checkOf m w ≡ Refused n → r ≡ n
   pub past : r ≡ 0 → drop written′ o′ ≡ drop written′ o
   pub untouched : r ≢ 0 → (o′ ≡ o) × (written′ ≡ written)
 
 -- How many bytes a listing needs: 0 for every map that the check accepts, else the check's numbers.
-pub record Needs (m : List ℕ) (r : ℕ) (entry exit : List ℕ) : Type 0 where
+pub record Needs (m : List ℕ) (w r : ℕ) (entry exit : List ℕ) : Type 0 where
   pub numbers : r ≤ 10
-  pub accepted : (c d : ℕ) → checkOf m 128 ≡ Accepted c d → r ≡ 0
-  pub refused : (n : ℕ) → checkOf m 128 ≡ Refused n → r ≡ n
+  pub accepted : (c d : ℕ) → checkOf m w ≡ Accepted c d → r ≡ 0
+  pub refused : (n : ℕ) → checkOf m w ≡ Refused n → r ≡ n
   pub untouched : Untouched r entry exit
 
 -- Two maps compared, m the old one and n the new one: the old map's numbers, the new one's with 100 more, else 14.
-pub record Changes (m n o o′ : List ℕ) (r written written′ : ℕ) : Type 0 where
+pub record Changes (m n : List ℕ) (w : ℕ) (o o′ : List ℕ) (r written written′ : ℕ) : Type 0 where
   pub numbers : (r ≤ 10) ⊎ ((r ≡ 14) ⊎ ((101 ≤ r) × (r ≤ 110)))
-  pub old-refused : (k : ℕ) → checkOf m 128 ≡ Refused k → r ≡ k
-  pub new-refused : (c d k : ℕ) → checkOf m 128 ≡ Accepted c d → checkOf n 128 ≡ Refused k → r ≡ 100 + k
+  pub old-refused : (k : ℕ) → checkOf m w ≡ Refused k → r ≡ k
+  pub new-refused : (c d k : ℕ) → checkOf m w ≡ Accepted c d → checkOf n w ≡ Refused k → r ≡ 100 + k
   pub past : r ≡ 0 → drop written′ o′ ≡ drop written′ o
   pub untouched : r ≢ 0 → (o′ ≡ o) × (written′ ≡ written)
 
 -- How many bytes that needs, with o lent for the first address that differs: the same numbers, and 14 exactly where fewer than 16 bytes are lent.
-pub record FindsFirst (m n o o′ : List ℕ) (r bytes bytes′ : ℕ) : Type 0 where
+pub record FindsFirst (m n : List ℕ) (w : ℕ) (o o′ : List ℕ) (r bytes bytes′ : ℕ) : Type 0 where
   pub numbers : (r ≤ 10) ⊎ ((r ≡ 14) ⊎ ((101 ≤ r) × (r ≤ 110)))
-  pub old-refused : (k : ℕ) → checkOf m 128 ≡ Refused k → r ≡ k
-  pub new-refused : (c d k : ℕ) → checkOf m 128 ≡ Accepted c d → checkOf n 128 ≡ Refused k → r ≡ 100 + k
-  pub answered : (c d c′ d′ : ℕ) → checkOf m 128 ≡ Accepted c d → checkOf n 128 ≡ Accepted c′ d′ → 16 ≤ length o → r ≡ 0
-  pub no-room : (c d c′ d′ : ℕ) → checkOf m 128 ≡ Accepted c d → checkOf n 128 ≡ Accepted c′ d′ → length o < 16 → r ≡ 14
+  pub old-refused : (k : ℕ) → checkOf m w ≡ Refused k → r ≡ k
+  pub new-refused : (c d k : ℕ) → checkOf m w ≡ Accepted c d → checkOf n w ≡ Refused k → r ≡ 100 + k
+  pub answered : (c d c′ d′ : ℕ) → checkOf m w ≡ Accepted c d → checkOf n w ≡ Accepted c′ d′ → 16 ≤ length o → r ≡ 0
+  pub no-room : (c d c′ d′ : ℕ) → checkOf m w ≡ Accepted c d → checkOf n w ≡ Accepted c′ d′ → length o < 16 → r ≡ 14
   pub past : r ≡ 0 → drop 16 o′ ≡ drop 16 o
   pub untouched : r ≢ 0 → (o′ ≡ o) × (bytes′ ≡ bytes)
 
@@ -141,6 +142,15 @@ pub record Packs (records o o′ : List ℕ) (r written written′ : ℕ) : Type
   pub no-records : length records % 16 ≢ 0 → r ≡ 16
   pub past : r ≡ 0 → drop written′ o′ ≡ drop written′ o
   pub untouched : r ≢ 0 → (o′ ≡ o) × (written′ ≡ written)
+
+-- ---- at a width
+
+-- A call at the width w (document 02, CR 3), r being its answer: "18, first of all, for a width that is neither", and then it leaves all as it was.
+-- At 32 and at 128 the call has what is said above with that w.
+pub record AtWidth (w r : ℕ) (Has Left : Type 0) : Type 0 where
+  pub no-width : w ≢ 32 → w ≢ 128 → r ≡ 18
+  pub untouched : w ≢ 32 → w ≢ 128 → Left
+  pub a-width : (w ≡ 32) ⊎ (w ≡ 128) → Has
 
 -- ---- groups and picks; `has` is 0 without a map
 

@@ -32,17 +32,19 @@ past o j = first o j + 2 ^ (128 - prefix o j)
 abbrev pub number : List ℕ → ℕ → ℕ
 number o j = little o (24 * j + 20)
 
--- The n records at the front of o: the first begins at address 0, each other where the one before it ends, the last ends at 2 ^ 128. No prefix is
--- longer than an address, and an address has zeros past its prefix.
-pub record Tiled (o : List ℕ) (n : ℕ) : Type 0 where
+-- The n records at the front of o, of a map for addresses of w bits: the first begins at address 0, each other where the one before it ends, the last
+-- ends at 2 ^ 128. No prefix is longer than w bits, and an address has zeros past its prefix, so past its first w bits too: at 32 past its first four
+-- bytes.
+pub record Tiled (w : ℕ) (o : List ℕ) (n : ℕ) : Type 0 where
   pub some : 1 ≤ n
   pub start : first o 0 ≡ 0
   pub next : (j : ℕ) → j + 1 < n → first o (j + 1) ≡ past o j
   pub end : past o (n - 1) ≡ 2 ^ 128
-  pub short : (j : ℕ) → j < n → prefix o j ≤ 128
+  pub short : (j : ℕ) → j < n → prefix o j ≤ w
   pub zeros : (j : ℕ) → j < n → first o j % 2 ^ (128 - prefix o j) ≡ 0
+  pub blank : (j : ℕ) → j < n → first o j % 2 ^ (128 - w) ≡ 0
 
--- The address a lies in just one of the n records, and that one has the number x.
+-- The address a lies in just one of the n records, and that one has the number x. An address of four bytes is read as sixteen, with zeros behind.
 pub record InOne (a o : List ℕ) (n x : ℕ) : Type 0 where
   pub place : ℕ
   pub inside : place < n
@@ -53,15 +55,15 @@ pub record InOne (a o : List ℕ) (n x : ℕ) : Type 0 where
 
 -- A map was listed into o and walked by the address a: the bytes written are records that tile all addresses, and the one in which a lies has the
 -- walk's number, x.
-pub record ListedWalk (a o : List ℕ) (written x : ℕ) : Type 0 where
+pub record ListedWalk (w : ℕ) (a o : List ℕ) (written x : ℕ) : Type 0 where
   pub records : ℕ
   pub whole : written ≡ 24 * records
-  pub tiled : Tiled o records
+  pub tiled : Tiled w o records
   pub one : InOne a o records x
 
 -- A caller who asks how many bytes a listing needs, and then lists the map into o: as many are written, and an output that has as many is never
 -- refused, one that has fewer always, with 14.
-pub record ListedWithRoom (m o : List ℕ) (r needed written : ℕ) : Type 0 where
+pub record ListedWithRoom (m : List ℕ) (w : ℕ) (o : List ℕ) (r needed written : ℕ) : Type 0 where
   pub exact : r ≡ 0 → written ≡ needed
-  pub answered : (c d : ℕ) → checkOf m 128 ≡ Accepted c d → needed ≤ length o → r ≡ 0
-  pub no-room : (c d : ℕ) → checkOf m 128 ≡ Accepted c d → length o < needed → r ≡ 14
+  pub answered : (c d : ℕ) → checkOf m w ≡ Accepted c d → needed ≤ length o → r ≡ 0
+  pub no-room : (c d : ℕ) → checkOf m w ≡ Accepted c d → length o < needed → r ≡ 14

@@ -118,14 +118,14 @@ pub fn instruction_written(opcode: u32, operand: u32, bits: &mut u64, len: &mut 
 
 // The check.
 pub fn checked(map: &[u8], count: &mut u32, depth: &mut u8) -> u8
-    ensures { λ r. ⌜ Checks (now (map .entry)) r (now (count .entry) ∷ now (depth .entry) ∷ []) (now (count .exit) ∷ now (depth .exit) ∷ []) ⌝ }
+    ensures { λ r. ⌜ Checks (now (map .entry)) 128 r (now (count .entry) ∷ now (depth .entry) ∷ []) (now (count .exit) ∷ now (depth .exit) ∷ []) ⌝ }
 {
     corbastrigo_sanity_check(map, count, depth)
 }
 
 // Where the check stops, and why.
 pub fn stopped(map: &[u8], reason: &mut u8, place: &mut usize) -> u8
-    ensures { λ r. ⌜ Stops (now (map .entry)) r (now (reason .entry) ∷ now (place .entry) ∷ []) (now (reason .exit)) (now (place .exit)) ⌝ }
+    ensures { λ r. ⌜ Stops (now (map .entry)) 128 r (now (reason .entry) ∷ now (place .entry) ∷ []) (now (reason .exit)) (now (place .exit)) ⌝ }
 {
     corbastrigo_sanity_check_stop(map, reason, place)
 }
@@ -156,42 +156,42 @@ pub fn walked(
     count: &mut u32,
     bits: &mut u8,
 ) -> u8
-    ensures { λ r. ⌜ Walks (now (map .entry)) (now (address .entry)) r (now (kind .entry) ∷ now (number .entry) ∷ now (count .entry) ∷ now (bits .entry) ∷ []) (now (kind .exit)) (now (number .exit)) (now (count .exit)) (now (bits .exit)) ⌝ }
+    ensures { λ r. ⌜ Walks (now (map .entry)) (now (address .entry)) 128 r (now (kind .entry) ∷ now (number .entry) ∷ now (count .entry) ∷ now (bits .entry) ∷ []) (now (kind .exit)) (now (number .exit)) (now (count .exit)) (now (bits .exit)) ⌝ }
 {
     corbastrigo_interpret(map, address, kind, number, count, bits)
 }
 
 // Unpack.
 pub fn unpacked(map: &[u8], out: &mut [u8], written: &mut usize) -> u8
-    ensures { λ r. ⌜ Unpacks (now (map .entry)) (now (out .entry)) (now (out .exit)) r (now (written .entry)) (now (written .exit)) ⌝ }
+    ensures { λ r. ⌜ Unpacks (now (map .entry)) 128 (now (out .entry)) (now (out .exit)) r (now (written .entry)) (now (written .exit)) ⌝ }
 {
     corbastrigo_unpack(map, out, written)
 }
 
 // The listing.
 pub fn listed(map: &[u8], out: &mut [u8], written: &mut usize) -> u8
-    ensures { λ r. ⌜ Lists (now (map .entry)) (now (out .entry)) (now (out .exit)) r (now (written .entry)) (now (written .exit)) ⌝ }
+    ensures { λ r. ⌜ Lists (now (map .entry)) 128 (now (out .entry)) (now (out .exit)) r (now (written .entry)) (now (written .exit)) ⌝ }
 {
     corbastrigo_list(map, out, written)
 }
 
 // How many bytes a listing needs.
 pub fn list_needed(map: &[u8], bytes: &mut usize) -> u8
-    ensures { λ r. ⌜ Needs (now (map .entry)) r (now (bytes .entry) ∷ []) (now (bytes .exit) ∷ []) ⌝ }
+    ensures { λ r. ⌜ Needs (now (map .entry)) 128 r (now (bytes .entry) ∷ []) (now (bytes .exit) ∷ []) ⌝ }
 {
     corbastrigo_list_bytes(map, bytes)
 }
 
 // Two maps compared.
 pub fn compared(old_map: &[u8], new_map: &[u8], out: &mut [u8], written: &mut usize) -> u8
-    ensures { λ r. ⌜ Changes (now («old_map» .entry)) (now («new_map» .entry)) (now (out .entry)) (now (out .exit)) r (now (written .entry)) (now (written .exit)) ⌝ }
+    ensures { λ r. ⌜ Changes (now («old_map» .entry)) (now («new_map» .entry)) 128 (now (out .entry)) (now (out .exit)) r (now (written .entry)) (now (written .exit)) ⌝ }
 {
     corbastrigo_compare(old_map, new_map, out, written)
 }
 
 // How many bytes that needs, and the first address that differs.
 pub fn compare_needed(old_map: &[u8], new_map: &[u8], first: &mut [u8], bytes: &mut usize) -> u8
-    ensures { λ r. ⌜ FindsFirst (now («old_map» .entry)) (now («new_map» .entry)) (now (first .entry)) (now (first .exit)) r (now (bytes .entry)) (now (bytes .exit)) ⌝ }
+    ensures { λ r. ⌜ FindsFirst (now («old_map» .entry)) (now («new_map» .entry)) 128 (now (first .entry)) (now (first .exit)) r (now (bytes .entry)) (now (bytes .exit)) ⌝ }
 {
     corbastrigo_compare_bytes(old_map, new_map, first, bytes)
 }

@@ -5,7 +5,7 @@
 // (`walkOf`), the unpacked list (`unpacked`), the first pass (`firstPass`) and Core's functions (`coreCheck`, `coreInterpret`, its four
 // decoders), with how these take bytes (`mapOf`, `fileOf`, `addressBit`). All else is numbers, bytes and equations, in
 // `demand_statements/specs`. Each is proved from the contracts of the exported calls and from laws about those definitions
-// (`demand_statements/proofs`); no code below them is looked at. So what a contract there no longer says is refused here. All 27 exported
+// (`demand_statements/proofs`); no code below them is looked at. So what a contract there no longer says is refused here. All 35 exported
 // calls have a caller.
 //
 // Demand 1, any input: `any_input`, and `refused` in `picks`. Maps, addresses, lists and lengths of every kind get an answer, 0, or one
@@ -26,6 +26,8 @@
 // Request 2, the occupied scan: `scanned` in `any_input`. Where it says found, the group stands at its place and at no place in front of it, and
 // that place plus one groups were read; where it does not, the group stands nowhere, and all were read.
 //
+// Request 3, maps for four-byte addresses: `widths`. All of the above on maps, at a width of 32 or 128 bits, said once for both; 18 for any other.
+//
 // Two maps compared: `comparisons`. Where a comparison needs no byte, the two walks by any address end with the same number.
 pub mod any_input;
 pub mod comparisons;
@@ -33,3 +35,4 @@ pub mod lists;
 pub mod picks;
 pub mod same;
 pub mod walks;
+pub mod widths;

@@ -17,7 +17,7 @@ pub fn walk_in_list(
     count: &mut u32,
     bits: &mut u8,
 ) -> u8
-    ensures { λ r. ⌜ (r ≡ 0 → ListedWalk (now (address .entry)) (now (out .exit)) (now (written .exit)) (now (number .exit))) ⌝ }
+    ensures { λ r. ⌜ (r ≡ 0 → ListedWalk 128 (now (address .entry)) (now (out .exit)) (now (written .exit)) (now (number .exit))) ⌝ }
 {
     let refused = corbastrigo_list(map, out, written);
     if refused != 0 {
@@ -28,7 +28,7 @@ pub fn walk_in_list(
 
 // A caller asks how many bytes a listing needs, and lists the map: as many are written, and with so many no accepted map is refused.
 pub fn listed_with_room(map: &[u8], out: &mut [u8], needed: &mut usize, written: &mut usize) -> u8
-    ensures { λ r. ⌜ ListedWithRoom (now (map .entry)) (now (out .entry)) r (now (needed .exit)) (now (written .exit)) ⌝ }
+    ensures { λ r. ⌜ ListedWithRoom (now (map .entry)) 128 (now (out .entry)) r (now (needed .exit)) (now (written .exit)) ⌝ }
 {
     let refused = corbastrigo_list_bytes(map, needed);
     if refused != 0 {

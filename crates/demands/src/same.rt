@@ -8,7 +8,7 @@ use corbastrigo::maps::corbastrigo_unpack;
 
 // The check says yes where Core's does, and nowhere else.
 pub fn checked_as_core(map: &[u8], count: &mut u32, depth: &mut u8) -> u8
-    ensures { λ r. ⌜ CoreAccepts (now (map .entry)) r ⌝ }
+    ensures { λ r. ⌜ CoreAccepts (now (map .entry)) 128 r ⌝ }
 {
     corbastrigo_sanity_check(map, count, depth)
 }
@@ -20,7 +20,7 @@ pub fn unpacked_then_packed(
     bytes: &mut [u8],
     written: &mut usize,
 ) -> u8
-    ensures { λ r. ⌜ UnpackedThenPacked (now (map .entry)) (now (records .entry)) (now (bytes .entry)) (now (bytes .exit)) r (now (written .exit)) ⌝ }
+    ensures { λ r. ⌜ UnpackedThenPacked (now (map .entry)) 128 (now (records .entry)) (now (bytes .entry)) (now (bytes .exit)) r (now (written .exit)) ⌝ }
 {
     let mut unpacked: usize = 0;
     let refused = corbastrigo_unpack(map, records, &mut unpacked);

@@ -18,7 +18,7 @@ pub fn accepted_walk(
     count: &mut u32,
     bits: &mut u8,
 ) -> u8
-    ensures { λ r. ⌜ AcceptedWalk (now (map .entry)) (now (address .entry)) r (now (kind .exit)) (now (number .exit)) (now (count .exit)) (now (bits .exit)) ⌝ }
+    ensures { λ r. ⌜ AcceptedWalk (now (map .entry)) (now (address .entry)) 128 r (now (kind .exit)) (now (number .exit)) (now (count .exit)) (now (bits .exit)) ⌝ }
     ensures core { λ r. ⌜ (r ≡ 0 → coreInterpret (addressBit (now (address .entry))) 128 (fileOf (now (map .entry))) ≡ Number (now (number .exit))) ⌝ }
 {
     let mut instructions: u32 = 0;
@@ -41,7 +41,7 @@ pub fn walk_in_records(
     count: &mut u32,
     bits: &mut u8,
 ) -> u8
-    ensures { λ r. ⌜ (r ≡ 0 → InRecords (now (map .entry)) (now (address .entry)) (now (records .exit)) (now (written .exit))) ⌝ }
+    ensures { λ r. ⌜ (r ≡ 0 → InRecords (now (map .entry)) (now (address .entry)) 128 (now (records .exit)) (now (written .exit))) ⌝ }
 {
     let refused = corbastrigo_unpack(map, records, written);
     if refused != 0 {

@@ -12,7 +12,7 @@ same-length : tie.Need-same-length
 same-length c = search needs
 
 returns : tie.Need-returns
-returns c = let a = c .before .before .before .before .before .before .before .before .args in found (a .old-map .now) (a .new-map .now) (a .first .now) _ (c .before .before .corbastrigo-compare-bytes .ensures .0)
+returns c = let a = c .before .before .before .before .before .before .before .before .args in found (a .old-map .now) (a .new-map .now) 128 (a .first .now) _ (c .before .before .corbastrigo-compare-bytes .ensures .0)
 
 pub compare-needed-spec : {M : Type 1} → statement M
 compare-needed-spec = tie.close (tie.spec corbastrigo-compare-bytes-requires same-length returns)

@@ -12,7 +12,7 @@ same-length : tie.Need-same-length
 same-length c = search needs
 
 returns : tie.Need-returns
-returns c = let a = c .before .before .before .before .before .before .before .before .args in changed (a .old-map .now) (a .new-map .now) (a .out .now) _ (c .before .before .corbastrigo-compare .ensures .0)
+returns c = let a = c .before .before .before .before .before .before .before .before .args in changed (a .old-map .now) (a .new-map .now) 128 (a .out .now) _ (c .before .before .corbastrigo-compare .ensures .0)
 
 pub compared-spec : {M : Type 1} → statement M
 compared-spec = tie.close (tie.spec corbastrigo-compare-requires same-length returns)

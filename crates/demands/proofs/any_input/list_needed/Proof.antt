@@ -9,7 +9,7 @@ corbastrigo-list-bytes-requires : tie.Need-corbastrigo-list-bytes-requires
 corbastrigo-list-bytes-requires c κs = search needs
 
 returns : tie.Need-returns
-returns c = answers.needs (c .before .before .before .args .map .now) (c .corbastrigo-list-bytes .ensures)
+returns c = answers.needs (c .before .before .before .args .map .now) 128 (c .corbastrigo-list-bytes .ensures)
 
 pub list-needed-spec : {M : Type 1} → statement M
 list-needed-spec = tie.close (tie.spec corbastrigo-list-bytes-requires returns)

@@ -12,7 +12,7 @@ same-length : tie.Need-same-length
 same-length c = search needs
 
 returns : tie.Need-returns
-returns c = let a = c .before .before .before .before .before .before .before .args in lists (a .map .now) (a .out .now) _ (c .before .before .corbastrigo-list .ensures .0)
+returns c = let a = c .before .before .before .before .before .before .before .args in lists (a .map .now) 128 (a .out .now) _ (c .before .before .corbastrigo-list .ensures .0)
 
 pub listed-spec : {M : Type 1} → statement M
 listed-spec = tie.close (tie.spec corbastrigo-list-requires same-length returns)

@@ -9,7 +9,7 @@ corbastrigo-sanity-check-stop-requires : tie.Need-corbastrigo-sanity-check-stop-
 corbastrigo-sanity-check-stop-requires c κs = search needs
 
 returns : tie.Need-returns
-returns c = stops (c .before .before .before .before .args .map .now) (c .corbastrigo-sanity-check-stop .ensures)
+returns c = stops (c .before .before .before .before .args .map .now) 128 (c .corbastrigo-sanity-check-stop .ensures)
 
 pub stopped-spec : {M : Type 1} → statement M
 stopped-spec = tie.close (tie.spec corbastrigo-sanity-check-stop-requires returns)

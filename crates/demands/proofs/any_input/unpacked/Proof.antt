@@ -12,7 +12,7 @@ same-length : tie.Need-same-length
 same-length c = search needs
 
 returns : tie.Need-returns
-returns c = let a = c .before .before .before .before .before .before .before .args in unpacks (a .map .now) (a .out .now) _ (c .before .before .corbastrigo-unpack .ensures)
+returns c = let a = c .before .before .before .before .before .before .before .args in unpacks (a .map .now) 128 (a .out .now) _ (c .before .before .corbastrigo-unpack .ensures)
 
 pub unpacked-spec : {M : Type 1} → statement M
 unpacked-spec = tie.close (tie.spec corbastrigo-unpack-requires same-length returns)

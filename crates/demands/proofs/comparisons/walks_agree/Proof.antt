@@ -1,5 +1,7 @@
 -- By what the three calls promise (`agreed`).
 -- Assumes nothing.
+use Rattle.demand_statements.proofs.MapAnswers.{over-128}
+use Rattle.demand_statements.proofs.WalkLaws.{ends-128}
 use Rattle.demand_statements.proofs.CompareAnswers.{agreed}
 use borrow.Author.Needs.{needs}
 use Rattle.demands.proofs.comparisons.walks_agree.Statement.{statement}
@@ -35,7 +37,7 @@ returns-3 c =
     let l = c .before .before .before .before .before .before .before .before .before .before .before .before .before .before .corbastrigo-compare-bytes .ensures in
     let o = c .before .before .before .before .before .before .corbastrigo-interpret .ensures in
     let n = c .corbastrigo-interpret2 .ensures in
-    agreed (a .old-map .now) (a .new-map .now) (a .address .now) (a .first .now) _ (l .0) (l .1) (c .before .before .before .before .before .before .before .before .before .before .before .if1 .left) (o .0) (o .1 .0) (c .before .before .before .before .before .if2 .left) (n .0) (n .1 .0)
+    agreed (a .old-map .now) (a .new-map .now) (a .address .now) 128 (a .first .now) _ (l .0) (l .1) (c .before .before .before .before .before .before .before .before .before .before .before .if1 .left) (over-128 (a .old-map .now) (a .address .now) (o .0)) (ends-128 (a .old-map .now) (a .address .now) (o .1 .0)) (c .before .before .before .before .before .if2 .left) (over-128 (a .new-map .now) (a .address .now) (n .0)) (ends-128 (a .new-map .now) (a .address .now) (n .1 .0))
 
 pub walks-agree-spec : {M : Type 1} → statement M
 walks-agree-spec =

@@ -11,7 +11,7 @@ corbastrigo-list-bytes-requires c κs = search needs
 returns : tie.Need-returns
 returns c =
     let a = c .before .before .before .before .before .args in
-    unlisted (a .map .now) (a .out .now) (c .before .corbastrigo-list-bytes .ensures) (c .if1 .taken)
+    unlisted (a .map .now) 128 (a .out .now) (c .before .corbastrigo-list-bytes .ensures) (c .if1 .taken)
 
 corbastrigo-list-requires : tie.Need-corbastrigo-list-requires
 corbastrigo-list-requires c κs = search needs
@@ -22,7 +22,7 @@ same-length c = search needs
 returns-2 : tie.Need-returns-2
 returns-2 c =
     let a = c .before .before .before .before .before .before .before .before .before .before .args in
-    with-room (a .map .now) (a .out .now) _ (c .before .before .before .before .before .before .corbastrigo-list-bytes .ensures) (c .before .before .corbastrigo-list .ensures .0)
+    with-room (a .map .now) 128 (a .out .now) _ (c .before .before .before .before .before .before .corbastrigo-list-bytes .ensures) (c .before .before .corbastrigo-list .ensures .0)
 
 pub listed-with-room-spec : {M : Type 1} → statement M
 listed-with-room-spec =

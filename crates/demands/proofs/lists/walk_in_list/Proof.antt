@@ -1,6 +1,8 @@
 -- By what the two calls promise (`walk-in-list`).
 -- Assumes nothing.
 use native.Mathlib.Omega.{arith}
+use Rattle.demand_statements.proofs.MapAnswers.{over-128}
+use Rattle.demand_statements.proofs.WalkLaws.{ends-128}
 use Rattle.demand_statements.proofs.ListAnswers as answers
 use borrow.Author.Needs.{needs}
 use Rattle.demands.proofs.lists.walk_in_list.Statement.{statement}
@@ -26,7 +28,7 @@ returns-2 c =
     let a = c .before .before .before .before .before .before .before .before .before .before .before .before .before .before .args in
     let l = c .before .before .before .before .before .before .before .before .corbastrigo-list .ensures in
     let w = c .corbastrigo-interpret .ensures in
-    answers.walk-in-list (a .map .now) (a .address .now) (a .out .now) _ (λ i. omega (arith, c .before .before .before .before .before .before .before .before .before .before .before .before .shared-slice-known2 .given i)) (l .0) (l .1) (c .before .before .before .before .before .if1 .left) (w .0) (w .1 .0)
+    answers.walk-in-list (a .map .now) (a .address .now) 128 (omega arith) (a .out .now) _ (λ i. omega (arith, c .before .before .before .before .before .before .before .before .before .before .before .before .shared-slice-known2 .given i)) (l .0) (l .1) (c .before .before .before .before .before .if1 .left) (over-128 (a .map .now) (a .address .now) (w .0)) (ends-128 (a .map .now) (a .address .now) (w .1 .0))
 
 pub walk-in-list-spec : {M : Type 1} → statement M
 walk-in-list-spec =

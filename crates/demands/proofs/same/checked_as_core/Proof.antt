@@ -9,7 +9,7 @@ corbastrigo-sanity-check-requires : tie.Need-corbastrigo-sanity-check-requires
 corbastrigo-sanity-check-requires c κs = search needs
 
 returns : tie.Need-returns
-returns c = core-accepts (c .before .before .before .before .args .map .now) _ (c .corbastrigo-sanity-check .ensures .1)
+returns c = core-accepts (c .before .before .before .before .args .map .now) 128 _ (c .corbastrigo-sanity-check .ensures .1)
 
 pub checked-as-core-spec : {M : Type 1} → statement M
 checked-as-core-spec = tie.close (tie.spec corbastrigo-sanity-check-requires returns)

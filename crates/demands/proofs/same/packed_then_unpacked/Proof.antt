@@ -34,7 +34,7 @@ same-length-3 c = search needs
 
 returns-2 : tie.Need-returns-2
 returns-2 c =
-    unpacked-again (c .before .before .before .before .before .before .before .before .before .before .before .before .before .before .before .args .records .now) (λ i. omega (arith, c .before .before .before .before .before .before .before .before .before .before .before .before .before .before .shared-slice-known .given i)) (c .before .before .before .before .before .before .before .before .before .corbastrigo-pack .ensures) (c .before .before .before .before .before .before .if1 .left) (c .before .before .corbastrigo-unpack .ensures)
+    unpacked-again (c .before .before .before .before .before .before .before .before .before .before .before .before .before .before .before .args .records .now) 128 (λ i. omega (arith, c .before .before .before .before .before .before .before .before .before .before .before .before .before .before .shared-slice-known .given i)) (c .before .before .before .before .before .before .before .before .before .corbastrigo-pack .ensures) (c .before .before .before .before .before .before .if1 .left) (c .before .before .corbastrigo-unpack .ensures)
 
 pub packed-then-unpacked-spec : {M : Type 1} → statement M
 packed-then-unpacked-spec =

@@ -15,7 +15,7 @@ same-length : tie.Need-same-length
 same-length c = search needs
 
 returns : tie.Need-returns
-returns c = not-unpacked (c .before .before .before .before .before .before .before .before .before .args .map .now) (c .before .before .before .corbastrigo-unpack .ensures) (c .if1 .taken)
+returns c = not-unpacked (c .before .before .before .before .before .before .before .before .before .args .map .now) 128 (c .before .before .before .corbastrigo-unpack .ensures) (c .if1 .taken)
 
 slice-reshare-prefix-corbastrigo-pack : tie.Need-slice-reshare-prefix-corbastrigo-pack
 slice-reshare-prefix-corbastrigo-pack c = inside (wrote _ (c .before .before .before .corbastrigo-unpack .ensures) (c .if1 .left))
@@ -34,7 +34,7 @@ same-length-3 c = search needs
 
 returns-2 : tie.Need-returns-2
 returns-2 c =
-    packed-again (c .before .before .before .before .before .before .before .before .before .before .before .before .before .before .before .args .map .now) (λ i. omega (arith, c .before .before .before .before .before .before .before .before .before .before .before .before .before .before .shared-slice-known .given i)) (c .before .before .before .before .before .before .before .before .before .corbastrigo-unpack .ensures) (c .before .before .before .before .before .before .if1 .left) (c .before .before .corbastrigo-pack .ensures)
+    packed-again (c .before .before .before .before .before .before .before .before .before .before .before .before .before .before .before .args .map .now) 128 (λ i. omega (arith, c .before .before .before .before .before .before .before .before .before .before .before .before .before .before .shared-slice-known .given i)) (c .before .before .before .before .before .before .before .before .before .corbastrigo-unpack .ensures) (c .before .before .before .before .before .before .if1 .left) (c .before .before .corbastrigo-pack .ensures)
 
 pub unpacked-then-packed-spec : {M : Type 1} → statement M
 unpacked-then-packed-spec =

@@ -1,5 +1,7 @@
 -- By what the two calls promise (`walk-listed`).
 -- Assumes nothing.
+use Rattle.demand_statements.proofs.MapAnswers.{over-128}
+use Rattle.demand_statements.proofs.WalkLaws.{ends-128}
 use Rattle.demand_statements.proofs.RecordAnswers.{walk-listed}
 use borrow.Author.Needs.{needs}
 use Rattle.demands.proofs.walks.walk_in_records.Statement.{statement}
@@ -24,7 +26,7 @@ returns-2 : tie.Need-returns-2
 returns-2 c =
     let a = c .before .before .before .before .before .before .before .before .before .before .before .before .before .before .args in
     let w = c .corbastrigo-interpret .ensures in
-    walk-listed (a .map .now) (a .address .now) (c .before .before .before .before .before .before .before .before .corbastrigo-unpack .ensures) (c .before .before .before .before .before .if1 .left) (w .0) (w .1 .0)
+    walk-listed (a .map .now) (a .address .now) 128 (c .before .before .before .before .before .before .before .before .corbastrigo-unpack .ensures) (c .before .before .before .before .before .if1 .left) (over-128 (a .map .now) (a .address .now) (w .0)) (ends-128 (a .map .now) (a .address .now) (w .1 .0))
 
 pub walk-in-records-spec : {M : Type 1} → statement M
 walk-in-records-spec =
