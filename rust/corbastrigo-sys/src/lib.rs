@@ -25,6 +25,9 @@ pub type Encode = unsafe extern "C" fn(u32, *mut u64, *mut usize) -> u8;
 /// Bytes that are made of bytes: records of a map, or the map of records.
 pub type Records = unsafe extern "C" fn(*const u8, usize, *mut u8, usize, *mut usize) -> u8;
 
+/// Records that are made of a map over a number of address bits, which stands behind the map.
+pub type RecordsBits = unsafe extern "C" fn(*const u8, usize, u32, *mut u8, usize, *mut usize) -> u8;
+
 /// The group of one candidate.
 pub type Netgroup = unsafe extern "C" fn(*const u8, usize, u8, *const u8, usize, *mut u64) -> u8;
 
@@ -115,6 +118,65 @@ extern "C" {
         old_len: usize,
         new_map: *const u8,
         new_len: usize,
+        first: *mut u8,
+        first_len: usize,
+        bytes: *mut usize,
+    ) -> u8;
+    /// Checks a map over 32 or 128 address bits.
+    pub fn corbastrigo_sanity_check_bits(map: *const u8, map_len: usize, width: u32, count: *mut u32, depth: *mut u8) -> u8;
+    /// Says where the check over 32 or 128 address bits stops, and why.
+    pub fn corbastrigo_sanity_check_stop_bits(map: *const u8, map_len: usize, width: u32, reason: *mut u8, place: *mut usize)
+        -> u8;
+    /// Walks any map by the 4 or 16 bytes of an address of 32 or 128 bits.
+    pub fn corbastrigo_interpret_bits(
+        map: *const u8,
+        map_len: usize,
+        address: *const u8,
+        address_len: usize,
+        width: u32,
+        kind: *mut u8,
+        number: *mut u32,
+        count: *mut u32,
+        bits: *mut u8,
+    ) -> u8;
+    /// Lists the instructions of a map that is accepted over 32 or 128 address bits.
+    pub fn corbastrigo_unpack_bits(
+        map: *const u8,
+        map_len: usize,
+        width: u32,
+        out: *mut u8,
+        out_len: usize,
+        written: *mut usize,
+    ) -> u8;
+    /// Lists every prefix of 32 or 128 bits that an accepted map tells apart; of 32 the address stands in the first 4 of its 16 bytes.
+    pub fn corbastrigo_list_bits(
+        map: *const u8,
+        map_len: usize,
+        width: u32,
+        out: *mut u8,
+        out_len: usize,
+        written: *mut usize,
+    ) -> u8;
+    /// How many bytes that list has.
+    pub fn corbastrigo_list_bytes_bits(map: *const u8, map_len: usize, width: u32, bytes: *mut usize) -> u8;
+    /// Compares two maps, both over 32 or both over 128 address bits, for every address.
+    pub fn corbastrigo_compare_bits(
+        old_map: *const u8,
+        old_len: usize,
+        new_map: *const u8,
+        new_len: usize,
+        width: u32,
+        out: *mut u8,
+        out_len: usize,
+        written: *mut usize,
+    ) -> u8;
+    /// How many bytes that comparison has, and the first address that differs, in 16 bytes.
+    pub fn corbastrigo_compare_bytes_bits(
+        old_map: *const u8,
+        old_len: usize,
+        new_map: *const u8,
+        new_len: usize,
+        width: u32,
         first: *mut u8,
         first_len: usize,
         bytes: *mut usize,
