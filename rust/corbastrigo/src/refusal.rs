@@ -36,7 +36,7 @@ macro_rules! refusals {
                 }
             }
 
-            /// The number, which stays the same in every version: 1 to 17 of those that have a name.
+            /// The number, which stays the same in every version: 1 to 18 of those that have a name.
             pub fn number(self) -> u8 {
                 match self {
                     $(Refusal::$name => $number,)*
@@ -73,13 +73,14 @@ refusals! {
     NoBits = 8: "an instruction uses more address bits than are left",
     TargetsCross = 9: "a jump's target lies at or past the innermost open jump's target",
     ShortMatches = 10: "a MATCH shorter than 8 comes straight after a MATCH shorter than 8",
-    AddressLength = 11: "the address does not have 16 bytes",
+    AddressLength = 11: "the address does not have 16 bytes, or 4 at width 32",
     TooMany = 12: "more than 4,096 candidates or occupied groups",
     Candidate = 13: "a candidate is not 20 bytes of a known form",
     OutputTooShort = 14: "the output is too short",
     OutOfRange = 15: "the opcode or operand is out of its range",
     Record = 16: "a record's length, zeros, place or size is wrong",
     RelayLength = 17: "the address has a length that its network does not have",
+    Width = 18: "the width is neither 32 nor 128",
 }
 
 impl Refusal {
