@@ -12,9 +12,11 @@ pub const CHANGE_BYTES: usize = sys::CHANGE_RECORD_BYTES;
 /// A prefix whose addresses two maps send to different numbers: all of them by the old map to one, by the new map to another.
 #[derive(Clone, Copy, Debug, PartialEq, Eq)]
 pub struct Change {
-    /// The first address in it, IPv4 in its mapped form. The bits past the length are 0.
+    /// The first address in it, IPv4 in its mapped form; of maps of 32 address bits the first 4 bytes are the address. The bits past the
+    /// length are 0.
     pub address: [u8; 16],
-    /// How many bits all its addresses begin with alike, 0 to 128. Of an IPv4 prefix it is 96 more than one writes.
+    /// How many bits all its addresses begin with alike, 0 to the width. Of an IPv4 prefix it is 96 more than one writes, and as one writes
+    /// it at width 32.
     pub length: u8,
     /// The number that the old map sends its addresses to. 0 is not "unmapped": their walks differ at a MATCH before any DEFAULT was met.
     pub old: u32,
@@ -60,7 +62,8 @@ pub enum CompareError {
     Old(Refusal),
     /// The check accepts the old map and refuses the new one.
     New(Refusal),
-    /// Both maps are accepted, and the call is refused for something else: 14, an output that is too short or for which there is no memory.
+    /// The call is refused for something that lies with neither map: 18, a width that is none, before either was looked at; or 14, where both
+    /// are accepted, an output that is too short or for which there is no memory.
     Other(Refusal),
 }
 
@@ -80,13 +83,13 @@ impl CompareError {
         }
     }
 
-    /// What a call answered, as a result: 0 is done. The output comes after both maps, and whatever else is no reason of the new map is one of
-    /// the old one, also a number that this version has no name for.
+    /// What a call answered, as a result: 0 is done. The width comes before both maps and the output after them, and whatever else is no
+    /// reason of the new map is one of the old one, also a number that this version has no name for.
     fn check(answer: u8) -> Result<(), CompareError> {
         let of_new = answer.checked_sub(sys::NEW_MAP).and_then(Refusal::from_number);
         match (of_new, Refusal::from_number(answer)) {
             (Some(refusal), _) => Err(CompareError::New(refusal)),
-            (None, Some(refusal @ Refusal::OutputTooShort)) => Err(CompareError::Other(refusal)),
+            (None, Some(refusal @ (Refusal::OutputTooShort | Refusal::Width))) => Err(CompareError::Other(refusal)),
             (None, Some(refusal)) => Err(CompareError::Old(refusal)),
             (None, None) => Ok(()),
         }
@@ -111,20 +114,16 @@ impl Error for CompareError {
     }
 }
 
-/// How many bytes a comparison has, and the first address that differs: zeros where none does.
-fn counted(old: &[u8], new: &[u8]) -> Result<(usize, [u8; 16]), CompareError> {
+/// How many bytes a comparison has, and the first address that differs: zeros where none does. Without a width it is that of 128 bits.
+fn counted(old: &[u8], new: &[u8], width: Option<u32>) -> Result<(usize, [u8; 16]), CompareError> {
     let (mut first, mut bytes) = ([0; 16], 0);
+    let (old_at, new_at, to) = (old.as_ptr(), new.as_ptr(), first.as_mut_ptr());
     // SAFETY: the slices and the array give their own pointers and lengths; array and number are borrowed for the call and are nobody else's.
     let answer = unsafe {
-        sys::corbastrigo_compare_bytes(
-            old.as_ptr(),
-            old.len(),
-            new.as_ptr(),
-            new.len(),
-            first.as_mut_ptr(),
-            first.len(),
-            &mut bytes,
-        )
+        match width {
+            None => sys::corbastrigo_compare_bytes(old_at, old.len(), new_at, new.len(), to, 16, &mut bytes),
+            Some(width) => sys::corbastrigo_compare_bytes_bits(old_at, old.len(), new_at, new.len(), width, to, 16, &mut bytes),
+        }
     };
     CompareError::check(answer)?;
     Ok((bytes, first))
@@ -132,7 +131,12 @@ fn counted(old: &[u8], new: &[u8]) -> Result<(usize, [u8; 16]), CompareError> {
 
 /// How many bytes the comparison of two maps has. 0 says that every address is sent to the same number by both.
 pub fn compare_bytes(old: &[u8], new: &[u8]) -> Result<usize, CompareError> {
-    counted(old, new).map(|(bytes, _)| bytes)
+    counted(old, new, None).map(|(bytes, _)| bytes)
+}
+
+/// [`compare_bytes`] of two maps of `width` address bits, 32 or 128: any other width is refused, 18, before either map is looked at.
+pub fn compare_bytes_bits(old: &[u8], new: &[u8], width: u32) -> Result<usize, CompareError> {
+    counted(old, new, Some(width)).map(|(bytes, _)| bytes)
 }
 
 /// The first address that two maps send to different numbers. `None` says that they send every address to the same number, whatever their
@@ -149,7 +153,17 @@ pub fn compare_bytes(old: &[u8], new: &[u8]) -> Result<usize, CompareError> {
 /// # Ok::<(), CompareError>(())
 /// ```
 pub fn first_change(old: &[u8], new: &[u8]) -> Result<Option<[u8; 16]>, CompareError> {
-    counted(old, new).map(|(bytes, first)| (bytes > 0).then_some(first))
+    counted(old, new, None).map(first_of)
+}
+
+/// [`first_change`] of two maps of `width` address bits, 32 or 128. At 32 the first 4 of the 16 bytes are the address, and the others are 0.
+pub fn first_change_bits(old: &[u8], new: &[u8], width: u32) -> Result<Option<[u8; 16]>, CompareError> {
+    counted(old, new, Some(width)).map(first_of)
+}
+
+/// The first address, where there is a change.
+fn first_of((bytes, first): (usize, [u8; 16])) -> Option<[u8; 16]> {
+    (bytes > 0).then_some(first)
 }
 
 /// Compares two accepted maps for every address, as records ([`compare`] says which). The bytes written, or the check's reason with the map
@@ -158,10 +172,24 @@ pub fn first_change(old: &[u8], new: &[u8]) -> Result<Option<[u8; 16]>, CompareE
 /// With room for a record for every prefix of both maps (`list_bytes` of each, a record for 24 bytes of it) the maps are gone through once; with
 /// less they are gone through once more before that, to count.
 pub fn compare_into(old: &[u8], new: &[u8], out: &mut [u8]) -> Result<usize, CompareError> {
+    write_into(old, new, None, out)
+}
+
+/// [`compare_into`] of two maps of `width` address bits, 32 or 128.
+pub fn compare_into_bits(old: &[u8], new: &[u8], width: u32, out: &mut [u8]) -> Result<usize, CompareError> {
+    write_into(old, new, Some(width), out)
+}
+
+/// How many bytes a comparison writes to a lent output. Without a width it is that of 128 bits.
+fn write_into(old: &[u8], new: &[u8], width: Option<u32>, out: &mut [u8]) -> Result<usize, CompareError> {
     let mut written = 0;
+    let (old_at, new_at, to) = (old.as_ptr(), new.as_ptr(), out.as_mut_ptr());
     // SAFETY: the slices give their own pointers and lengths; `out` is borrowed alone, and the number is nobody else's.
     let answer = unsafe {
-        sys::corbastrigo_compare(old.as_ptr(), old.len(), new.as_ptr(), new.len(), out.as_mut_ptr(), out.len(), &mut written)
+        match width {
+            None => sys::corbastrigo_compare(old_at, old.len(), new_at, new.len(), to, out.len(), &mut written),
+            Some(width) => sys::corbastrigo_compare_bits(old_at, old.len(), new_at, new.len(), width, to, out.len(), &mut written),
+        }
     };
     CompareError::check(answer)?;
     Ok(written)
@@ -210,13 +238,35 @@ fn most_bytes(old: &[u8], new: &[u8]) -> usize {
 /// # Ok::<(), CompareError>(())
 /// ```
 pub fn compare(old: &[u8], new: &[u8]) -> Result<Vec<u8>, CompareError> {
+    compared(old, new, None)
+}
+
+/// [`compare`] of two maps of `width` address bits, 32 or 128, one width for both: 18, or the check's reason at that width with the map that
+/// it refuses. At 32 the first 4 of the 16 address bytes are the address, the others are 0, and the length is 0 to 32.
+///
+/// ```
+/// use corbastrigo::{changes, compare_bits, CompareError, Refusal};
+///
+/// // A MATCH of one bit, 0, and a RETURN of 7; and the same with a RETURN of 8.
+/// let (seven, eight) = ([0x03, 0x00, 0x18], [0x03, 0x00, 0x38]);
+/// let records = compare_bits(&seven, &eight, 32)?;
+/// assert_eq!(changes(&records).map(|change| (change.length, change.old, change.new)).collect::<Vec<_>>(), [(1, 7, 8)]);
+/// assert_eq!(compare_bits(&seven, &eight, 33), Err(CompareError::Other(Refusal::Width)));
+/// # Ok::<(), CompareError>(())
+/// ```
+pub fn compare_bits(old: &[u8], new: &[u8], width: u32) -> Result<Vec<u8>, CompareError> {
+    compared(old, new, Some(width))
+}
+
+/// The records of a comparison. Without a width it is that of 128 bits.
+fn compared(old: &[u8], new: &[u8], width: Option<u32>) -> Result<Vec<u8>, CompareError> {
     let no_memory = CompareError::Other(Refusal::OutputTooShort);
     let mut out = match zeros(most_bytes(old, new)) {
         Some(out) => out,
         // There may be memory for what it is where there is none for the most that it can be.
-        None => zeros(compare_bytes(old, new)?).ok_or(no_memory)?,
+        None => zeros(counted(old, new, width)?.0).ok_or(no_memory)?,
     };
-    let written = compare_into(old, new, &mut out)?;
+    let written = write_into(old, new, width, &mut out)?;
     out.truncate(written);
     out.shrink_to_fit();
     Ok(out)
@@ -233,9 +283,11 @@ mod tests {
             let error = CompareError::check(answer).expect_err("refused");
             assert_eq!(error.number(), answer);
             match error {
-                CompareError::Old(refusal) => assert!(answer <= 100 && answer != 14 && refusal.number() == answer),
+                CompareError::Old(refusal) => assert!(answer <= 100 && ![14, 18].contains(&answer) && refusal.number() == answer),
                 CompareError::New(refusal) => assert!(answer > 100 && refusal.number() == answer - 100),
-                CompareError::Other(refusal) => assert!(answer == 14 && refusal == Refusal::OutputTooShort),
+                CompareError::Other(refusal) => {
+                    assert!([(14, Refusal::OutputTooShort), (18, Refusal::Width)].contains(&(answer, refusal)))
+                }
             }
         }
     }

@@ -7,6 +7,10 @@
 //! map tells apart, [`compare`] with every prefix that two maps send elsewhere, [`unpack`], [`pack`], the [`codes`], and [`scan_occupied`]
 //! with the place of a group among the occupied ones.
 //!
+//! A node of IPv4 alone may keep a map of four-byte addresses, without the 96 bits that stand in front of them elsewhere: that is an
+//! [`AsMap4`], and what takes bytes of a map has a form for it whose name ends in `_bits` and which takes the width, 32 or 128. A map is
+//! walked at the width at which it was checked, and at no other; groups and picks are by an [`AsMap`].
+//!
 //! Nothing here panics or allocates more than a fixed multiple of what it is given. Every call answers, or refuses with a [`Refusal`]
 //! and has written nothing.
 //!
@@ -22,8 +26,8 @@
 //! # assert!(peers("/nowhere/node.asmap").is_err());
 //! ```
 //!
-//! The feature `digest`, which is on unless it is turned off, adds `AsMap::digest` and `AsMap::digest_hex8` with the crate `sha2`. Without
-//! it no crate of others is used.
+//! The feature `digest`, which is on unless it is turned off, adds `digest` and `digest_hex8` of both kinds of map with the crate `sha2`.
+//! Without it no crate of others is used.
 //!
 //! Two things to know before reading numbers. The number 0 is not "unmapped": a walk that aborts has it, and so has one that differs
 //! before it met a DEFAULT; [`Walk::end`] tells. And some addresses that come out right say nothing of a map: no map that
@@ -31,6 +35,7 @@
 #![deny(missing_docs)]
 #![deny(clippy::undocumented_unsafe_blocks)]
 
+mod accepted;
 mod changes;
 pub mod codes;
 mod map;
@@ -41,13 +46,18 @@ mod prefixes;
 mod records;
 mod refusal;
 
-pub use changes::{changes, compare, compare_bytes, compare_into, first_change, Change, CompareError, CHANGE_BYTES};
-pub use map::{interpret, ip16_for_lookup, sanity_check, sanity_check_stop, AsMap, Check, End, Stop, Walk};
+pub use accepted::{AsMap, AsMap4};
+pub use changes::{changes, compare, compare_bits, compare_bytes, compare_bytes_bits, compare_into, compare_into_bits};
+pub use changes::{first_change, first_change_bits, Change, CompareError, CHANGE_BYTES};
+pub use map::{
+    interpret, interpret_bits, ip16_for_lookup, sanity_check, sanity_check_bits, sanity_check_stop, sanity_check_stop_bits,
+};
+pub use map::{Check, End, Stop, Walk};
 pub use netaddr::{addrv2_skip_relay, clearnet_unroutable};
 pub use netgroup::{netgroup, pick, prefix_group, scan_occupied, select_diverse, Candidate, Pick, Scan};
 pub use open::OpenError;
-pub use prefixes::{list, list_bytes, list_into, prefixes, Prefix, PREFIX_BYTES};
-pub use records::{instructions, pack, pack_into, unpack, unpack_into, Instruction, RECORD_BYTES};
+pub use prefixes::{list, list_bits, list_bytes, list_bytes_bits, list_into, list_into_bits, prefixes, Prefix, PREFIX_BYTES};
+pub use records::{instructions, pack, pack_into, unpack, unpack_bits, unpack_into, unpack_into_bits, Instruction, RECORD_BYTES};
 pub use refusal::Refusal;
 
 /// The most bytes of a map; one more is refused, 1.

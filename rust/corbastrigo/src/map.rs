@@ -1,8 +1,6 @@
-use crate::open::{self, OpenError};
 use crate::Refusal;
 use corbastrigo_sys as sys;
 use std::net::IpAddr;
-use std::path::Path;
 
 /// What the check says of a map that it accepts.
 #[derive(Clone, Copy, Debug, PartialEq, Eq)]
@@ -25,10 +23,40 @@ pub struct Check {
 /// # Ok::<(), Refusal>(())
 /// ```
 pub fn sanity_check(map: &[u8]) -> Result<Check, Refusal> {
-    let mut check = Check { count: 0, depth: 0 };
     // SAFETY: the slice gives its own pointer and length; the two numbers are borrowed for the call and are nobody else's.
-    let answer = unsafe { sys::corbastrigo_sanity_check(map.as_ptr(), map.len(), &mut check.count, &mut check.depth) };
-    Refusal::check(answer)?;
+    checked(|count, depth| unsafe { sys::corbastrigo_sanity_check(map.as_ptr(), map.len(), count, depth) })
+}
+
+/// [`sanity_check`] over addresses of `width` bits, 32 or 128: any other width is refused, 18, before the map is looked at. At 128 the
+/// answer is that of [`sanity_check`]. A map that is accepted at 32 is accepted at 128 too, with the same count and depth, but the walks
+/// there are by other addresses.
+///
+/// ```
+/// use corbastrigo::{pack, sanity_check, sanity_check_bits, Instruction, Refusal};
+///
+/// // Four MATCHes of a byte and one of a bit, then a RETURN: 33 address bits.
+/// let mut place = 0;
+/// let mut records = Vec::new();
+/// for (opcode, operand, size) in [(2, 256, 18); 4].into_iter().chain([(2, 2, 5), (0, 1, 17)]) {
+///     records.extend(Instruction { opcode, operand, place, size }.record());
+///     place += size;
+/// }
+/// let map = pack(&records)?;
+/// assert_eq!(sanity_check_bits(&map, 32), Err(Refusal::NoBits));
+/// assert_eq!(sanity_check_bits(&map, 128), sanity_check(&map));
+/// assert_eq!(sanity_check(&map)?.count, 6);
+/// assert_eq!(sanity_check_bits(&map, 33), Err(Refusal::Width));
+/// # Ok::<(), Refusal>(())
+/// ```
+pub fn sanity_check_bits(map: &[u8], width: u32) -> Result<Check, Refusal> {
+    // SAFETY: as in `sanity_check`.
+    checked(|count, depth| unsafe { sys::corbastrigo_sanity_check_bits(map.as_ptr(), map.len(), width, count, depth) })
+}
+
+/// What a call of the check says, which is handed the two numbers to write.
+fn checked(call: impl FnOnce(&mut u32, &mut u8) -> u8) -> Result<Check, Refusal> {
+    let mut check = Check { count: 0, depth: 0 };
+    Refusal::check(call(&mut check.count, &mut check.depth))?;
     Ok(check)
 }
 
@@ -54,10 +82,28 @@ pub struct Stop {
 /// # Ok::<(), Refusal>(())
 /// ```
 pub fn sanity_check_stop(map: &[u8]) -> Result<Stop, Refusal> {
-    let (mut reason, mut place) = (0, 0);
     // SAFETY: the slice gives its own pointer and length; the two numbers are borrowed for the call and are nobody else's.
-    let answer = unsafe { sys::corbastrigo_sanity_check_stop(map.as_ptr(), map.len(), &mut reason, &mut place) };
-    Refusal::check(answer)?;
+    stopped(|reason, place| unsafe { sys::corbastrigo_sanity_check_stop(map.as_ptr(), map.len(), reason, place) })
+}
+
+/// [`sanity_check_stop`] over addresses of `width` bits, 32 or 128. Refusals 18 and 1.
+///
+/// ```
+/// use corbastrigo::{sanity_check_stop_bits, Refusal};
+///
+/// assert_eq!(sanity_check_stop_bits(&[0x63, 0], 32)?.place, 5);
+/// assert_eq!(sanity_check_stop_bits(&[0x63, 0], 64), Err(Refusal::Width));
+/// # Ok::<(), Refusal>(())
+/// ```
+pub fn sanity_check_stop_bits(map: &[u8], width: u32) -> Result<Stop, Refusal> {
+    // SAFETY: as in `sanity_check_stop`.
+    stopped(|reason, place| unsafe { sys::corbastrigo_sanity_check_stop_bits(map.as_ptr(), map.len(), width, reason, place) })
+}
+
+/// What a call says of where the check stops, which is handed the two numbers to write.
+fn stopped(call: impl FnOnce(&mut u8, &mut usize) -> u8) -> Result<Stop, Refusal> {
+    let (mut reason, mut place) = (0, 0);
+    Refusal::check(call(&mut reason, &mut place))?;
     Ok(Stop { reason: Refusal::check(reason).err(), place })
 }
 
@@ -98,21 +144,38 @@ pub struct Walk {
 /// # Ok::<(), Refusal>(())
 /// ```
 pub fn interpret(map: &[u8], address: &[u8]) -> Result<Walk, Refusal> {
-    let (mut kind, mut number, mut count, mut bits) = (0, 0, 0, 0);
+    let (map_at, map_len, address_at, address_len) = (map.as_ptr(), map.len(), address.as_ptr(), address.len());
     // SAFETY: the slices give their own pointers and lengths; the four numbers are borrowed for the call and are nobody else's.
-    let answer = unsafe {
-        sys::corbastrigo_interpret(
-            map.as_ptr(),
-            map.len(),
-            address.as_ptr(),
-            address.len(),
-            &mut kind,
-            &mut number,
-            &mut count,
-            &mut bits,
-        )
-    };
-    Refusal::check(answer)?;
+    walked(|[kind, bits], [number, count]| unsafe {
+        sys::corbastrigo_interpret(map_at, map_len, address_at, address_len, kind, number, count, bits)
+    })
+}
+
+/// [`interpret`] by an address of `width` bits: the 4 bytes of an IPv4 address as they are, at 32, or 16 bytes, at 128. Refusals 18, 11
+/// and 1.
+///
+/// ```
+/// use corbastrigo::{interpret_bits, Refusal};
+///
+/// // A MATCH of one bit, 0, and a RETURN of 7.
+/// let map = [0x03, 0x00, 0x18];
+/// assert_eq!(interpret_bits(&map, &[1, 2, 3, 4], 32)?.number, 7);
+/// assert_eq!(interpret_bits(&map, &[200, 2, 3, 4], 32)?.number, 0);
+/// assert_eq!(interpret_bits(&map, &[0; 16], 32), Err(Refusal::AddressLength));
+/// # Ok::<(), Refusal>(())
+/// ```
+pub fn interpret_bits(map: &[u8], address: &[u8], width: u32) -> Result<Walk, Refusal> {
+    let (map_at, map_len, address_at, address_len) = (map.as_ptr(), map.len(), address.as_ptr(), address.len());
+    // SAFETY: as in `interpret`.
+    walked(|[kind, bits], [number, count]| unsafe {
+        sys::corbastrigo_interpret_bits(map_at, map_len, address_at, address_len, width, kind, number, count, bits)
+    })
+}
+
+/// What a call of the walk says, which is handed the kind and the bits, then the number and the count to write.
+fn walked(call: impl FnOnce([&mut u8; 2], [&mut u32; 2]) -> u8) -> Result<Walk, Refusal> {
+    let (mut kind, mut number, mut count, mut bits) = (0, 0, 0, 0);
+    Refusal::check(call([&mut kind, &mut bits], [&mut number, &mut count]))?;
     let end = match kind {
         1 => End::Returned,
         2 => End::Differed,
@@ -126,142 +189,5 @@ pub fn ip16_for_lookup(ip: IpAddr) -> [u8; 16] {
     match ip {
         IpAddr::V4(v4) => v4.to_ipv6_mapped().octets(),
         IpAddr::V6(v6) => v6.octets(),
-    }
-}
-
-/// A map that the check accepted. There is no other way to make one, so that no walk of it aborts.
-#[derive(Clone, Debug, PartialEq, Eq)]
-pub struct AsMap {
-    bytes: Vec<u8>,
-}
-
-impl AsMap {
-    /// `None` where the check refuses; [`AsMap::checked`] says why.
-    ///
-    /// ```
-    /// use corbastrigo::AsMap;
-    ///
-    /// assert_eq!(AsMap::from_bytes(vec![0, 0, 0]).map(|map| map.len()), Some(3));
-    /// assert_eq!(AsMap::from_bytes(vec![0, 0]), None);
-    /// ```
-    pub fn from_bytes(bytes: Vec<u8>) -> Option<AsMap> {
-        AsMap::checked(bytes).ok()
-    }
-
-    /// The map, or the check's reason.
-    ///
-    /// ```
-    /// use corbastrigo::{AsMap, Refusal};
-    ///
-    /// assert_eq!(AsMap::checked(vec![0, 0]), Err(Refusal::Cut));
-    /// ```
-    pub fn checked(bytes: Vec<u8>) -> Result<AsMap, Refusal> {
-        sanity_check(&bytes)?;
-        Ok(AsMap { bytes })
-    }
-
-    /// A map from a file, or why there is none: the file could not be read, or the check refused what is in it. It reads one byte past
-    /// the limit at most, which is enough to refuse the rest.
-    ///
-    /// ```
-    /// use corbastrigo::{AsMap, OpenError};
-    /// use std::error::Error;
-    ///
-    /// let error = AsMap::open("/nowhere/node.asmap").unwrap_err();
-    /// assert_eq!(error.to_string(), "/nowhere/node.asmap cannot be read");
-    /// if let Some(reason) = error.source() {
-    ///     eprintln!("{error}: {reason}");
-    /// }
-    /// match error {
-    ///     OpenError::Unreadable { error, .. } => assert_eq!(error.kind(), std::io::ErrorKind::NotFound),
-    ///     OpenError::Refused { refusal, .. } => panic!("{refusal}"),
-    ///     other => panic!("{other}"),
-    /// }
-    /// ```
-    pub fn open(path: impl AsRef<Path>) -> Result<AsMap, OpenError> {
-        open::map_at(path.as_ref())
-    }
-
-    /// A map from a file; `Ok(None)` where the check refuses it, as the original has it. [`AsMap::open`] says why.
-    ///
-    /// ```
-    /// use corbastrigo::AsMap;
-    /// use std::path::Path;
-    ///
-    /// # fn main() -> std::io::Result<()> {
-    /// assert_eq!(AsMap::from_path(Path::new("/dev/null"))?, None);
-    /// assert!(AsMap::from_path(Path::new("/nowhere/node.asmap")).is_err());
-    /// # Ok(())
-    /// # }
-    /// ```
-    pub fn from_path(path: &Path) -> std::io::Result<Option<AsMap>> {
-        Ok(AsMap::from_bytes(open::bytes_at(path)?))
-    }
-
-    /// How many bytes the map has. An accepted map is never empty.
-    #[allow(clippy::len_without_is_empty)]
-    pub fn len(&self) -> usize {
-        self.bytes.len()
-    }
-
-    /// The map's bytes.
-    pub fn as_bytes(&self) -> &[u8] {
-        &self.bytes
-    }
-
-    /// The SHA-256 of the map's bytes, which names the map among others. It is made by the crate `sha2`, and nothing about it is proved.
-    #[cfg(feature = "digest")]
-    pub fn digest(&self) -> [u8; 32] {
-        use sha2::{Digest, Sha256};
-        Sha256::digest(&self.bytes).into()
-    }
-
-    /// The first eight hexadecimal digits of [`AsMap::digest`], which is what the original shows.
-    ///
-    /// ```
-    /// use corbastrigo::{AsMap, Refusal};
-    ///
-    /// assert_eq!(AsMap::checked(vec![0, 0, 0])?.digest_hex8(), "709e80c8");
-    /// # Ok::<(), Refusal>(())
-    /// ```
-    #[cfg(feature = "digest")]
-    pub fn digest_hex8(&self) -> String {
-        self.digest()[..4].iter().map(|byte| format!("{byte:02x}")).collect()
-    }
-
-    /// How the walk by an address ends, with its number and counts.
-    ///
-    /// ```
-    /// use corbastrigo::{ip16_for_lookup, AsMap, End, Refusal};
-    /// use std::net::Ipv4Addr;
-    ///
-    /// let map = AsMap::checked(vec![0, 0, 0])?;
-    /// let walk = map.walk(&ip16_for_lookup(Ipv4Addr::new(1, 2, 3, 4).into()));
-    /// assert_eq!((walk.end, walk.number, walk.count, walk.bits), (End::Returned, 1, 1, 0));
-    /// # Ok::<(), Refusal>(())
-    /// ```
-    pub fn walk(&self, ip16: &[u8; 16]) -> Walk {
-        let aborted = Walk { end: End::Aborted, number: 0, count: 0, bits: 0 };
-        // An accepted map is within the limit and the address has 16 bytes, so nothing is left to refuse.
-        interpret(&self.bytes, ip16).unwrap_or(aborted)
-    }
-
-    /// The number that 16 address bytes are sent to. 0 does not tell how the walk ended: [`AsMap::walk`] does.
-    pub fn interpret_ip16(&self, ip16: &[u8; 16]) -> u32 {
-        self.walk(ip16).number
-    }
-
-    /// The number that an address is sent to. 0 does not tell how the walk ended: [`AsMap::walk`] does.
-    ///
-    /// ```
-    /// use corbastrigo::{AsMap, Refusal};
-    /// use std::net::Ipv4Addr;
-    ///
-    /// let map = AsMap::checked(vec![0, 0, 0])?;
-    /// assert_eq!(map.mapped_as(Ipv4Addr::new(1, 2, 3, 4).into()), 1);
-    /// # Ok::<(), Refusal>(())
-    /// ```
-    pub fn mapped_as(&self, ip: IpAddr) -> u32 {
-        self.interpret_ip16(&ip16_for_lookup(ip))
     }
 }

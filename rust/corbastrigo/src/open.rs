@@ -1,11 +1,11 @@
-use crate::{AsMap, Refusal, MAX_MAP_BYTES};
+use crate::{Refusal, MAX_MAP_BYTES};
 use std::error::Error;
 use std::fmt;
 use std::fs::File;
 use std::io::{self, Read};
 use std::path::{Path, PathBuf};
 
-/// Why [`AsMap::open`] made no map of a file. Its words name the file and what failed; the reason stands behind it, as
+/// Why [`AsMap::open`](crate::AsMap::open) or [`AsMap4::open`](crate::AsMap4::open) made no map of a file. Its words name the file and what failed; the reason stands behind it, as
 /// [`source`](Error::source), and is shown by `Debug` too.
 #[derive(Debug)]
 #[non_exhaustive]
@@ -68,10 +68,4 @@ pub(crate) fn bytes_at(path: &Path) -> io::Result<Vec<u8>> {
     let mut bytes = Vec::new();
     File::open(path)?.take(MAX_MAP_BYTES as u64 + 1).read_to_end(&mut bytes)?;
     Ok(bytes)
-}
-
-/// The map of a file.
-pub(crate) fn map_at(path: &Path) -> Result<AsMap, OpenError> {
-    let bytes = bytes_at(path).map_err(|error| OpenError::Unreadable { path: path.to_path_buf(), error })?;
-    AsMap::checked(bytes).map_err(|refusal| OpenError::Refused { path: path.to_path_buf(), refusal })
 }

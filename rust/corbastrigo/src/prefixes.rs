@@ -1,4 +1,4 @@
-use crate::records::{number_at, write, write_into};
+use crate::records::{number_at, write, write_into, Call};
 use crate::Refusal;
 use corbastrigo_sys as sys;
 
@@ -8,9 +8,11 @@ pub const PREFIX_BYTES: usize = 24;
 /// A prefix that a map tells apart: all addresses in it are sent to one number.
 #[derive(Clone, Copy, Debug, PartialEq, Eq)]
 pub struct Prefix {
-    /// The first address in it, IPv4 in its mapped form. The bits past the length are 0.
+    /// The first address in it, IPv4 in its mapped form; of a map of 32 address bits the first 4 bytes are the address. The bits past the
+    /// length are 0.
     pub address: [u8; 16],
-    /// How many bits all its addresses begin with alike, 0 to 128. Of an IPv4 prefix it is 96 more than one writes.
+    /// How many bits all its addresses begin with alike, 0 to the width. Of an IPv4 prefix it is 96 more than one writes, and as one writes
+    /// it at width 32.
     pub length: u8,
     /// The number that its addresses are sent to. 0 is not "unmapped": their walks differ at a MATCH before any DEFAULT was met.
     pub number: u32,
@@ -46,17 +48,32 @@ pub fn prefixes(records: &[u8]) -> impl Iterator<Item = Prefix> + '_ {
 /// assert_eq!(list_bytes(&[0, 0]), Err(Refusal::Cut));
 /// ```
 pub fn list_bytes(map: &[u8]) -> Result<usize, Refusal> {
-    let mut bytes = 0;
     // SAFETY: the slice gives its own pointer and length; the number is borrowed for the call and is nobody else's.
-    let answer = unsafe { sys::corbastrigo_list_bytes(map.as_ptr(), map.len(), &mut bytes) };
-    Refusal::check(answer)?;
+    counted(|bytes| unsafe { sys::corbastrigo_list_bytes(map.as_ptr(), map.len(), bytes) })
+}
+
+/// [`list_bytes`] of a map of `width` address bits, 32 or 128: 18, or the check's reason at that width.
+pub fn list_bytes_bits(map: &[u8], width: u32) -> Result<usize, Refusal> {
+    // SAFETY: as in `list_bytes`.
+    counted(|bytes| unsafe { sys::corbastrigo_list_bytes_bits(map.as_ptr(), map.len(), width, bytes) })
+}
+
+/// How many bytes a call says, which is handed the number to write.
+fn counted(call: impl FnOnce(&mut usize) -> u8) -> Result<usize, Refusal> {
+    let mut bytes = 0;
+    Refusal::check(call(&mut bytes))?;
     Ok(bytes)
 }
 
 /// Lists every prefix that an accepted map tells apart, as records ([`list`] says which). The bytes written, or the check's reason, or 14.
 /// Bytes past what is written remain.
 pub fn list_into(map: &[u8], out: &mut [u8]) -> Result<usize, Refusal> {
-    write_into(sys::corbastrigo_list, map, out)
+    write_into(Call::Records(sys::corbastrigo_list), map, out)
+}
+
+/// [`list_into`] of a map of `width` address bits, 32 or 128: 18, then the check's reason at that width, or 14.
+pub fn list_into_bits(map: &[u8], width: u32, out: &mut [u8]) -> Result<usize, Refusal> {
+    write_into(Call::Bits(sys::corbastrigo_list_bits, width), map, out)
 }
 
 /// Every prefix that an accepted map tells apart, as records, or the check's reason.
@@ -79,5 +96,21 @@ pub fn list_into(map: &[u8], out: &mut [u8]) -> Result<usize, Refusal> {
 /// # Ok::<(), Refusal>(())
 /// ```
 pub fn list(map: &[u8]) -> Result<Vec<u8>, Refusal> {
-    write(sys::corbastrigo_list, map, list_bytes(map)?)
+    write(Call::Records(sys::corbastrigo_list), map, list_bytes(map)?)
+}
+
+/// [`list`] of a map of `width` address bits, 32 or 128: 18, or the check's reason at that width. At 32 the first 4 of the 16 address bytes
+/// are the address, the others are 0, and the length is 0 to 32.
+///
+/// ```
+/// use corbastrigo::{list_bits, prefixes, Refusal};
+///
+/// // A MATCH of one bit, 0, and a RETURN of 7: 0.0.0.0/1 is sent to 7, 128.0.0.0/1 to no number.
+/// let records = list_bits(&[0x03, 0x00, 0x18], 32)?;
+/// let listed: Vec<_> = prefixes(&records).map(|prefix| (prefix.address[0], prefix.length, prefix.number)).collect();
+/// assert_eq!(listed, [(0, 1, 7), (128, 1, 0)]);
+/// # Ok::<(), Refusal>(())
+/// ```
+pub fn list_bits(map: &[u8], width: u32) -> Result<Vec<u8>, Refusal> {
+    write(Call::Bits(sys::corbastrigo_list_bits, width), map, list_bytes_bits(map, width)?)
 }

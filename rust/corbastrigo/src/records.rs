@@ -1,4 +1,4 @@
-use crate::{sanity_check, Refusal, MAX_MAP_BYTES};
+use crate::{sanity_check, sanity_check_bits, Refusal, MAX_MAP_BYTES};
 use corbastrigo_sys as sys;
 
 /// The bytes of a record: opcode, three zeros, operand, place, length in bits, each number of four bytes little-endian.
@@ -46,12 +46,25 @@ pub fn instructions(records: &[u8]) -> impl Iterator<Item = Instruction> + '_ {
     })
 }
 
+/// A call that makes bytes of bytes, as it is or over a number of address bits.
+#[derive(Clone, Copy)]
+pub(crate) enum Call {
+    Records(sys::Records),
+    Bits(sys::RecordsBits, u32),
+}
+
 /// How many bytes a call writes to a lent output, or its refusal.
-pub(crate) fn write_into(call: sys::Records, input: &[u8], out: &mut [u8]) -> Result<usize, Refusal> {
+pub(crate) fn write_into(call: Call, input: &[u8], out: &mut [u8]) -> Result<usize, Refusal> {
     let mut written = 0;
-    // SAFETY: each `Records` of the library takes two slices, which give their own pointers and lengths, and a number to write; `out` is
-    // borrowed alone, and the number is nobody else's.
-    let answer = unsafe { call(input.as_ptr(), input.len(), out.as_mut_ptr(), out.len(), &mut written) };
+    let (from, to) = (input.as_ptr(), out.as_mut_ptr());
+    // SAFETY: each `Records` and each `RecordsBits` of the library takes two slices, which give their own pointers and lengths, and a number
+    // to write; `out` is borrowed alone, and the number is nobody else's.
+    let answer = unsafe {
+        match call {
+            Call::Records(call) => call(from, input.len(), to, out.len(), &mut written),
+            Call::Bits(call, width) => call(from, input.len(), width, to, out.len(), &mut written),
+        }
+    };
     Refusal::check(answer)?;
     Ok(written)
 }
@@ -59,16 +72,21 @@ pub(crate) fn write_into(call: sys::Records, input: &[u8], out: &mut [u8]) -> Re
 /// Lists an accepted map's instructions in order, as records. The bytes written, or the check's reason, or 14. Bytes past what is
 /// written remain.
 pub fn unpack_into(map: &[u8], out: &mut [u8]) -> Result<usize, Refusal> {
-    write_into(sys::corbastrigo_unpack, map, out)
+    write_into(Call::Records(sys::corbastrigo_unpack), map, out)
+}
+
+/// [`unpack_into`] of a map of `width` address bits, 32 or 128: 18, then the check's reason at that width, or 14.
+pub fn unpack_into_bits(map: &[u8], width: u32, out: &mut [u8]) -> Result<usize, Refusal> {
+    write_into(Call::Bits(sys::corbastrigo_unpack_bits, width), map, out)
 }
 
 /// Packs records into a map's bytes. The bytes written, or 16, 15, 1, 14. No check is run. Bytes past what is written remain.
 pub fn pack_into(records: &[u8], out: &mut [u8]) -> Result<usize, Refusal> {
-    write_into(sys::corbastrigo_pack, records, out)
+    write_into(Call::Records(sys::corbastrigo_pack), records, out)
 }
 
 /// What a call writes, which is at most so many bytes; 14 where there is no memory for them.
-pub(crate) fn write(call: sys::Records, input: &[u8], most: usize) -> Result<Vec<u8>, Refusal> {
+pub(crate) fn write(call: Call, input: &[u8], most: usize) -> Result<Vec<u8>, Refusal> {
     let mut out = Vec::new();
     out.try_reserve_exact(most).map_err(|_| Refusal::OutputTooShort)?;
     out.resize(most, 0);
@@ -90,7 +108,21 @@ pub(crate) fn write(call: sys::Records, input: &[u8], most: usize) -> Result<Vec
 /// ```
 pub fn unpack(map: &[u8]) -> Result<Vec<u8>, Refusal> {
     let check = sanity_check(map)?;
-    write(sys::corbastrigo_unpack, map, check.count as usize * RECORD_BYTES)
+    write(Call::Records(sys::corbastrigo_unpack), map, check.count as usize * RECORD_BYTES)
+}
+
+/// [`unpack`] of a map of `width` address bits, 32 or 128: 18, or the check's reason at that width. The records say nothing of the width.
+///
+/// ```
+/// use corbastrigo::{unpack, unpack_bits, Refusal};
+///
+/// assert_eq!(unpack_bits(&[0, 0, 0], 32)?, unpack(&[0, 0, 0])?);
+/// assert_eq!(unpack_bits(&[0, 0, 0], 0), Err(Refusal::Width));
+/// # Ok::<(), Refusal>(())
+/// ```
+pub fn unpack_bits(map: &[u8], width: u32) -> Result<Vec<u8>, Refusal> {
+    let check = sanity_check_bits(map, width)?;
+    write(Call::Bits(sys::corbastrigo_unpack_bits, width), map, check.count as usize * RECORD_BYTES)
 }
 
 /// The bytes of a map that records make, or 16, 15, 1. No check is run.
@@ -105,5 +137,5 @@ pub fn unpack(map: &[u8]) -> Result<Vec<u8>, Refusal> {
 /// ```
 pub fn pack(records: &[u8]) -> Result<Vec<u8>, Refusal> {
     let most = (records.len() / RECORD_BYTES).saturating_mul(MOST_BITS).div_ceil(8);
-    write(sys::corbastrigo_pack, records, most.min(MAX_MAP_BYTES))
+    write(Call::Records(sys::corbastrigo_pack), records, most.min(MAX_MAP_BYTES))
 }
