@@ -14,6 +14,7 @@ mod picks;
 mod prefixes;
 mod programs;
 mod scans;
+mod widths;
 
 use corbastrigo::MAX_MAP_BYTES;
 use proptest::strategy::Strategy;

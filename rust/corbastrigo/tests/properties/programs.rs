@@ -85,9 +85,14 @@ fn grown(draws: &mut impl Iterator<Item = (u32, u32)>, left: u32, before: Before
 
 /// Programs of every shape: bushes, runs that use all 128 address bits, and jumps in jumps.
 pub fn programs() -> impl Strategy<Value = Program> {
+    programs_of(128)
+}
+
+/// The same over so many address bits.
+pub fn programs_of(width: u32) -> impl Strategy<Value = Program> {
     let shapes = prop::sample::select(vec![[4, 6, 4], [1, 1, 10], [1, 12, 2]]);
     (shapes, prop::collection::vec(any::<u64>(), 0..150))
-        .prop_map(|(shape, draws)| grown(&mut draws.iter().map(|&draw| drawn(shape, draw)), 128, Before::Other))
+        .prop_map(move |(shape, draws)| grown(&mut draws.iter().map(|&draw| drawn(shape, draw)), width, Before::Other))
 }
 
 impl Program {
@@ -286,8 +291,13 @@ fn bit(address: &[u8; 16], place: u8) -> u32 {
 
 /// A program and addresses, most of which get far in it.
 pub fn walked_programs() -> impl Strategy<Value = (Program, Vec<[u8; 16]>)> {
+    walked(programs())
+}
+
+/// The same of other programs.
+pub fn walked(programs: impl Strategy<Value = Program>) -> impl Strategy<Value = (Program, Vec<[u8; 16]>)> {
     let but = prop_oneof![Just(u8::MAX), 0..30u8, 0..128u8];
-    (programs(), prop::collection::vec((any::<[u8; 16]>(), but), 1..12)).prop_map(|(program, addresses)| {
+    (programs, prop::collection::vec((any::<[u8; 16]>(), but), 1..12)).prop_map(|(program, addresses)| {
         let led = addresses.into_iter().map(|(address, but)| program.led(address, but)).collect();
         (program, led)
     })
