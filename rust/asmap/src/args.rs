@@ -1,4 +1,6 @@
 //! The arguments, as clap takes them. The texts here are the help, the man page and the completions.
+use crate::failure::Failure;
+use crate::width::Width;
 use clap::{Args, Parser, Subcommand};
 use clap_complete::Shell;
 use std::path::PathBuf;
@@ -36,7 +38,9 @@ pub enum Command {
     #[command(after_help = "Example:\n  asmap check before.asmap after.asmap")]
     Check(Check),
     /// Walk a map by addresses: the number that each is sent to, and how its walk ended
-    #[command(after_help = "Examples:\n  asmap walk node.asmap 1.2.3.4 2001:db8::1\n  asmap walk node.asmap - < addresses.txt")]
+    #[command(
+        after_help = "Examples:\n  asmap walk node.asmap 1.2.3.4 2001:db8::1\n  asmap walk node.asmap - < addresses.txt\n  asmap walk --width 32 ipv4.asmap 1.2.3.4"
+    )]
     Walk(Walk),
     /// Show one walk step by step
     #[command(after_help = "Example:\n  asmap trace node.asmap 1.2.3.4")]
@@ -122,11 +126,27 @@ pub enum Command {
     Completions(Completions),
 }
 
+/// What every subcommand takes that checks maps, but for those of groups, which are by maps of 128 bits.
+#[derive(Args, Clone, Copy, Debug)]
+pub struct Bits {
+    /// How many bits an address has: 128, or 32 for a map of IPv4 alone, without the 96 bits in front
+    #[arg(long, value_name = "BITS", default_value_t = 128)]
+    width: u32,
+}
+
+impl Bits {
+    pub fn width(&self) -> Result<Width, Failure> {
+        Width::asked(self.width)
+    }
+}
+
 #[derive(Args, Debug)]
 pub struct Check {
     /// Files of maps
     #[arg(required = true, value_name = "MAP")]
     pub maps: Vec<PathBuf>,
+    #[command(flatten)]
+    pub bits: Bits,
 }
 
 #[derive(Args, Debug)]
@@ -139,6 +159,8 @@ pub struct Walk {
     /// Walk a map that the check refuses; every line then says so
     #[arg(long)]
     pub unchecked: bool,
+    #[command(flatten)]
+    pub bits: Bits,
 }
 
 #[derive(Args, Debug)]
@@ -150,6 +172,8 @@ pub struct Trace {
     /// Trace a walk of a map that the check refuses; the output then says so
     #[arg(long)]
     pub unchecked: bool,
+    #[command(flatten)]
+    pub bits: Bits,
 }
 
 #[derive(Args, Debug)]
@@ -162,6 +186,8 @@ pub struct List {
     /// Write to this file instead of standard output
     #[arg(short, long, value_name = "FILE")]
     pub output: Option<PathBuf>,
+    #[command(flatten)]
+    pub bits: Bits,
 }
 
 #[derive(Args, Debug)]
@@ -179,6 +205,8 @@ pub struct Diff {
     /// Write to this file instead of standard output
     #[arg(short, long, value_name = "FILE")]
     pub output: Option<PathBuf>,
+    #[command(flatten)]
+    pub bits: Bits,
 }
 
 #[derive(Args, Debug)]
@@ -187,6 +215,8 @@ pub struct UndoCheck {
     pub old: PathBuf,
     /// The file of the map that was brought back
     pub restored: PathBuf,
+    #[command(flatten)]
+    pub bits: Bits,
 }
 
 #[derive(Args, Debug)]
@@ -199,6 +229,8 @@ pub struct Unpack {
     /// Write to this file instead of standard output
     #[arg(short, long, value_name = "FILE")]
     pub output: Option<PathBuf>,
+    #[command(flatten)]
+    pub bits: Bits,
 }
 
 #[derive(Args, Debug)]
@@ -215,6 +247,8 @@ pub struct Pack {
     /// Write a map that the check refuses too, for tests and teaching
     #[arg(long)]
     pub unchecked: bool,
+    #[command(flatten)]
+    pub bits: Bits,
 }
 
 #[derive(Args, Debug)]

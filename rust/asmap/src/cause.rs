@@ -20,6 +20,9 @@ pub fn usual_cause(refusal: Refusal, file: &MapFile) -> &'static str {
         Refusal::NotAtTarget => {
             "a page in the middle was lost, doubled or filled with zeros, so that a jump before this no longer fits"
         }
+        Refusal::NoBits if file.width.is_ipv4() => {
+            "it is a map of 128 address bits, with 96 in front of every IPv4 address: no map of width 32"
+        }
         Refusal::NoBits => "the map was made by a program that counts address bits wrongly: damage hardly ever leads to this",
         Refusal::TargetsCross => "a page in the middle was lost, doubled or exchanged, so that two jumps no longer fit",
         Refusal::ShortMatches => {
@@ -30,8 +33,9 @@ pub fn usual_cause(refusal: Refusal, file: &MapFile) -> &'static str {
 }
 
 /// What whoever has the file can do.
-pub fn advice(refusal: Refusal) -> &'static str {
+pub fn advice(refusal: Refusal, file: &MapFile) -> &'static str {
     match refusal {
+        Refusal::NoBits if file.width.is_ipv4() => "check it without --width 32, and use it without, if it is accepted there",
         Refusal::MapTooLong | Refusal::AfterDefault | Refusal::Padding => {
             "look whether this is the file that was meant; if it is, restore it from a whole copy"
         }

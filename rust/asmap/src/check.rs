@@ -4,18 +4,20 @@ use crate::cause::{advice, usual_cause};
 use crate::failure::{self, Failure, Outcome, Status};
 use crate::files::{self, MapFile};
 use crate::out::{progress, Out, Style};
+use crate::width::Width;
 use crate::words::counted;
-use corbastrigo::{sanity_check, sanity_check_stop, AsMap, Check as Verdict, Refusal};
+use corbastrigo::{sanity_check_bits, sanity_check_stop_bits, AsMap, AsMap4, Check as Verdict, Refusal};
 use serde_json::{json, Value};
 use std::path::Path;
 
 /// Checks every map. One that cannot be read does not keep the others from being checked.
 pub fn run(asked: &Check, out: &mut Out) -> Outcome {
+    let width = asked.bits.width()?;
     let bar = progress(Some(asked.maps.len() as u64), "maps");
     let mut status = Status::Done;
     let mut unread = 0;
     for path in &asked.maps {
-        match files::read_map(path) {
+        match files::read_map(path, width) {
             Ok(file) => status = status.and(report(path, file, out)?),
             Err(Failure::Said(message)) if asked.maps.len() > 1 => {
                 bar.suspend(|| failure::say(&message));
@@ -35,7 +37,7 @@ pub fn run(asked: &Check, out: &mut Out) -> Outcome {
 /// Says what the check says of a map.
 fn report(path: &Path, file: MapFile, out: &mut Out) -> Outcome {
     let name = files::shown(path);
-    let status = match sanity_check(&file.bytes) {
+    let status = match sanity_check_bits(&file.bytes, file.width.bits()) {
         Ok(check) => accepted(&name, file, check, out)?,
         Err(refusal) => refused(&name, &file, refusal, out)?,
     };
@@ -44,25 +46,29 @@ fn report(path: &Path, file: MapFile, out: &mut Out) -> Outcome {
 }
 
 fn accepted(name: &str, file: MapFile, check: Verdict, out: &mut Out) -> Outcome {
-    let map = AsMap::checked(file.bytes).map_err(|refusal| Failure::No(refusal.to_string()))?;
-    let digest = digest(&map);
+    let (size, width) = (file.bytes.len(), file.width);
+    let digest = digest(file).map_err(|refusal| Failure::No(refusal.to_string()))?;
     if out.is_json() {
         out.object(&json!({
-            "map": name, "accepted": true, "bytes": map.len(), "digest": digest, "instructions": check.count, "depth": check.depth,
-            "refusal": null, "reason": null, "place": null, "usual_cause": null, "advice": null,
+            "map": name, "accepted": true, "bytes": size, "digest": digest, "instructions": check.count, "depth": check.depth,
+            "width": width.bits(), "refusal": null, "reason": null, "place": null, "usual_cause": null, "advice": null,
         }))?;
         return Ok(Status::Done);
     }
     let verdict = out.paint(Style::Good, "accepted");
-    let (bytes, count) = (counted(map.len() as u64, "byte", "bytes"), counted(check.count.into(), "instruction", "instructions"));
-    out.line(&format!("{name}: {verdict}, {bytes}, {count}, depth {}", check.depth))?;
+    let (bytes, count) = (counted(size as u64, "byte", "bytes"), counted(check.count.into(), "instruction", "instructions"));
+    out.line(&format!("{name}: {verdict}, {bytes}, {count}, depth {}{}", check.depth, width.said()))?;
     out.line(&format!("  digest   {digest}"))?;
     Ok(Status::Done)
 }
 
-/// The digest of a map, in hexadecimal.
-pub fn digest(map: &AsMap) -> String {
-    map.digest().iter().map(|byte| format!("{byte:02x}")).collect()
+/// The digest of an accepted map, in hexadecimal.
+fn digest(file: MapFile) -> Result<String, Refusal> {
+    let digest = match file.width.is_ipv4() {
+        true => AsMap4::checked(file.bytes)?.digest(),
+        false => AsMap::checked(file.bytes)?.digest(),
+    };
+    Ok(digest.iter().map(|byte| format!("{byte:02x}")).collect())
 }
 
 /// Says why a map was refused, where, and what to do about it.
@@ -80,8 +86,8 @@ fn refused(name: &str, file: &MapFile, refusal: Refusal, out: &mut Out) -> Outco
 pub fn refusal_object(name: &str, file: &MapFile, refusal: Refusal) -> Value {
     json!({
         "map": name, "accepted": false, "bytes": file.size, "digest": null, "instructions": null, "depth": null,
-        "refusal": refusal.number(), "reason": refusal.reason(), "place": place(&file.bytes),
-        "usual_cause": usual_cause(refusal, file), "advice": advice(refusal),
+        "width": file.width.bits(), "refusal": refusal.number(), "reason": refusal.reason(), "place": place(&file.bytes, file.width),
+        "usual_cause": usual_cause(refusal, file), "advice": advice(refusal, file),
     })
 }
 
@@ -89,15 +95,15 @@ pub fn refusal_object(name: &str, file: &MapFile, refusal: Refusal) -> Value {
 pub fn refusal_lines(name: &str, file: &MapFile, refusal: Refusal, verdict: &str) -> Vec<String> {
     let mut lines = vec![format!("{name}: {verdict}: {}", refusal.reason())];
     lines.push(format!("  size     {}", counted(file.size, "byte", "bytes")));
-    lines.extend(place(&file.bytes).map(|bit| format!("  at       bit {bit}: byte {}, bit {}", bit / 8, bit % 8)));
+    lines.extend(place(&file.bytes, file.width).map(|bit| format!("  at       bit {bit}: byte {}, bit {}", bit / 8, bit % 8)));
     lines.push(format!("  usually  {}", usual_cause(refusal, file)));
-    lines.push(format!("  advice   {}", advice(refusal)));
+    lines.push(format!("  advice   {}", advice(refusal, file)));
     lines
 }
 
 /// The bit at which the check refuses a map: the first of the instruction that it refuses, or the map's end where it wants another. None
 /// where it accepts, and none of a map over the limit, which is not looked into.
-pub fn place(map: &[u8]) -> Option<usize> {
-    let stop = sanity_check_stop(map).ok()?;
+pub fn place(map: &[u8], width: Width) -> Option<usize> {
+    let stop = sanity_check_stop_bits(map, width.bits()).ok()?;
     stop.reason.map(|_| stop.place)
 }

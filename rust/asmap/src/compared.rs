@@ -3,7 +3,8 @@
 use crate::check::{refusal_lines, refusal_object};
 use crate::failure::Failure;
 use crate::files::{self, MapFile};
-use corbastrigo::{compare, interpret, ip16_for_lookup, sanity_check, CompareError, Refusal};
+use crate::width::Width;
+use corbastrigo::{compare_bits, interpret_bits, sanity_check_bits, CompareError, Refusal};
 use serde_json::Value;
 use std::net::IpAddr;
 use std::path::{Path, PathBuf};
@@ -15,30 +16,32 @@ struct Side {
 }
 
 impl Side {
-    fn read(path: &Path) -> Result<Side, Failure> {
-        Ok(Side { path: path.to_path_buf(), file: files::read_map(path)? })
+    fn read(path: &Path, width: Width) -> Result<Side, Failure> {
+        Ok(Side { path: path.to_path_buf(), file: files::read_map(path, width)? })
     }
 
     fn name(&self) -> String {
         files::shown(&self.path)
     }
 
-    fn number(&self, address: IpAddr) -> Result<u32, Failure> {
+    /// The number that the bytes of an address are sent to.
+    fn number(&self, address: &[u8]) -> Result<u32, Failure> {
         // The comparison accepted the map, so nothing is left to refuse; if it were, that would not say that anything differs.
-        let walk = interpret(&self.file.bytes, &ip16_for_lookup(address));
+        let walk = interpret_bits(&self.file.bytes, address, self.file.width.bits());
         walk.map(|walk| walk.number).map_err(|refusal| Failure::new(format!("{} is not walked: {refusal}", self.name())))
     }
 }
 
-/// Two maps, both read.
+/// Two maps of one width, both read.
 pub struct Pair {
     old: Side,
     new: Side,
+    pub width: Width,
 }
 
 impl Pair {
-    pub fn read(old: &Path, new: &Path) -> Result<Pair, Failure> {
-        Ok(Pair { old: Side::read(old)?, new: Side::read(new)? })
+    pub fn read(old: &Path, new: &Path, width: Width) -> Result<Pair, Failure> {
+        Ok(Pair { old: Side::read(old, width)?, new: Side::read(new, width)?, width })
     }
 
     /// Their names, the old one's first.
@@ -53,17 +56,18 @@ impl Pair {
 
     /// The numbers that an address is sent to, by the old map and by the new one.
     pub fn numbers(&self, address: IpAddr) -> Result<(u32, u32), Failure> {
-        Ok((self.old.number(address)?, self.new.number(address)?))
+        let address = self.width.bytes(address);
+        Ok((self.old.number(&address)?, self.new.number(&address)?))
     }
 
     /// The library's comparison as records, or the maps that the check refuses: one of them, or both.
     pub fn compare(&self) -> Result<Result<Vec<u8>, Vec<Refused<'_>>>, Failure> {
-        let [old, new] = self.bytes();
+        let ([old, new], bits) = (self.bytes(), self.width.bits());
         let refused = |which, side, refusal| Refused { which, side, refusal };
-        let (first, second) = match compare(old, new) {
+        let (first, second) = match compare_bits(old, new, bits) {
             Ok(records) => return Ok(Ok(records)),
             // The library looks no further than the old map; an operator wants to know of both.
-            Err(CompareError::Old(refusal)) => (Some(refusal), sanity_check(new).err()),
+            Err(CompareError::Old(refusal)) => (Some(refusal), sanity_check_bits(new, bits).err()),
             Err(CompareError::New(refusal)) => (None, Some(refusal)),
             Err(other) => return Err(Failure::new(format!("no memory for the comparison: {}", other.refusal()))),
         };

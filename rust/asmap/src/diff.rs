@@ -9,13 +9,14 @@ use crate::whole::Sink;
 use std::path::{Path, PathBuf};
 
 pub fn run(asked: &Diff, out: &mut Out) -> Outcome {
+    let width = asked.bits.width()?;
     if asked.records && out.is_json() {
         return Err(Failure::new("--records and --json are two forms; give one of them"));
     }
     if asked.records && asked.addresses.is_some() {
         return Err(Failure::new("--records has no place for what becomes of addresses; leave --records or --addresses out"));
     }
-    let pair = Pair::read(&asked.old, &asked.new)?;
+    let pair = Pair::read(&asked.old, &asked.new, width)?;
     let records = match pair.compare()? {
         Ok(records) => records,
         Err(refused) => return not_compared(&refused, out),

@@ -4,14 +4,13 @@
 use crate::compared::Pair;
 use crate::failure::{Failure, Status};
 use crate::joined::joined;
-use crate::network::Network;
 use crate::sampled::{Moved as MovedAddress, Sampled};
 use crate::tally::{amount, logarithm, Moved, Tally};
 use crate::whole::Sink;
+use crate::width::Width;
 use crate::words::{counted, grouped, NO_DEFAULT};
 use corbastrigo::{changes, Change, CHANGE_BYTES};
 use serde_json::{json, Value};
-use std::net::Ipv6Addr;
 
 /// How many prefixes are written before the progress is told again.
 const STEP: usize = 8_192;
@@ -21,6 +20,7 @@ const MOST: usize = 5;
 
 pub struct Difference {
     names: [String; 2],
+    pub width: Width,
     pub same_bytes: bool,
     records: usize,
     changes: Vec<Change>,
@@ -32,9 +32,17 @@ impl Difference {
     /// What the records of a comparison come to.
     pub fn of(pair: &Pair, records: &[u8], sampled: Option<Sampled>) -> Difference {
         let changes = joined(changes(records));
-        let tally = Tally::of(&changes);
+        let (width, tally) = (pair.width, Tally::of(&changes, pair.width));
         let [old, new] = pair.bytes();
-        Difference { names: pair.names(), same_bytes: old == new, records: records.len() / CHANGE_BYTES, changes, tally, sampled }
+        Difference {
+            names: pair.names(),
+            width,
+            same_bytes: old == new,
+            records: records.len() / CHANGE_BYTES,
+            changes,
+            tally,
+            sampled,
+        }
     }
 
     pub fn status(&self) -> Status {
@@ -50,7 +58,7 @@ impl Difference {
         let bar = sink.progress(self.changes.len() as u64, "prefixes");
         let line = if json { change_object } else { change_text };
         let done = self.changes.chunks(STEP).try_for_each(|step| {
-            step.iter().try_for_each(|change| line(change, sink))?;
+            step.iter().try_for_each(|change| line(change, self.width, sink))?;
             bar.inc(step.len() as u64);
             Ok(())
         });
@@ -69,7 +77,7 @@ impl Difference {
             writeln!(sink, "# nothing changes: both maps send every address to the same number; {bytes}")?;
         } else {
             let prefixes = counted(self.changes.len() as u64, "prefix", "prefixes");
-            writeln!(sink, "# {prefixes} changed: {}", self.tally.changed.words())?;
+            writeln!(sink, "# {prefixes} changed: {}", self.tally.changed.words(self.width))?;
         }
         for (family, gained, lost) in amounts() {
             self.most(&format!("{family} addresses, most gained:"), gained, sink)?;
@@ -99,7 +107,7 @@ impl Difference {
 
     fn objects(&self, sink: &mut Sink) -> Result<(), Failure> {
         for (number, moved) in self.tally.numbers() {
-            writeln!(sink, "{}", operator_object(number, &moved))?;
+            writeln!(sink, "{}", operator_object(number, &moved, self.width))?;
         }
         if let Some(sampled) = &self.sampled {
             sampled.moved.iter().try_for_each(|moved| writeln!(sink, "{}", address_object(moved)))?;
@@ -108,9 +116,10 @@ impl Difference {
         let (changed, [old, new]) = (self.tally.changed, &self.names);
         let powers = [changed.ipv4, changed.ipv6].map(|count| (count > 0).then(|| logarithm(count)));
         let summary = json!({
-            "kind": "summary", "old_map": old, "new_map": new, "differs": !self.changes.is_empty(), "same_bytes": self.same_bytes,
-            "prefixes": self.changes.len(), "records": self.records, "ipv4_addresses": changed.ipv4.to_string(),
-            "ipv6_addresses": changed.ipv6.to_string(), "ipv4_power": powers[0], "ipv6_power": powers[1],
+            "kind": "summary", "old_map": old, "new_map": new, "width": self.width.bits(), "differs": !self.changes.is_empty(),
+            "same_bytes": self.same_bytes, "prefixes": self.changes.len(), "records": self.records,
+            "ipv4_addresses": changed.ipv4.to_string(), "ipv6_addresses": of_ipv6(changed.ipv6, self.width),
+            "ipv4_power": powers[0], "ipv6_power": powers[1],
         });
         writeln!(sink, "{summary}")
     }
@@ -123,12 +132,8 @@ fn amounts() -> [Amounts; 2] {
     [("IPv4", |moved| moved.gained.ipv4, |moved| moved.lost.ipv4), ("IPv6", |moved| moved.gained.ipv6, |moved| moved.lost.ipv6)]
 }
 
-fn network(change: &Change) -> Network {
-    Network { address: change.address, length: change.length }
-}
-
-fn change_text(change: &Change, sink: &mut Sink) -> Result<(), Failure> {
-    writeln!(sink, "{} AS{} # was AS{}", network(change), change.new, change.old)
+fn change_text(change: &Change, width: Width, sink: &mut Sink) -> Result<(), Failure> {
+    writeln!(sink, "{} AS{} # was AS{}", width.network(change.address, change.length), change.new, change.old)
 }
 
 /// Why one of two numbers is 0, where one is. They differ, so that not both are.
@@ -137,20 +142,29 @@ fn why_zero(old: u32, new: u32) -> Option<&'static str> {
 }
 
 /// A change as an object, written out as those of `asmap list` are: there may be a million, and nothing in one has to be escaped.
-fn change_object(change: &Change, sink: &mut Sink) -> Result<(), Failure> {
-    let (address, Change { length, old, new, .. }) = (Ipv6Addr::from(change.address), *change);
-    write!(sink, r#"{{"address":"{address}","kind":"change","length":{length},"new":{new},"old":{old},"#)?;
-    write!(sink, r#""prefix":"{}","why_zero":"#, network(change))?;
+fn change_object(change: &Change, width: Width, sink: &mut Sink) -> Result<(), Failure> {
+    let Change { address, length, old, new } = *change;
+    let (first, network) = (width.of_record(address), width.network(address, length));
+    write!(
+        sink,
+        r#"{{"address":"{first}","kind":"change","length":{length},"new":{new},"old":{old},"prefix":"{network}","why_zero":"#
+    )?;
     match why_zero(old, new) {
-        Some(why) => writeln!(sink, r#""{why}"}}"#),
-        None => writeln!(sink, "null}}"),
+        Some(why) => write!(sink, r#""{why}""#)?,
+        None => write!(sink, "null")?,
     }
+    writeln!(sink, r#","width":{}}}"#, width.bits())
 }
 
-fn operator_object(number: u32, moved: &Moved) -> Value {
+/// A number of IPv6 addresses in decimal; none where the maps have no such addresses.
+fn of_ipv6(count: u128, width: Width) -> Option<String> {
+    (!width.is_ipv4()).then(|| count.to_string())
+}
+
+fn operator_object(number: u32, moved: &Moved, width: Width) -> Value {
     json!({
         "kind": "operator", "number": number, "ipv4_gained": moved.gained.ipv4.to_string(), "ipv4_lost": moved.lost.ipv4.to_string(),
-        "ipv6_gained": moved.gained.ipv6.to_string(), "ipv6_lost": moved.lost.ipv6.to_string(),
+        "ipv6_gained": of_ipv6(moved.gained.ipv6, width), "ipv6_lost": of_ipv6(moved.lost.ipv6, width),
         "why_zero": (number == 0).then_some(NO_DEFAULT),
     })
 }

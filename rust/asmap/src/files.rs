@@ -1,6 +1,7 @@
 //! Files that are read. Nothing is read past the limit.
 use crate::failure::Failure;
-use corbastrigo::{AsMap, Refusal, MAX_MAP_BYTES};
+use crate::width::Width;
+use corbastrigo::{sanity_check_bits, AsMap, Refusal, MAX_MAP_BYTES};
 use std::fs::File;
 use std::io::{self, BufRead, BufReader, Read};
 use std::path::Path;
@@ -28,10 +29,12 @@ pub struct MapFile {
     pub bytes: Vec<u8>,
     /// The size that the file has, or what was read of it where it tells none (a pipe).
     pub size: u64,
+    /// How many bits its addresses are taken to have. The bytes do not tell.
+    pub width: Width,
 }
 
 /// Reads a map file: one byte past the limit at most.
-pub fn read_map(path: &Path) -> Result<MapFile, Failure> {
+pub fn read_map(path: &Path, width: Width) -> Result<MapFile, Failure> {
     let file = File::open(path).map_err(|error| failed(path, &error))?;
     let told = file.metadata().map_err(|error| failed(path, &error))?;
     if told.is_dir() {
@@ -40,7 +43,7 @@ pub fn read_map(path: &Path) -> Result<MapFile, Failure> {
     let mut bytes = Vec::new();
     file.take(MAX_MAP_BYTES as u64 + 1).read_to_end(&mut bytes).map_err(|error| failed(path, &error))?;
     let size = told.len().max(bytes.len() as u64);
-    Ok(MapFile { bytes, size })
+    Ok(MapFile { bytes, size, width })
 }
 
 /// Reads a file, or standard input where the name is `-`. Nothing where it has more bytes than the limit, which is not read past.
@@ -61,16 +64,25 @@ pub fn read_within(path: &Path, limit: usize) -> Result<Option<Vec<u8>>, Failure
 }
 
 /// Reads a map file and has it checked. A refused map is a "no" that says what to do.
+pub fn checked_file(path: &Path, width: Width) -> Result<MapFile, Failure> {
+    let file = read_map(path, width)?;
+    match sanity_check_bits(&file.bytes, width.bits()) {
+        Ok(_) => Ok(file),
+        Err(refusal) => Err(refused(path, refusal, width)),
+    }
+}
+
+/// The same for groups, which are by maps of 128 bits.
 pub fn checked_map(path: &Path) -> Result<AsMap, Failure> {
-    let file = read_map(path)?;
-    AsMap::checked(file.bytes).map_err(|refusal| refused(path, refusal))
+    let file = read_map(path, Width::MAPPED)?;
+    AsMap::checked(file.bytes).map_err(|refusal| refused(path, refusal, file.width))
 }
 
 /// The "no" to a map that the check refuses.
-pub fn refused(path: &Path, refusal: Refusal) -> Failure {
-    let name = shown(path);
+pub fn refused(path: &Path, refusal: Refusal, width: Width) -> Failure {
+    let (name, option) = (shown(path), width.option());
     Failure::No(format!(
-        "{name} is refused, {}: {}; `asmap check {name}` says where and what usually causes it",
+        "{name} is refused, {}: {}; `asmap check {option}{name}` says where and what usually causes it",
         refusal.number(),
         refusal.reason()
     ))

@@ -3,6 +3,7 @@ use crate::args::Filter;
 use crate::failure::{Failure, Outcome, Status};
 use crate::out::{Out, Style};
 use crate::ranges::{Decided, Ranges, Row};
+use crate::width::Width;
 use crate::words;
 use corbastrigo::clearnet_unroutable;
 use serde_json::{json, Value};
@@ -10,8 +11,8 @@ use std::net::IpAddr;
 
 pub fn run(asked: &Filter, out: &mut Out) -> Outcome {
     let ranges = Ranges::new();
-    let width = words::width(&asked.addresses);
-    words::each_address(&asked.addresses, out, |address, out| {
+    let column = words::column(&asked.addresses, Width::MAPPED);
+    words::each_address(&asked.addresses, Width::MAPPED, out, |address, out| {
         let decided = agreed(address, clearnet_unroutable(address), ranges.decide(address))?;
         if out.is_json() {
             return out.object(&object(address, &decided));
@@ -19,7 +20,7 @@ pub fn run(asked: &Filter, out: &mut Out) -> Outcome {
         let (style, verdict) = if decided.unroutable { (Style::Bad, "unroutable") } else { (Style::Good, "routable") };
         let verdict = out.paint(style, &format!("{verdict:<10}"));
         let address = address.to_string();
-        out.line(&format!("{address:<width$}  {verdict}  {}", decided.shown()))
+        out.line(&format!("{address:<column$}  {verdict}  {}", decided.shown()))
     })?;
     Ok(Status::Done)
 }

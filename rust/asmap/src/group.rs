@@ -4,14 +4,15 @@ use crate::failure::{Outcome, Status};
 use crate::files::checked_map;
 use crate::grouping::Grouped;
 use crate::out::{Out, Style};
+use crate::width::Width;
 use crate::words;
 use serde_json::json;
 use std::net::SocketAddr;
 
 pub fn run(asked: &Group, out: &mut Out) -> Outcome {
     let map = asked.map.as_deref().map(checked_map).transpose()?;
-    let width = words::width(&asked.addresses);
-    words::each_address(&asked.addresses, out, |address, out| {
+    let column = words::column(&asked.addresses, Width::MAPPED);
+    words::each_address(&asked.addresses, Width::MAPPED, out, |address, out| {
         // A group is that of the address: no port matters.
         let grouped = Grouped::of(SocketAddr::new(address, 0), map.as_ref())?;
         let address = address.to_string();
@@ -21,7 +22,7 @@ pub fn run(asked: &Group, out: &mut Out) -> Outcome {
             return out.object(&object);
         }
         let group = out.paint(Style::Strong, &format!("{:>10}", grouped.group));
-        out.line(&format!("{address:<width$}  {group}  {}", grouped.source()))
+        out.line(&format!("{address:<column$}  {group}  {}", grouped.source()))
     })?;
     Ok(Status::Done)
 }

@@ -31,6 +31,7 @@ mod undo_check;
 mod unpack;
 mod walk;
 mod whole;
+mod width;
 mod words;
 
 use args::{Arguments, Command};

@@ -71,8 +71,12 @@ impl Page {
         self.0 += &format!("\\fB{}\\fR\n", escaped(&called(argument)));
         let values: Vec<String> = argument.get_possible_values().iter().map(|value| value.get_name().to_string()).collect();
         let help = argument.get_help().map(|help| help.to_string()).unwrap_or_default();
-        let takes = argument.get_action().takes_values() && !values.is_empty();
-        self.text(&if takes { format!("{help}: {}", values.join(", ")) } else { help });
+        // A flag has a default too, which says nothing.
+        let takes = argument.get_action().takes_values();
+        let default = argument.get_default_values().first().filter(|_| takes);
+        let default = default.map_or(String::new(), |value| format!(" [default: {}]", value.to_string_lossy()));
+        let values = if takes && !values.is_empty() { format!(": {}", values.join(", ")) } else { String::new() };
+        self.text(&format!("{help}{values}{default}"));
     }
 
     fn subcommand(&mut self, command: &Command) {

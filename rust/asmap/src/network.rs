@@ -1,19 +1,23 @@
 //! How a prefix is written.
 use std::fmt;
-use std::net::Ipv6Addr;
+use std::net::IpAddr;
 
-/// A prefix of 128 bits. One of IPv4 is written without the 96 bits in front of every IPv4 address.
+/// A prefix: of 32 bits where its address is one of IPv4, else of 128. One of 128 bits that is IPv4 in its mapped form is written without
+/// the 96 bits in front.
 #[derive(Clone, Copy, Debug)]
 pub struct Network {
-    pub address: [u8; 16],
+    pub address: IpAddr,
     pub length: u8,
 }
 
 impl fmt::Display for Network {
     fn fmt(&self, f: &mut fmt::Formatter<'_>) -> fmt::Result {
         let Network { address, length } = *self;
-        let address = Ipv6Addr::from(address);
-        match (address.to_ipv4_mapped(), length.checked_sub(96)) {
+        let mapped = match address {
+            IpAddr::V4(_) => None,
+            IpAddr::V6(address) => address.to_ipv4_mapped(),
+        };
+        match (mapped, length.checked_sub(96)) {
             (Some(address), Some(length)) => write!(f, "{address}/{length}"),
             _ => write!(f, "{address}/{length}"),
         }
@@ -39,9 +43,13 @@ mod tests {
             ("2001:0:0:1::", 64, "2001:0:0:1::/64"),
             ("1:0:2:0:3:0:4:0", 128, "1:0:2:0:3:0:4:0/128"),
             ("ABCD:EF01::", 32, "abcd:ef01::/32"),
+            // Of a map without the 96 bits.
+            ("0.0.0.0", 0, "0.0.0.0/0"),
+            ("1.2.0.0", 16, "1.2.0.0/16"),
+            ("255.255.255.255", 32, "255.255.255.255/32"),
         ] {
-            let address: Ipv6Addr = address.parse().expect("an address");
-            assert_eq!(Network { address: address.octets(), length }.to_string(), written);
+            let address: IpAddr = address.parse().expect("an address");
+            assert_eq!(Network { address, length }.to_string(), written);
         }
     }
 }

@@ -7,8 +7,9 @@ use crate::files;
 use crate::listing;
 use crate::out::Out;
 use crate::whole::Sink;
+use crate::width::Width;
 use crate::words::{counted, grouped};
-use corbastrigo::{codes, instructions, pack, sanity_check, Check, Instruction, Refusal, MAX_MAP_BYTES, RECORD_BYTES};
+use corbastrigo::{codes, instructions, pack, sanity_check_bits, Check, Instruction, Refusal, MAX_MAP_BYTES, RECORD_BYTES};
 use serde_json::json;
 use std::path::Path;
 
@@ -19,30 +20,31 @@ const MAX_BITS: u32 = 8 * MAX_MAP_BYTES as u32;
 const MAX_RECORDS_BYTES: usize = MAX_BITS as usize / 5 * RECORD_BYTES;
 
 pub fn run(asked: &Pack, out: &mut Out) -> Outcome {
+    let width = asked.bits.width()?;
     if out.is_json() && asked.output.is_none() {
         return Err(Failure::new("with --json standard output says what became of the map; name a file for the map with -o"));
     }
     let map = if asked.records { from_records(&asked.list)? } else { from_text(&asked.list)? };
-    let verdict = sanity_check(&map);
+    let verdict = sanity_check_bits(&map, width.bits());
     let written = verdict.is_ok() || asked.unchecked;
     if written {
         let mut sink = Sink::binary(asked.output.as_deref(), &[&asked.list], out)?;
         sink.bytes(&map)?;
         sink.finish()?;
     }
-    report(asked, &map, verdict, out)?;
+    report(asked, &map, width, verdict, out)?;
     Ok(if written { Status::Done } else { Status::No })
 }
 
 /// Says what the check says of the map: on standard error, where it does not get into the map, or as an object.
-fn report(asked: &Pack, map: &[u8], verdict: Result<Check, Refusal>, out: &mut Out) -> Result<(), Failure> {
-    let (size, place) = (map.len(), check::place(map));
+fn report(asked: &Pack, map: &[u8], width: Width, verdict: Result<Check, Refusal>, out: &mut Out) -> Result<(), Failure> {
+    let (size, place) = (map.len(), check::place(map, width));
     if out.is_json() {
         let (check, refusal) = (verdict.ok(), verdict.err());
         return out.object(&json!({
             "output": asked.output.as_deref().map(files::shown), "written": verdict.is_ok() || asked.unchecked, "bytes": size,
             "accepted": verdict.is_ok(), "instructions": check.map(|check| check.count), "depth": check.map(|check| check.depth),
-            "refusal": refusal.map(Refusal::number), "reason": refusal.map(Refusal::reason), "place": place,
+            "width": width.bits(), "refusal": refusal.map(Refusal::number), "reason": refusal.map(Refusal::reason), "place": place,
         }));
     }
     let bytes = match size {
@@ -51,7 +53,8 @@ fn report(asked: &Pack, map: &[u8], verdict: Result<Check, Refusal>, out: &mut O
     };
     say(&match verdict {
         Ok(Check { count, depth, .. }) => {
-            format!("the map is accepted: {bytes}, {}, depth {depth}", counted(count.into(), "instruction", "instructions"))
+            let count = counted(count.into(), "instruction", "instructions");
+            format!("the map is accepted: {bytes}, {count}, depth {depth}{}", width.said())
         }
         Err(refusal) if asked.unchecked => format!("the map is written, but it is {} ({bytes})", reason(refusal, place)),
         Err(refusal) => {

@@ -54,8 +54,8 @@ pub struct Replay {
     pub cut: Option<usize>,
 }
 
-/// Replays a walk that the library made, and hands out each step.
-pub fn replay(map: &[u8], address: &[u8; 16], walk: Walk, mut see: impl FnMut(Step)) -> Result<Replay, Failure> {
+/// Replays a walk that the library made by these address bytes, of whichever width, and hands out each step.
+pub fn replay(map: &[u8], address: &[u8], walk: Walk, mut see: impl FnMut(Step)) -> Result<Replay, Failure> {
     let mut state = State { map, address, place: 0, bit: 0, count: 0, default: None };
     // Every step leads onward in the map, so that this ends.
     let end = loop {
@@ -127,7 +127,8 @@ impl Ending {
 /// Where a walk stands.
 struct State<'a> {
     map: &'a [u8],
-    address: &'a [u8; 16],
+    /// As many bytes as the walk was by: 4 or 16.
+    address: &'a [u8],
     place: usize,
     bit: usize,
     count: u32,
@@ -155,7 +156,7 @@ impl State<'_> {
     }
 
     fn jump(&mut self, operand: u32) -> Next {
-        if self.bit == 128 {
+        if self.bits_left() == 0 {
             return Next::TooFewBits { needed: 1, left: 0 };
         }
         let (zero, one) = (self.place, self.place + operand as usize);
@@ -166,7 +167,7 @@ impl State<'_> {
     }
 
     fn compare(&mut self, wanted: &str) -> Next {
-        let left = 128 - self.bit;
+        let left = self.bits_left();
         if wanted.len() > left {
             return Next::TooFewBits { needed: wanted.len(), left };
         }
@@ -180,7 +181,11 @@ impl State<'_> {
         Next::Equals(self.place)
     }
 
-    /// An address bit, 0 to 127, the highest of the first byte first.
+    fn bits_left(&self) -> usize {
+        8 * self.address.len() - self.bit
+    }
+
+    /// An address bit, from 0, the highest of the first byte first.
     fn address_bit(&self, bit: usize) -> char {
         if self.address[bit / 8] >> (7 - bit % 8) & 1 == 1 {
             '1'
@@ -193,15 +198,16 @@ impl State<'_> {
 #[cfg(test)]
 mod tests {
     use super::*;
-    use corbastrigo::interpret;
+    use corbastrigo::interpret_bits;
     use proptest::collection::vec;
     use proptest::prelude::any;
     use proptest::strategy::{Strategy, ValueTree};
     use proptest::test_runner::TestRunner;
 
     /// A walk by the library, replayed.
-    fn walked(map: &[u8], address: &[u8; 16]) -> Replay {
-        replay(map, address, interpret(map, address).expect("walked"), drop).expect("the replay agrees")
+    fn walked(map: &[u8], address: &[u8]) -> Replay {
+        let walk = interpret_bits(map, address, 8 * address.len() as u32).expect("walked");
+        replay(map, address, walk, drop).expect("the replay agrees")
     }
 
     #[test]
@@ -209,25 +215,28 @@ mod tests {
         let mut runner = TestRunner::deterministic();
         // Few ones make RETURNs likely, many ones MATCHes and DEFAULTs.
         let bytes = (vec(any::<u8>(), 0..256), vec(any::<u8>(), 256), 0..3_usize);
-        let (mut returned, mut differed, mut aborted) = (0, 0, 0);
-        for _ in 0..10_000 {
-            let (a, b, kind) = bytes.new_tree(&mut runner).expect("bytes").current();
-            let map: Vec<u8> = a.iter().zip(b).map(|(a, b)| [a & b, *a, a | b][kind]).collect();
-            let replay = walked(&map, &any::<[u8; 16]>().new_tree(&mut runner).expect("an address").current());
-            match replay.walk.end {
-                End::Returned => returned += 1,
-                End::Differed => differed += 1,
-                _ => aborted += 1,
+        for address_bytes in [16, 4] {
+            let (mut returned, mut differed, mut aborted) = (0, 0, 0);
+            for _ in 0..10_000 {
+                let (a, b, kind) = bytes.new_tree(&mut runner).expect("bytes").current();
+                let map: Vec<u8> = a.iter().zip(b).map(|(a, b)| [a & b, *a, a | b][kind]).collect();
+                let address = any::<[u8; 16]>().new_tree(&mut runner).expect("an address").current();
+                let replay = walked(&map, &address[..address_bytes]);
+                match replay.walk.end {
+                    End::Returned => returned += 1,
+                    End::Differed => differed += 1,
+                    _ => aborted += 1,
+                }
+                assert_eq!(replay.why_zero.is_some(), replay.walk.number == 0);
             }
-            assert_eq!(replay.why_zero.is_some(), replay.walk.number == 0);
+            assert!(returned > 1_000 && differed > 1_000 && aborted > 100, "{returned} {differed} {aborted}");
         }
-        assert!(returned > 1_000 && differed > 1_000 && aborted > 100, "{returned} {differed} {aborted}");
     }
 
     #[test]
     fn a_replay_that_differs_is_no_answer() {
         let map = [0, 0, 0];
-        let walk = interpret(&map, &[0; 16]).expect("walked");
+        let walk = interpret_bits(&map, &[0; 16], 128).expect("walked");
         let edits: [fn(&mut Walk); 4] = [|w| w.number = 2, |w| w.count = 2, |w| w.bits = 1, |w| w.end = End::Differed];
         for edit in edits {
             let mut wrong = walk;
@@ -247,14 +256,16 @@ mod tests {
         assert_eq!(why(&[]), "the walk was aborted: it came to bit 0, and the map ends at bit 0");
         // A JUMP of 17 bits past the end.
         assert_eq!(why(&[1]), "the walk was aborted: it came to bit 25, and the map ends at bit 8");
-        // Sixteen MATCHes of eight ones, and one of one more.
+        // A MATCH of eight ones for each byte of the address, and one of one more.
         let ones = codes::encode_instruction(2, 511).expect("an instruction");
         let one = codes::encode_instruction(2, 3).expect("an instruction");
-        let past = packed(&[&[ones; 16][..], &[one]].concat());
-        assert_eq!(
-            why(&past),
-            format!("the walk was aborted: the MATCH at bit {} needs 1 of the address bits, and 0 are left", 16 * ones.len)
-        );
+        for bytes in [16, 4] {
+            let past = packed(&[&vec![ones; bytes][..], &[one]].concat());
+            assert_eq!(
+                walked(&past, &[0xff; 16][..bytes]).why_zero.expect("0"),
+                format!("the walk was aborted: the MATCH at bit {} needs 1 of the address bits, and 0 are left", bytes * ones.len)
+            );
+        }
     }
 
     /// Codes as a map's bytes.

@@ -2,7 +2,8 @@
 use crate::compared::Pair;
 use crate::failure::Failure;
 use crate::files::{self, Lines};
-use crate::words::{self, grouped};
+use crate::width::Width;
+use crate::words::grouped;
 use serde_json::Value;
 use std::collections::BTreeMap;
 use std::net::IpAddr;
@@ -68,7 +69,7 @@ impl Sampled {
         while let Some(line) = lines.next() {
             let line = line?;
             if !line.trim().is_empty() {
-                let address = words::address(line.trim()).map_err(|failure| lines.at_line(failure))?;
+                let address = pair.width.address(line.trim()).map_err(|failure| lines.at_line(failure))?;
                 self.look_up(address, pair)?;
             }
         }
@@ -88,7 +89,7 @@ impl Sampled {
                 Failure::Said(why) => Failure::new(format!("{}: entry {}: {why}", self.name, place + 1)),
                 other => other,
             };
-            match entry_of(entry).map_err(at_entry)? {
+            match entry_of(entry, pair.width).map_err(at_entry)? {
                 Entry::Address(address) => self.look_up(address, pair)?,
                 Entry::Skipped(network) => *self.skipped.entry(network.to_string()).or_default() += 1,
             }
@@ -103,14 +104,16 @@ enum Entry<'a> {
     Skipped(&'a str),
 }
 
-fn entry_of(entry: &Value) -> Result<Entry<'_>, Failure> {
+fn entry_of(entry: &Value, width: Width) -> Result<Entry<'_>, Failure> {
     let field = |name: &str| {
         let text = entry.get(name).and_then(Value::as_str);
         text.ok_or_else(|| Failure::new(format!("it has no text {name:?}; expected the list that getnodeaddresses prints")))
     };
     let (address, network) = (field("address")?, field("network")?);
     match network {
-        "ipv4" | "ipv6" => words::address(address).map(Entry::Address),
+        // A map of IPv4 alone has numbers for no other network.
+        "ipv6" if width.is_ipv4() => Ok(Entry::Skipped(network)),
+        "ipv4" | "ipv6" => width.address(address).map(Entry::Address),
         // What looks like an IPv6 address there is none of the Internet's: CJDNS has fc00::/8 to itself.
         _ => Ok(Entry::Skipped(network)),
     }

@@ -1,5 +1,6 @@
 //! How many addresses changes hold, and which numbers gain and lose them. IPv4 and IPv6 are kept apart: an IPv6 prefix of usual length has
 //! more addresses than all of IPv4.
+use crate::width::Width;
 use crate::words::grouped;
 use corbastrigo::Change;
 use std::collections::HashMap;
@@ -16,8 +17,11 @@ pub struct Count {
 }
 
 impl Count {
-    /// The addresses of a change.
-    pub fn of(change: &Change) -> Count {
+    /// The addresses of a change. Of maps of 32 bits all are of IPv4.
+    pub fn of(change: &Change, width: Width) -> Count {
+        if width.is_ipv4() {
+            return Count { ipv4: ALL_IPV4 >> change.length, ipv6: 0 };
+        }
         let first = u128::from_be_bytes(change.address);
         // One less than there are: of ::/0 there are 2^128.
         let less_one = u128::MAX.checked_shr(change.length.into()).unwrap_or(0);
@@ -34,9 +38,12 @@ impl Count {
         self.ipv6 += other.ipv6;
     }
 
-    /// Both in words.
-    pub fn words(&self) -> String {
-        format!("{} and {}", noun(self.ipv4, "IPv4"), noun(self.ipv6, "IPv6"))
+    /// Both in words; of IPv6 none where there is no such address.
+    pub fn words(&self, width: Width) -> String {
+        match (noun(self.ipv4, "IPv4"), width.is_ipv4()) {
+            (ipv4, true) => ipv4,
+            (ipv4, false) => format!("{ipv4} and {}", noun(self.ipv6, "IPv6")),
+        }
     }
 }
 
@@ -85,10 +92,10 @@ pub struct Tally {
 }
 
 impl Tally {
-    pub fn of(changes: &[Change]) -> Tally {
+    pub fn of(changes: &[Change], width: Width) -> Tally {
         let mut tally = Tally::default();
         for change in changes {
-            let count = Count::of(change);
+            let count = Count::of(change, width);
             tally.changed.add(count);
             tally.numbers.entry(change.old).or_default().lost.add(count);
             tally.numbers.entry(change.new).or_default().gained.add(count);
@@ -142,8 +149,20 @@ mod tests {
             ("::fffe:ffff:ffff", 128, 0, 1),
             ("::1:0:0:0", 128, 0, 1),
         ] {
-            assert_eq!(Count::of(&change(address, length, 1, 2)), Count { ipv4, ipv6 }, "{address}/{length}");
+            assert_eq!(Count::of(&change(address, length, 1, 2), Width::MAPPED), Count { ipv4, ipv6 }, "{address}/{length}");
         }
+    }
+
+    #[test]
+    fn of_32_bits_all_are_ipv4() {
+        let four = Width::asked(32).expect("a width");
+        for (length, ipv4) in [(0, 1 << 32), (1, 1 << 31), (7, 33_554_432), (31, 2), (32, 1)] {
+            // Whatever the first four bytes are, and also where 16 of them would be those of the mapped form.
+            for address in ["::", "200::", "ffff:fffe::"] {
+                assert_eq!(Count::of(&change(address, length, 1, 2), four), Count { ipv4, ipv6: 0 }, "{address}/{length}");
+            }
+        }
+        assert_eq!(Count { ipv4: 1 << 32, ipv6: 0 }.words(four), "4,294,967,296 IPv4 addresses (2^32)");
     }
 
     #[test]
@@ -157,8 +176,8 @@ mod tests {
         };
         let mut pieces: Vec<Change> = (1..=128).map(cut).collect();
         pieces.push(Change { address: [0xff; 16], length: 128, old: 1, new: 2 });
-        let whole = Tally::of(&[change("::", 0, 1, 2)]);
-        let cut = Tally::of(&pieces);
+        let whole = Tally::of(&[change("::", 0, 1, 2)], Width::MAPPED);
+        let cut = Tally::of(&pieces, Width::MAPPED);
         assert_eq!(cut.changed, whole.changed);
         assert_eq!(cut.numbers(), whole.numbers());
         assert_eq!(whole.changed.ipv6.checked_add(whole.changed.ipv4), None, "together they are 2^128");
@@ -169,9 +188,9 @@ mod tests {
         assert_eq!([1, 2, 1 << 24, 1 << 127].map(power), ["2^0", "2^1", "2^24", "2^127"]);
         assert_eq!([3, (1 << 24) - 1, (1 << 24) + 1].map(power), ["about 2^1.6", "about 2^24.0", "about 2^24.0"]);
         assert_eq!(power(u128::MAX), "about 2^128.0");
-        let words = Count { ipv4: 1, ipv6: 0 }.words();
+        let words = Count { ipv4: 1, ipv6: 0 }.words(Width::MAPPED);
         assert_eq!(words, "1 IPv4 address and no IPv6 address");
-        let words = Count { ipv4: 0, ipv6: u128::MAX - (1 << 32) + 1 }.words();
+        let words = Count { ipv4: 0, ipv6: u128::MAX - (1 << 32) + 1 }.words(Width::MAPPED);
         let all = "340,282,366,920,938,463,463,374,607,427,473,244,160 IPv6 addresses (about 2^128.0)";
         assert_eq!(words, format!("no IPv4 address and {all}"));
     }
@@ -179,14 +198,14 @@ mod tests {
     #[test]
     fn what_is_gained_and_lost_goes_by_the_number() {
         let changes = [change("::ffff:1.0.0.0", 104, 5, 6), change("::ffff:2.0.0.0", 112, 6, 0), change("2001::", 32, 0, 6)];
-        let tally = Tally::of(&changes);
+        let tally = Tally::of(&changes, Width::MAPPED);
         assert_eq!(tally.most(|moved| moved.gained.ipv4), [(6, 1 << 24), (0, 1 << 16)]);
         assert_eq!(tally.most(|moved| moved.lost.ipv4), [(5, 1 << 24), (6, 1 << 16)]);
         assert_eq!(tally.most(|moved| moved.gained.ipv6), [(6, 1 << 96)]);
         assert_eq!(tally.most(|moved| moved.lost.ipv6), [(0, 1 << 96)]);
         assert!(tally.has_zero());
         assert_eq!(tally.numbers().iter().map(|&(number, _)| number).collect::<Vec<_>>(), [0, 5, 6]);
-        let equal = Tally::of(&[change("::ffff:1.0.0.0", 104, 9, 1), change("::ffff:2.0.0.0", 104, 8, 2)]);
+        let equal = Tally::of(&[change("::ffff:1.0.0.0", 104, 9, 1), change("::ffff:2.0.0.0", 104, 8, 2)], Width::MAPPED);
         assert_eq!(equal.most(|moved| moved.lost.ipv4), [(8, 1 << 24), (9, 1 << 24)]);
     }
 }

@@ -5,24 +5,28 @@ use crate::files;
 use crate::out::{Out, Style};
 use crate::replay::{replay, InForce, Next, Replay, Step};
 use crate::walk::{end, object, Walkable};
+use crate::width::Width;
 use crate::words::{self, counted};
-use corbastrigo::ip16_for_lookup;
 use serde_json::{json, Value};
-use std::net::{IpAddr, Ipv6Addr};
+use std::net::IpAddr;
 
-/// The most steps that are shown. A walk of an accepted map has 257 at most; only a refused one can chain more DEFAULTs.
+/// The most steps that are shown. A walk of an accepted map has 257 at most, or 65 at width 32; only a refused one can chain more DEFAULTs.
 const MOST_STEPS: u32 = 1_000;
 
 pub fn run(asked: &Trace, out: &mut Out) -> Outcome {
-    let map = Walkable::read(&asked.map, asked.unchecked)?;
-    let address = words::address(&asked.address)?;
-    let walk = map.walk(&asked.map, address)?;
+    let map = Walkable::read(&asked.map, asked.bits.width()?, asked.unchecked)?;
+    let address = map.width.address(&asked.address)?;
+    let bytes = map.width.bytes(address);
+    let walk = map.walk(&asked.map, &bytes)?;
     if walk.count > MOST_STEPS {
         let read = counted(walk.count.into(), "instruction", "instructions");
-        return Err(Failure::new(format!("the walk reads {read}, too many to show; `asmap walk --unchecked` says how it ends")));
+        let option = map.width.option();
+        return Err(Failure::new(format!(
+            "the walk reads {read}, too many to show; `asmap walk {option}--unchecked` says how it ends"
+        )));
     }
     let mut steps = Vec::new();
-    let replay = replay(&map.bytes, &ip16_for_lookup(address), walk, |step| steps.push(step))?;
+    let replay = replay(&map.bytes, &bytes, walk, |step| steps.push(step))?;
     if out.is_json() {
         let mut trace = object(&map, address, &walk, replay.why_zero);
         trace["steps"] = steps.iter().enumerate().map(|(place, step)| step_object(place + 1, step)).collect();
@@ -44,8 +48,17 @@ fn head(asked: &Trace, map: &Walkable, address: IpAddr, out: &mut Out) -> Result
         Some(refusal) => out.paint(Style::Bad, &format!("unchecked (refused {}: {})", refusal.number(), refusal.reason())),
     };
     out.line(&format!("map      {}, {bytes}, {verdict}", files::shown(&asked.map)))?;
-    out.line(&format!("address  {address}, walked by the 128 bits of {}", Ipv6Addr::from(ip16_for_lookup(address))))?;
+    out.line(&format!("address  {address}, walked by {}", walked_by(map.width, address)))?;
     out.line("")
+}
+
+/// The bits that an address is walked by, in words.
+fn walked_by(width: Width, address: IpAddr) -> String {
+    match (address, width.is_ipv4()) {
+        (_, true) => String::from("its own 32 bits"),
+        (IpAddr::V4(v4), false) => format!("the 128 bits of {}", v4.to_ipv6_mapped()),
+        (IpAddr::V6(v6), false) => format!("the 128 bits of {v6}"),
+    }
 }
 
 /// The steps as a table, each column as wide as its widest word.

@@ -5,6 +5,7 @@ use crate::difference::Difference;
 use crate::failure::{Failure, Outcome, Status};
 use crate::out::{Out, Style};
 use crate::whole::Sink;
+use crate::width::Width;
 use serde_json::json;
 
 /// What is said first.
@@ -17,12 +18,12 @@ struct Verdict {
 }
 
 impl Verdict {
-    fn tell(&self, out: &mut Out) -> Result<(), Failure> {
+    fn tell(&self, width: Width, out: &mut Out) -> Result<(), Failure> {
         let (verdict, style) = if self.safe { ("SAFE", Style::Good) } else { ("DO NOT USE", Style::Bad) };
         if out.is_json() {
             return out.object(&json!({
                 "kind": "verdict", "safe": self.safe, "verdict": format!("{verdict}: {}", self.words), "same_bytes": self.same_bytes,
-                "same_numbers": self.same_numbers,
+                "same_numbers": self.same_numbers, "width": width.bits(),
             }));
         }
         let verdict = out.paint(style, verdict);
@@ -31,7 +32,7 @@ impl Verdict {
 }
 
 pub fn run(asked: &UndoCheck, out: &mut Out) -> Outcome {
-    let pair = Pair::read(&asked.old, &asked.restored)?;
+    let pair = Pair::read(&asked.old, &asked.restored, asked.bits.width()?)?;
     let (status, told) = match pair.compare()? {
         Ok(records) => {
             let difference = Difference::of(&pair, &records, None);
@@ -52,9 +53,9 @@ fn compared(difference: &Difference, out: &mut Out) -> Result<(), Failure> {
     let words = match (same, difference.same_bytes) {
         (true, true) => String::from("the restored map is the old one, byte for byte"),
         (true, false) => String::from("other bytes, the same number for every address"),
-        (false, _) => format!("the restored map has another number for {}", difference.tally.changed.words()),
+        (false, _) => format!("the restored map has another number for {}", difference.tally.changed.words(difference.width)),
     };
-    Verdict { safe: same, words, same_bytes: difference.same_bytes, same_numbers: Some(same) }.tell(out)?;
+    Verdict { safe: same, words, same_bytes: difference.same_bytes, same_numbers: Some(same) }.tell(difference.width, out)?;
     let json = out.is_json();
     difference.write(json, &mut Sink::Standard(out))
 }
@@ -70,7 +71,7 @@ fn refused(pair: &Pair, maps: &[Refused], out: &mut Out) -> Result<(), Failure> 
         (None, None) => String::from("nothing was compared"),
     };
     let [old, new] = pair.bytes();
-    Verdict { safe: false, words, same_bytes: old == new, same_numbers: None }.tell(out)?;
+    Verdict { safe: false, words, same_bytes: old == new, same_numbers: None }.tell(pair.width, out)?;
     for map in [of("new"), of("old")].into_iter().flatten() {
         if out.is_json() {
             out.object(&map.object())?;

@@ -1,18 +1,19 @@
 //! `asmap unpack`: a map as a list, for people, for `pack`, or as records.
 use crate::args::Unpack;
 use crate::failure::Outcome;
+use crate::files::MapFile;
 use crate::forms::{self, Wanted};
 use crate::listing::{self, Listed};
 use crate::out::Out;
 use crate::words;
-use corbastrigo::{instructions, sanity_check, unpack, AsMap};
+use corbastrigo::{instructions, sanity_check_bits, unpack_bits};
 use serde_json::{json, Value};
 
 pub fn run(asked: &Unpack, out: &mut Out) -> Outcome {
     let json = out.is_json();
-    let wanted = Wanted { map: &asked.map, records: asked.records, output: asked.output.as_deref() };
-    forms::write(&wanted, out, unpack, |map, records, sink| {
-        let column = listing::column(depth(map));
+    let wanted = Wanted { map: &asked.map, width: asked.bits.width()?, records: asked.records, output: asked.output.as_deref() };
+    forms::write(&wanted, out, unpack_bits, |file, records, sink| {
+        let column = listing::column(depth(file));
         for listed in listing::listed(instructions(records)) {
             sink.line(&if json { object(&listed).to_string() } else { listed.line(column) })?;
         }
@@ -21,8 +22,8 @@ pub fn run(asked: &Unpack, out: &mut Out) -> Outcome {
 }
 
 /// How deep the check found an accepted map.
-fn depth(map: &AsMap) -> u8 {
-    sanity_check(map.as_bytes()).map_or(0, |check| check.depth)
+fn depth(file: &MapFile) -> u8 {
+    sanity_check_bits(&file.bytes, file.width.bits()).map_or(0, |check| check.depth)
 }
 
 fn object(listed: &Listed) -> Value {

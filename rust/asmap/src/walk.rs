@@ -4,8 +4,9 @@ use crate::failure::{Failure, Outcome, Status};
 use crate::files;
 use crate::out::{progress, Out, Style};
 use crate::replay::replay;
+use crate::width::Width;
 use crate::words::{self, counted};
-use corbastrigo::{interpret, ip16_for_lookup, sanity_check, End, Refusal, Walk};
+use corbastrigo::{interpret_bits, sanity_check_bits, End, Refusal, Walk};
 use indicatif::ProgressBar;
 use serde_json::{json, Value};
 use std::io::{self, IsTerminal};
@@ -15,29 +16,31 @@ use std::path::Path;
 /// A map that may be walked: one that the check accepts, or with `--unchecked` any.
 pub struct Walkable {
     pub bytes: Vec<u8>,
+    /// How many bits its addresses have.
+    pub width: Width,
     /// The check's reason, where it refused.
     pub refusal: Option<Refusal>,
 }
 
 impl Walkable {
-    pub fn read(path: &Path, unchecked: bool) -> Result<Walkable, Failure> {
-        let bytes = files::read_map(path)?.bytes;
-        match sanity_check(&bytes) {
-            Ok(_) => Ok(Walkable { bytes, refusal: None }),
-            Err(refusal) if unchecked => Ok(Walkable { bytes, refusal: Some(refusal) }),
-            Err(refusal) => Err(not_walked(path, refusal)),
+    pub fn read(path: &Path, width: Width, unchecked: bool) -> Result<Walkable, Failure> {
+        let bytes = files::read_map(path, width)?.bytes;
+        match sanity_check_bits(&bytes, width.bits()) {
+            Ok(_) => Ok(Walkable { bytes, width, refusal: None }),
+            Err(refusal) if unchecked => Ok(Walkable { bytes, width, refusal: Some(refusal) }),
+            Err(refusal) => Err(not_walked(path, refusal, width)),
         }
     }
 
-    /// The library's walk. It refuses a map over the limit, checked or not.
-    pub fn walk(&self, path: &Path, address: IpAddr) -> Result<Walk, Failure> {
-        interpret(&self.bytes, &ip16_for_lookup(address)).map_err(|refusal| files::refused(path, refusal))
+    /// The library's walk by the bytes of an address. It refuses a map over the limit, checked or not.
+    pub fn walk(&self, path: &Path, address: &[u8]) -> Result<Walk, Failure> {
+        interpret_bits(&self.bytes, address, self.width.bits()).map_err(|refusal| files::refused(path, refusal, self.width))
     }
 }
 
 /// The "no" to walks of a refused map. One over the limit is walked in no case.
-fn not_walked(path: &Path, refusal: Refusal) -> Failure {
-    match files::refused(path, refusal) {
+fn not_walked(path: &Path, refusal: Refusal, width: Width) -> Failure {
+    match files::refused(path, refusal, width) {
         Failure::No(words) if refusal != Refusal::MapTooLong => {
             Failure::No(format!("{words}, and --unchecked walks it all the same"))
         }
@@ -58,7 +61,7 @@ pub fn end(walk: &Walk) -> &'static str {
 const WIDEST_NUMBER: usize = 8;
 
 pub fn run(asked: &Asked, out: &mut Out) -> Outcome {
-    let map = Walkable::read(&asked.map, asked.unchecked)?;
+    let map = Walkable::read(&asked.map, asked.bits.width()?, asked.unchecked)?;
     // Where a person types the addresses, the answers are all the progress there is.
     let typed = io::stdin().is_terminal() || !asked.addresses.iter().any(|word| word == "-");
     let bar = if typed { ProgressBar::hidden() } else { progress(None, "addresses") };
@@ -69,17 +72,18 @@ pub fn run(asked: &Asked, out: &mut Out) -> Outcome {
 
 /// Answers each address in turn.
 fn answer(asked: &Asked, map: &Walkable, bar: &ProgressBar, out: &mut Out) -> Result<(), Failure> {
-    let width = words::width(&asked.addresses);
-    words::each_address(&asked.addresses, out, |address, out| {
-        let walk = map.walk(&asked.map, address)?;
+    let column = words::column(&asked.addresses, map.width);
+    words::each_address(&asked.addresses, map.width, out, |address, out| {
+        let bytes = map.width.bytes(address);
+        let walk = map.walk(&asked.map, &bytes)?;
         let why = match walk.number {
-            0 => replay(&map.bytes, &ip16_for_lookup(address), walk, drop)?.why_zero,
+            0 => replay(&map.bytes, &bytes, walk, drop)?.why_zero,
             _ => None,
         };
         if out.is_json() {
             out.object(&object(map, address, &walk, why))?;
         } else {
-            out.line(&line(map, address, &walk, why, width, out))?;
+            out.line(&line(map, address, &walk, why, column, out))?;
         }
         bar.inc(1);
         Ok(())
@@ -87,11 +91,11 @@ fn answer(asked: &Asked, map: &Walkable, bar: &ProgressBar, out: &mut Out) -> Re
 }
 
 /// A walk as a line of text.
-fn line(map: &Walkable, address: IpAddr, walk: &Walk, why: Option<String>, width: usize, out: &Out) -> String {
+fn line(map: &Walkable, address: IpAddr, walk: &Walk, why: Option<String>, column: usize, out: &Out) -> String {
     let number = out.paint(Style::Strong, &format!("{:>WIDEST_NUMBER$}", walk.number));
     let (count, bits) = (counted(walk.count.into(), "instruction", "instructions"), counted(walk.bits.into(), "bit", "bits"));
     let address = address.to_string();
-    let mut line = format!("{address:<width$}  {number}  {:<8}  {count:>16}  {bits:>8}", end(walk));
+    let mut line = format!("{address:<column$}  {number}  {:<8}  {count:>16}  {bits:>8}", end(walk));
     if let Some(refusal) = map.refusal {
         line += &format!("  {}", out.paint(Style::Bad, &format!("unchecked (refused {})", refusal.number())));
     }
@@ -105,6 +109,6 @@ fn line(map: &Walkable, address: IpAddr, walk: &Walk, why: Option<String>, width
 pub fn object(map: &Walkable, address: IpAddr, walk: &Walk, why: Option<String>) -> Value {
     json!({
         "address": address.to_string(), "number": walk.number, "end": end(walk), "instructions": walk.count, "bits": walk.bits,
-        "why_zero": why, "checked": map.refusal.is_none(), "refusal": map.refusal.map(Refusal::number),
+        "why_zero": why, "width": map.width.bits(), "checked": map.refusal.is_none(), "refusal": map.refusal.map(Refusal::number),
     })
 }

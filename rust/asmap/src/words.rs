@@ -2,18 +2,20 @@
 use crate::failure::Failure;
 use crate::files::{self, Lines};
 use crate::out::Out;
+use crate::width::Width;
 use std::net::IpAddr;
 use std::path::Path;
 
-/// The addresses that were asked for, in order; `-` stands for those on standard input, one a line, blank lines left out.
-pub fn addresses(asked: &[String]) -> Addresses<'_> {
-    Addresses { asked: asked.iter(), lines: None }
+/// The addresses of a width that were asked for, in order; `-` stands for those on standard input, one a line, blank lines left out.
+pub fn addresses(asked: &[String], width: Width) -> Addresses<'_> {
+    Addresses { asked: asked.iter(), lines: None, width }
 }
 
 /// See [`addresses`].
 pub struct Addresses<'a> {
     asked: std::slice::Iter<'a, String>,
     lines: Option<Lines>,
+    width: Width,
 }
 
 impl Addresses<'_> {
@@ -24,10 +26,10 @@ impl Addresses<'_> {
 
     /// The next address of standard input, while there is one.
     fn next_line(&mut self) -> Option<Result<IpAddr, Failure>> {
-        let lines = self.lines.as_mut()?;
+        let (lines, width) = (self.lines.as_mut()?, self.width);
         let line = lines.find(|line| !matches!(line, Ok(line) if line.trim().is_empty()));
         match line {
-            Some(line) => Some(line.and_then(|line| address(line.trim()).map_err(|failure| lines.at_line(failure)))),
+            Some(line) => Some(line.and_then(|line| width.address(line.trim()).map_err(|failure| lines.at_line(failure)))),
             None => {
                 self.lines = None;
                 None
@@ -46,7 +48,7 @@ impl Iterator for Addresses<'_> {
             }
             let word = self.asked.next()?;
             if word != "-" {
-                return Some(address(word));
+                return Some(self.width.address(word));
             }
             match files::lines(Path::new("-")) {
                 Ok(lines) => self.lines = Some(lines),
@@ -59,10 +61,11 @@ impl Iterator for Addresses<'_> {
 /// Answers each address that was asked for, in turn. Answers go out before the next address is waited for.
 pub fn each_address(
     asked: &[String],
+    width: Width,
     out: &mut Out,
     mut answer: impl FnMut(IpAddr, &mut Out) -> Result<(), Failure>,
 ) -> Result<(), Failure> {
-    let mut addresses = addresses(asked);
+    let mut addresses = addresses(asked, width);
     while let Some(address) = addresses.next() {
         answer(address?, out)?;
         if addresses.waits() {
@@ -72,21 +75,13 @@ pub fn each_address(
     Ok(())
 }
 
-/// The most characters of an address.
-const WIDEST: usize = 39;
-
-/// The addresses' column: as wide as the widest, or, where they are yet to come, as any can be.
-pub fn width(asked: &[String]) -> usize {
+/// The characters of the addresses' column: those of the longest, or, where they are yet to come, of any that can be.
+pub fn column(asked: &[String], width: Width) -> usize {
     let shown = |word: &String| match word.as_str() {
-        "-" => WIDEST,
-        word => address(word).map_or(0, |address| address.to_string().len()),
+        "-" => width.longest_address(),
+        word => width.address(word).map_or(0, |address| address.to_string().len()),
     };
-    asked.iter().map(shown).max().unwrap_or(WIDEST)
-}
-
-/// An address as text.
-pub fn address(word: &str) -> Result<IpAddr, Failure> {
-    word.parse().map_err(|_| Failure::new(format!("{word:?} is no address; write 1.2.3.4 or 2001:db8::1, without a port")))
+    asked.iter().map(shown).max().unwrap_or(width.longest_address())
 }
 
 pub const RETURN: u32 = 0;

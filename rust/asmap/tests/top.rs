@@ -27,6 +27,9 @@ fn misuse_ends_with_2_and_says_what_to_do() {
     stored("misuse_shell", &answer(&["completions", "sh"]));
 }
 
+/// The subcommands that take a width.
+const WITH_WIDTH: [&str; 8] = ["check", "walk", "trace", "list", "diff", "undo-check", "unpack", "pack"];
+
 /// Every word of a help that names a subcommand's argument or option.
 fn options(help: &str) -> impl Iterator<Item = &str> {
     help.split_whitespace()
@@ -49,6 +52,10 @@ fn the_manual_page_has_what_the_help_has() {
         options(help).for_each(|option| assert!(page.contains(option), "{option} of {subcommand} is missing"));
         let example = help.lines().last().expect("an example").trim();
         assert!(example.contains("asmap ") && page.contains(example), "the example of {subcommand} is missing");
+        // The width, with what it is unless it is said, stands with the subcommands that take one.
+        let section = page.split(".SS ").find(|section| section.starts_with(&format!("\"asmap {subcommand} "))).expect("a section");
+        assert_eq!(section.contains("--width <BITS>") && section.contains("[default: 128]"), WITH_WIDTH.contains(&subcommand));
+        assert_eq!(help.contains("--width <BITS>"), WITH_WIDTH.contains(&subcommand), "{subcommand}");
     }
 }
 
@@ -86,6 +93,14 @@ fn completions_are_taken_by_their_shell() {
     let wanted = "source asmap.bash; COMP_WORDS=(asmap tr); COMP_CWORD=1; _asmap asmap tr asmap; echo \"${COMPREPLY[@]}\"";
     let bash = Command::new("bash").args(["-c", wanted]).current_dir(folder.path(".")).output().expect("bash runs");
     assert_eq!((text(&bash.stdout), text(&bash.stderr)), ("trace\n", ""));
+    for subcommand in ["check", "walk", "trace", "list", "diff", "undo-check", "unpack", "pack", "group", "pick", "scan", "filter"]
+    {
+        let words = format!("COMP_WORDS=(asmap {subcommand} --wi); COMP_CWORD=2; _asmap asmap --wi {subcommand}");
+        let line = format!("source asmap.bash; {words}; echo \"${{COMPREPLY[@]}}\"");
+        let bash = Command::new("bash").args(["-c", &line]).current_dir(folder.path(".")).output().expect("bash runs");
+        let wanted = if WITH_WIDTH.contains(&subcommand) { "--width\n" } else { "\n" };
+        assert_eq!((text(&bash.stdout), text(&bash.stderr)), (wanted, ""), "{subcommand}");
+    }
 }
 
 /// What the command prints on a terminal, which `script` makes.
