@@ -1,5 +1,5 @@
 //! What usually causes each refusal of the check. `tests/damage.rs` damages maps in the ways that are named here and looks which refusals
-//! that leads to.
+//! that leads to; `tests/width.rs` has maps of 128 bits checked at 32.
 use crate::files::MapFile;
 use corbastrigo::Refusal;
 
