@@ -4,7 +4,8 @@
 //! between them.
 use crate::asmap::AsMap;
 use crate::document::Refusal;
-use crate::listing::{list, Prefix};
+use crate::listing::{list_bits, Prefix};
+use crate::width::{Width, W128};
 use maps::Random;
 
 /// The bytes of a record.
@@ -87,8 +88,12 @@ pub fn compare_listings(old: &[Prefix], new: &[Prefix]) -> Vec<Change> {
 
 /// The same of any two maps, or the check's refusal of the old one, or else of the new one.
 pub fn compare(old: &[u8], new: &[u8]) -> Result<Vec<Change>, Refusal> {
-    let old = list(old)?;
-    let new = list(new).map_err(|reason| NEW_MAP + reason)?;
+    compare_bits(old, new, W128)
+}
+
+pub fn compare_bits(old: &[u8], new: &[u8], width: Width) -> Result<Vec<Change>, Refusal> {
+    let old = list_bits(old, width)?;
+    let new = list_bits(new, width).map_err(|reason| NEW_MAP + reason)?;
     Ok(compare_listings(&old, &new))
 }
 

@@ -1,6 +1,8 @@
 //! Document 01's check and walk, worked through step by step from its text, on the original's decoders. They say what the original
-//! does not: reasons, counts, depth, kinds of end and bits. Where the original has a say, `bin/replay_vectors` holds them to it.
+//! does not: reasons, counts, depth, kinds of end and bits. Where the original has a say, `bin/replay_vectors` holds them to it. Both take
+//! how many bits an address has (document 02, CR 3); document 01 has 128.
 use crate::asmap::*;
+use crate::width::{Width, W128};
 
 /// A number of document 01's table.
 pub type Refusal = u32;
@@ -127,13 +129,21 @@ impl Check<'_> {
 
 /// The check over 128 address bits.
 pub fn check(map: &[u8]) -> Verdict {
-    check_stop(map).0
+    check_bits(map, W128)
+}
+
+pub fn check_bits(map: &[u8], width: Width) -> Verdict {
+    check_stop_bits(map, width).0
 }
 
 /// The check, and the bit at which it stands when it accepts or refuses: before that step reads anything.
 pub fn check_stop(map: &[u8]) -> (Verdict, usize) {
+    check_stop_bits(map, W128)
+}
+
+pub fn check_stop_bits(map: &[u8], width: Width) -> (Verdict, usize) {
     let (previous, short_before) = (JUMP, false);
-    let mut check = Check { map, pos: 0, left: 128, previous, short_before, open: vec![], count: 0, depth: 0 };
+    let mut check = Check { map, pos: 0, left: width.bits(), previous, short_before, open: vec![], count: 0, depth: 0 };
     loop {
         let place = check.pos;
         if let Err(verdict) = check.step() {
@@ -142,6 +152,7 @@ pub fn check_stop(map: &[u8]) -> (Verdict, usize) {
     }
 }
 
+#[derive(Debug)]
 pub struct Walk {
     pub kind: &'static str,
     pub number: u32,
@@ -163,7 +174,21 @@ pub fn instruction_at(pos: &mut usize, map: &[u8]) -> (u32, u32) {
 
 /// The walk of any map by 16 address bytes.
 pub fn walk(map: &[u8], address: &[u8; 16]) -> Walk {
+    walk_all(map, address)
+}
+
+/// The walk of any map by an address of a width: 4 or 16 bytes, "any other length is 11".
+pub fn walk_bits(map: &[u8], address: &[u8], width: Width) -> Result<Walk, Refusal> {
+    match address.len() == width.bytes() {
+        true => Ok(walk_all(map, address)),
+        false => Err(11),
+    }
+}
+
+/// The walk begun with as many bits as the address has.
+fn walk_all(map: &[u8], address: &[u8]) -> Walk {
     let bit = |u: usize| address[u / 8] as u32 >> (7 - u % 8) & 1;
+    let bits = 8 * address.len();
     let (mut pos, mut used, mut default, mut count) = (0, 0, 0, 0);
     loop {
         let (opcode, operand) = instruction_at(&mut pos, map);
@@ -175,14 +200,14 @@ pub fn walk(map: &[u8], address: &[u8; 16]) -> Walk {
         match opcode {
             RETURN => return Walk { kind: "return", number: operand, count, bits: used },
             DEFAULT => default = operand,
-            JUMP if used == 128 => return abort(count, used),
+            JUMP if used == bits => return abort(count, used),
             JUMP => {
                 pos += operand as usize * bit(used) as usize;
                 used += 1;
             }
             _ => {
                 let length = bit_width(operand) as usize - 1;
-                if used + length > 128 {
+                if used + length > bits {
                     return abort(count, used);
                 }
                 for k in (0..length).rev() {

@@ -24,6 +24,7 @@ pub mod listing;
 pub mod picks;
 pub mod records;
 pub mod scan;
+pub mod width;
 
 pub use codes::instruction;
 

@@ -1,8 +1,10 @@
 //! Document 02's listing (CR 1), worked through from its sentences on the original's decoders: down the tree by places, with the prefix
 //! that leads there, in the order that is easiest to follow; what was found is put in order at the end. The original has no such call, but
-//! its walk says what a record has to say: `hold` asks it.
+//! its walk says what a record has to say: `hold` asks it. So it does at width 32 too: no walk of a map that is accepted there asks for a
+//! bit behind the first 32, so the original's walk by these and any 96 more ends as the walk at 32 does.
 use crate::asmap::{bit_width, AsMap, DEFAULT, JUMP, MATCH};
-use crate::document::{check, instruction_at, Refusal, Verdict};
+use crate::document::{check_bits, instruction_at, Refusal, Verdict};
+use crate::width::{Width, W128};
 use maps::Random;
 
 /// The bytes of a record.
@@ -76,10 +78,16 @@ pub fn list_accepted(map: &[u8]) -> Vec<Prefix> {
 
 /// The same of any map, or the check's refusal.
 pub fn list(map: &[u8]) -> Result<Vec<Prefix>, Refusal> {
-    match check(map) {
-        Verdict::Refused(reason) => Err(reason),
-        Verdict::Accepted { .. } => Ok(list_accepted(map)),
+    list_bits(map, W128)
+}
+
+pub fn list_bits(map: &[u8], width: Width) -> Result<Vec<Prefix>, Refusal> {
+    if let Verdict::Refused(reason) = check_bits(map, width) {
+        return Err(reason);
     }
+    let prefixes = list_accepted(map);
+    assert!(prefixes.iter().all(|prefix| prefix.length <= width.bits()), "a prefix longer than addresses are: {map:02x?}");
+    Ok(prefixes)
 }
 
 pub fn records(prefixes: &[Prefix]) -> Vec<u8> {

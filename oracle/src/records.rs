@@ -2,7 +2,8 @@
 use crate::asmap::pack_le;
 pub use crate::codes::in_range;
 use crate::codes::instruction;
-use crate::document::{check, instruction_at, Refusal, Verdict};
+use crate::document::{check_bits, instruction_at, Refusal, Verdict};
+use crate::width::{Width, W128};
 use maps::rewrite::Program;
 use std::iter::repeat_with;
 
@@ -11,7 +12,12 @@ pub fn record(opcode: u32, operand: u32, place: usize, length: usize) -> Vec<u8>
 }
 
 pub fn unpack(map: &[u8]) -> Result<Vec<u8>, Refusal> {
-    let count = match check(map) {
+    unpack_bits(map, W128)
+}
+
+/// The check at a width decides; the records are the same.
+pub fn unpack_bits(map: &[u8], width: Width) -> Result<Vec<u8>, Refusal> {
+    let count = match check_bits(map, width) {
         Verdict::Refused(reason) => return Err(reason),
         Verdict::Accepted { count, .. } => count,
     };
