@@ -9,12 +9,13 @@ use oracle::filters::message;
 use oracle::listing::{self, Prefix, RECORD};
 use oracle::picks::{self, By, Groups, Pick};
 use oracle::scan::{self, Scan};
+use oracle::width::{Width, W128};
 use oracle::{netaddr, records};
 use std::net::{IpAddr, Ipv4Addr, Ipv6Addr};
 use std::panic;
 
 /// The calls in the order in which the program counts them: letter and name.
-pub const CALLS: [(char, &str); 23] = [
+pub const CALLS: [(char, &str); 31] = [
     ('d', "code read"),
     ('e', "code written"),
     ('i', "instruction read"),
@@ -29,6 +30,14 @@ pub const CALLS: [(char, &str); 23] = [
     ('q', "bytes of a list"),
     ('v', "compare"),
     ('y', "bytes of a comparison"),
+    ('C', "check at a width"),
+    ('K', "where a check at a width stops"),
+    ('W', "walk at a width"),
+    ('U', "unpack at a width"),
+    ('L', "list at a width"),
+    ('Q', "bytes of a list at a width"),
+    ('V', "compare at a width"),
+    ('Y', "bytes of a comparison at a width"),
     ('n', "group by prefix"),
     ('g', "group"),
     ('h', "group, map unchecked"),
@@ -49,6 +58,8 @@ type Answer = Result<Vec<u8>, Refusal>;
 #[derive(Default)]
 pub struct List {
     pub lines: Vec<String>,
+    /// The number that is handed over as the width, where the calls that take one are asked.
+    width: Option<u32>,
 }
 
 /// What a pick is handed. The rooms are those of the places and of the groups. With `By::Prefixes` the map is there and not looked at.
@@ -76,6 +87,21 @@ fn output(written: &[u8], room: usize) -> Vec<u8> {
     bytes
 }
 
+/// A call that writes bytes: its answer, what its output holds then, and how many bytes it wrote.
+struct Written {
+    answer: Vec<u8>,
+    left: Vec<u8>,
+    bytes: Result<usize, Refusal>,
+}
+
+/// What was made, written to an output with so much room.
+fn written_to(made: Answer, room: usize) -> Written {
+    let fits = made.and_then(|bytes| if bytes.len() > room { Err(14) } else { Ok(bytes) });
+    let bytes = fits.as_ref().map(Vec::len).map_err(|&reason| reason);
+    let answer = answered(&bytes.map(|bytes| (bytes as u32).to_le_bytes().to_vec()));
+    Written { answer, left: output(&fits.unwrap_or_default(), room), bytes }
+}
+
 fn le<const N: usize>(numbers: impl IntoIterator<Item = [u8; N]>) -> Vec<u8> {
     numbers.into_iter().flatten().collect()
 }
@@ -94,6 +120,26 @@ impl List {
     fn add(&mut self, call: char, words: &[&[u8]]) {
         let words: Vec<String> = words.iter().map(|bytes| word::text(bytes)).collect();
         self.lines.push(format!("{call} {}", words.join(" ")));
+    }
+
+    /// Inside, the calls over maps that can take a width are asked with this number for it, and not those that have 128 bits.
+    pub fn at<T>(&mut self, width: u32, cases: impl FnOnce(&mut List) -> T) -> T {
+        let before = self.width.replace(width);
+        let made = cases(self);
+        self.width = before;
+        made
+    }
+
+    /// A line of such a call: its letter is capital where it takes a width, which is its first word then.
+    fn add_at_width(&mut self, call: char, words: &[&[u8]]) {
+        match self.width {
+            None => self.add(call, words),
+            Some(width) => self.add(call.to_ascii_uppercase(), &[&[&word::number(width.into())[..]], words].concat()),
+        }
+    }
+
+    fn width(&self) -> Result<Width, Refusal> {
+        self.width.map_or(Ok(W128), Width::of)
     }
 
     // ---- codes
@@ -153,72 +199,69 @@ impl List {
     // ---- maps
 
     /// Two lines: the check's, and that of where it stops.
-    pub fn check(&mut self, map: &[u8]) -> (Verdict, usize) {
-        let (verdict, place) = document::check_stop(map);
-        let answer = match verdict {
+    pub fn check(&mut self, map: &[u8]) -> Result<(Verdict, usize), Refusal> {
+        let checked = self.width().map(|width| checked(map, width));
+        let answer = checked.and_then(|(verdict, _)| match verdict {
             Verdict::Accepted { count, depth } => Ok([&count.to_le_bytes()[..], &[depth as u8]].concat()),
             Verdict::Refused(reason) => Err(reason),
-        };
-        assert_eq!(answer.is_ok(), asmap::sanity_check(map), "the original's verdict on {map:?}");
-        self.add('c', &[map, &answered(&answer)]);
+        });
+        self.add_at_width('c', &[map, &answered(&answer)]);
         let reason = answer.err().unwrap_or(0) as u8;
-        self.add('k', &[map, &answered(&Ok([&[reason][..], &place.to_le_bytes()].concat()))]);
-        (verdict, place)
+        let stop = checked.map(|(_, place)| [&[reason][..], &place.to_le_bytes()].concat());
+        self.add_at_width('k', &[map, &answered(&stop)]);
+        checked
     }
 
-    /// None where the address has not 16 bytes.
-    pub fn walk(&mut self, map: &[u8], address: &[u8]) -> Option<Walk> {
-        let walked = <&[u8; 16]>::try_from(address).ok().map(|address| walked(map, address));
-        let results = walked.as_ref().map(|walk| {
+    pub fn walk(&mut self, map: &[u8], address: &[u8]) -> Result<Walk, Refusal> {
+        let walked = self.width().and_then(|width| walked(map, address, width));
+        let results = walked.as_ref().map_err(|&reason| reason).map(|walk| {
             let kind = ["return", "difference", "abort"].iter().position(|&kind| kind == walk.kind).expect("a kind of end") + 1;
             [&[kind as u8][..], &le([walk.number, walk.count].map(u32::to_le_bytes)), &[walk.bits as u8]].concat()
         });
-        self.add('w', &[map, address, &answered(&results.ok_or(11))]);
+        self.add_at_width('w', &[map, address, &answered(&results)]);
         walked
     }
 
-    /// A call that writes bytes to an output with so much room. Hands back how many it wrote.
-    fn writes(&mut self, call: char, inputs: &[&[u8]], made: Answer, room: usize) -> Result<usize, Refusal> {
-        let fits = made.and_then(|bytes| if bytes.len() > room { Err(14) } else { Ok(bytes) });
-        let count = fits.as_ref().map(|bytes| (bytes.len() as u32).to_le_bytes().to_vec()).map_err(|&reason| reason);
-        let written = fits.as_ref().map(Vec::len).map_err(|&reason| reason);
-        self.add(call, &[inputs, &[&answered(&count), &output(&fits.unwrap_or_default(), room)]].concat());
-        written
-    }
-
     pub fn unpack(&mut self, map: &[u8], room: usize) {
-        let _ = self.writes('u', &[map], records::unpack(map), room);
+        let unpacked = self.width().and_then(|width| records::unpack_bits(map, width));
+        let Written { answer, left, .. } = written_to(unpacked, room);
+        self.add_at_width('u', &[map, &answer, &left]);
     }
 
     pub fn pack(&mut self, records: &[u8], room: usize) {
-        let _ = self.writes('p', &[records], records::pack(records), room);
+        let Written { answer, left, .. } = written_to(records::pack(records), room);
+        self.add('p', &[records, &answer, &left]);
     }
 
     /// A line for the bytes that a listing needs, and one for each output: `rooms` says how long they are where so many bytes are needed,
     /// or, of a map that is refused, a record's.
     pub fn list(&mut self, map: &[u8], rooms: fn(usize) -> Vec<usize>) -> Result<Vec<Prefix>, Refusal> {
-        let listed = listed(map);
+        let listed = self.width().and_then(|width| listed(map, width));
         let made = listed.as_ref().map(|prefixes| listing::records(prefixes)).map_err(|&reason| reason);
         let needed = made.as_ref().map(|bytes| bytes.len().to_le_bytes().to_vec()).map_err(|&reason| reason);
-        self.add('q', &[map, &answered(&needed)]);
+        self.add_at_width('q', &[map, &answered(&needed)]);
         for room in rooms(made.as_ref().map_or(RECORD, Vec::len)) {
-            let _ = self.writes('l', &[map], made.clone(), room);
+            let Written { answer, left, .. } = written_to(made.clone(), room);
+            self.add_at_width('l', &[map, &answer, &left]);
         }
         listed
     }
 
     /// A comparison into an output with so much room. Hands back how many bytes it wrote.
     pub fn compare_into(&mut self, maps: [&[u8]; 2], room: usize) -> Result<usize, Refusal> {
-        let made = compared(maps).map(|changes| changes::records(&changes));
-        self.writes('v', &maps, made, room)
+        let made = self.compared(maps).map(|changes| changes::records(&changes));
+        let Written { answer, left, bytes } = written_to(made, room);
+        self.add_at_width('v', &[maps[0], maps[1], &answer, &left]);
+        bytes
     }
 
     /// The bytes that a comparison needs, and the first address that differs, into an output with so much room.
     pub fn compare_bytes(&mut self, maps: [&[u8]; 2], room: usize) -> Result<usize, Refusal> {
-        let told = compared(maps).and_then(|changes| if room < 16 { Err(14) } else { Ok(changes) });
+        let told = self.compared(maps).and_then(|changes| if room < 16 { Err(14) } else { Ok(changes) });
         let first = told.as_ref().map_or(vec![], |changes| changes::first_of(changes).to_vec());
         let bytes = told.map(|changes| changes::RECORD * changes.len());
-        self.add('y', &[maps[0], maps[1], &answered(&bytes.map(|bytes| bytes.to_le_bytes().to_vec())), &output(&first, room)]);
+        let needed = bytes.map(|bytes| bytes.to_le_bytes().to_vec());
+        self.add_at_width('y', &[maps[0], maps[1], &answered(&needed), &output(&first, room)]);
         bytes
     }
 
@@ -229,7 +272,11 @@ impl List {
         for room in rooms(needed) {
             let _ = self.compare_into(maps, room);
         }
-        compared(maps)
+        self.compared(maps)
+    }
+
+    fn compared(&self, maps: [&[u8]; 2]) -> Result<Vec<Change>, Refusal> {
+        self.width().and_then(|width| compared(maps, width))
     }
 
     // ---- peers
@@ -323,26 +370,45 @@ fn is_lost(row: &Row, value: u32) -> bool {
     }
 }
 
-/// Of a map that is accepted the number is held to the original's, and no walk of it aborts.
-fn walked(map: &[u8], address: &[u8; 16]) -> Walk {
-    let walk = document::walk(map, address);
-    if let Some(accepted) = AsMap::from_bytes(map.to_vec()) {
-        assert_eq!(walk.number, accepted.interpret_ip16(address), "the original's number for {address:?} by {map:?}");
+/// The verdict is held to the original's at that width, and what is accepted at 32 is so at 128, with the same count and depth.
+fn checked(map: &[u8], width: Width) -> (Verdict, usize) {
+    let (verdict, place) = document::check_stop_bits(map, width);
+    let accepted = matches!(verdict, Verdict::Accepted { .. });
+    assert_eq!(accepted, asmap::sanity_check_bits(map, width.bits() as i32), "the original's verdict on {map:?} at {width:?}");
+    assert!(!accepted || document::check_stop(map) == (verdict, place), "{map:?} is accepted at {width:?}, and otherwise at 128");
+    (verdict, place)
+}
+
+/// An address as the original takes it: with zeros behind one of 4 bytes.
+fn with_zeros(address: &[u8]) -> [u8; 16] {
+    let mut bytes = [0; 16];
+    bytes[..address.len()].copy_from_slice(address);
+    bytes
+}
+
+/// Of a map that is accepted at that width the number is held to the original's, and no walk of it aborts or reads more than it may. The
+/// original has no walk at 32; but such a walk ends before it asks for a bit behind the address, so the original's goes the same way.
+fn walked(map: &[u8], address: &[u8], width: Width) -> Result<Walk, Refusal> {
+    let walk = document::walk_bits(map, address, width)?;
+    if asmap::sanity_check_bits(map, width.bits() as i32) {
+        let accepted = AsMap::from_bytes(map.to_vec()).expect("accepted at 128 too");
+        assert_eq!(walk.number, accepted.interpret_ip16(&with_zeros(address)), "the original's number for {address:?} by {map:?}");
         assert_ne!(walk.kind, "abort", "{address:?} by {map:?}");
+        assert!(walk.count <= 2 * width.bits() + 1, "{address:?} by {map:?}");
     }
-    walk
+    Ok(walk)
 }
 
 /// Of a map that is accepted the prefixes are held to the original's walk, by addresses that are the same in every run.
-fn listed(map: &[u8]) -> Result<Vec<Prefix>, Refusal> {
-    let prefixes = listing::list(map)?;
+fn listed(map: &[u8], width: Width) -> Result<Vec<Prefix>, Refusal> {
+    let prefixes = listing::list_bits(map, width)?;
     listing::hold(map, &prefixes, &mut Random(map.len() as u64));
     Ok(prefixes)
 }
 
 /// Of two maps that are accepted, what differs is held to the original's walk by both.
-fn compared(maps: [&[u8]; 2]) -> Result<Vec<Change>, Refusal> {
-    let changes = changes::compare(maps[0], maps[1])?;
+fn compared(maps: [&[u8]; 2], width: Width) -> Result<Vec<Change>, Refusal> {
+    let changes = changes::compare_bits(maps[0], maps[1], width)?;
     changes::hold(maps, &changes, &mut Random(maps.map(<[u8]>::len).iter().sum::<usize>() as u64));
     Ok(changes)
 }

@@ -34,6 +34,14 @@
 //!     q MAP ANSWER                       bytes of a list: how many (8)
 //!     v OLD NEW ANSWER CHANGES           two maps compared: bytes written (4)
 //!     y OLD NEW ANSWER FIRST             bytes of that: how many (8). FIRST holds the first address that differs
+//!     C WIDTH MAP ANSWER                 the same calls at a width, which is a number of four bytes: check,
+//!     K WIDTH MAP ANSWER                 where it stops,
+//!     W WIDTH MAP ADDRESS ANSWER         walk,
+//!     U WIDTH MAP ANSWER RECORDS         unpack,
+//!     L WIDTH MAP ANSWER PREFIXES        list,
+//!     Q WIDTH MAP ANSWER                 bytes of a list,
+//!     V WIDTH OLD NEW ANSWER CHANGES     two maps compared,
+//!     Y WIDTH OLD NEW ANSWER FIRST       bytes of that
 //!     n CANDIDATE ANSWER                 group by prefix: group (8)
 //!     g HAS CANDIDATE MAP ANSWER         group (8). HAS is 1 with a map, and 0 without, where the map is not to be looked at
 //!     h HAS CANDIDATE MAP ANSWER         the same with a map that is not checked
@@ -61,6 +69,7 @@ mod programs;
 mod sample;
 mod scans;
 mod tables;
+mod widths;
 mod word;
 
 use list::{List, CALLS};
@@ -80,6 +89,7 @@ fn main() {
     programs::cases(&mut list, &mut tables);
     listings::cases(&mut list, &mut tables);
     comparisons::cases(&mut list, &mut tables);
+    widths::cases(&mut list, &mut tables);
     peers::cases(&mut list, &mut tables);
     crowded::cases(&mut list);
     scans::cases(&mut list, &mut tables);

@@ -3,7 +3,7 @@ use crate::list::List;
 use crate::tables::{runs, Tables};
 use oracle::asmap::{self, pack_le, DEFAULT, JUMP, LONE_RETURN_ASMAP, LOOPBACK_ASMAP, MATCH, RETURN, TWO_PREFIX_ASMAP};
 use oracle::codes::operand_row;
-use oracle::document::{Verdict, Walk};
+use oracle::document::{Refusal, Verdict, Walk};
 use oracle::records::{self, record};
 use oracle::{bytes, instruction, EXAMPLES, MAPS};
 
@@ -86,9 +86,22 @@ fn said(walk: &Walk) -> String {
     format!("{} {} {} {}", walk.kind, walk.number, walk.count, walk.bits)
 }
 
+/// How a walk ended, or why there was none.
+pub fn walked(walk: Result<Walk, Refusal>) -> String {
+    walk.map_or_else(|reason| format!("refused {reason}"), |walk| said(&walk))
+}
+
+/// The verdict on a map, or the refusal of the width.
+pub fn verdict(checked: Result<(Verdict, usize), Refusal>) -> String {
+    match checked {
+        Err(reason) => format!("refused {reason}"),
+        Ok((Verdict::Accepted { count, depth }, _)) => format!("accepted, {count} instructions, depth {depth}"),
+        Ok((Verdict::Refused(reason), place)) => format!("refused {reason} at bit {place}"),
+    }
+}
+
 fn walk(list: &mut List, tables: &mut Tables, name: &str, map: &[u8], to: &str, address: &[u8]) {
-    let walked = list.walk(map, address).map_or("refused 11".into(), |walk| said(&walk));
-    tables.row("walk", format!("{name}, {to}: {walked}"));
+    tables.row("walk", format!("{name}, {to}: {}", walked(list.walk(map, address))));
 }
 
 /// Unpacked into outputs just long enough, one byte longer and one shorter, and packed again in the same way.
@@ -108,10 +121,7 @@ fn both_ways(list: &mut List, map: &[u8]) {
 /// A map by a name: all calls.
 fn map(list: &mut List, tables: &mut Tables, name: &str, text: &str, map: &[u8]) {
     list.heading(name);
-    let verdict = match list.check(map) {
-        (Verdict::Accepted { count, depth }, _) => format!("accepted, {count} instructions, depth {depth}"),
-        (Verdict::Refused(reason), place) => format!("refused {reason} at bit {place}"),
-    };
+    let verdict = verdict(list.check(map));
     let text = if text.is_empty() { String::new() } else { format!(" ({text})") };
     tables.row("check", format!("{name}{text}: {} bytes, {verdict}", map.len()));
     for (to, address) in [("zeros", [0; 16]), ("ones", [255; 16])] {

@@ -10,9 +10,9 @@ use std::net::Ipv6Addr;
 const SEED: u64 = 20_261_115;
 
 fn map(list: &mut List, random: &mut Random, map: &[u8]) {
-    list.check(map);
-    list.walk(map, &[0; 16]);
-    list.walk(map, &random.address());
+    let _ = list.check(map);
+    let _ = list.walk(map, &[0; 16]);
+    let _ = list.walk(map, &random.address());
     let records = records::unpack(map).unwrap_or_default();
     list.unpack(map, records.len() + 3);
     if !records.is_empty() {
@@ -128,7 +128,7 @@ pub fn cases(list: &mut List) {
     let random = &mut Random(SEED);
     list.heading("the maps above by an address made at random");
     for map in MAPS.iter().map(|(_, map)| map.to_vec()).chain(EXAMPLES.map(bytes)) {
-        list.walk(&map, &random.address());
+        let _ = list.walk(&map, &random.address());
     }
     programs(list, random);
     filters(list, random);

@@ -1,7 +1,7 @@
 //! The tables that teach something, as text: docs/tables/NAME.txt.
 
 /// Each with its first lines, which say what a row holds.
-const TABLES: [(&str, &str); 10] = [
+const TABLES: [(&str, &str); 11] = [
     (
         "codes",
         "The code of the first and the last value of each size of the four rows (document 01, Codes), and of values around each row.\n\
@@ -40,6 +40,14 @@ const TABLES: [(&str, &str); 10] = [
          is told; the new one's is 100 more.\n\
          Old map, new map: the bytes that the comparison needs, 28 a record, and the first address that differs, or its refusal; then each\n\
          record's prefix, the old number and the new one. At the end outputs of each length.",
+    ),
+    (
+        "width",
+        "Maps at both widths (document 02, CR 3); check.txt says how they are written as text. At 32 an IPv4 address is its four bytes, at\n\
+         128 it has its mapped form, which begins with 80 zeros and 16 ones. A map that is accepted at 32 is so at 128, with the same\n\
+         numbers; but there its first 32 bits are asked of the mapped form, so its walks end elsewhere: a map is for one width.\n\
+         Map: the check at both widths, as in check.txt. Address: the walk at both, with how it ends, the number, the instructions read\n\
+         whole and the address bits read. Then a map's prefixes at 32 with their numbers, addresses of other lengths, other widths.",
     ),
     (
         "groups",
