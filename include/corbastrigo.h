@@ -12,7 +12,8 @@
  * Lengths. A length that a call refuses is refused as a number: nothing behind its pointer is looked at. That is so of a map over the
  * limit (1, 101), of addresses (11, 17), of one candidate (13), of candidates that are no multiple of 20 bytes (13), of too many candidates
  * or occupied groups (12), of records that are no multiple of 16 bytes (16) and of outputs that are too short (14). The number of
- * records has no limit of its own: they are read up to the first that is wrong.
+ * records has no limit of its own: they are read up to the first that is wrong. A width that is refused (18) is so before anything else is
+ * looked at, lengths too.
  *
  * Threads. Any number of threads may be in any calls at once: the archive has no variables. Calls at once may read the same lists; what
  * one of them writes to is its own until it returns.
@@ -64,13 +65,14 @@ enum corbastrigo_refusal {
     CORBASTRIGO_NO_BITS = 8,             /* more address bits used than are left */
     CORBASTRIGO_TARGETS_CROSS = 9,       /* a jump's target at or past the innermost open jump's */
     CORBASTRIGO_SHORT_MATCHES = 10,      /* a MATCH shorter than 8 straight after one shorter than 8 */
-    CORBASTRIGO_ADDRESS_LENGTH = 11,     /* an address not of 16 bytes */
+    CORBASTRIGO_ADDRESS_LENGTH = 11,     /* an address not of 16 bytes, or at width 32 not of 4 */
     CORBASTRIGO_TOO_MANY = 12,           /* over 4,096 candidates or occupied groups */
     CORBASTRIGO_CANDIDATE = 13,          /* a candidate of another length or form */
     CORBASTRIGO_OUTPUT_TOO_SHORT = 14,   /* a lent output too short */
     CORBASTRIGO_OUT_OF_RANGE = 15,       /* an opcode or operand out of its range */
     CORBASTRIGO_RECORD = 16,             /* records not of 16 bytes, or a zero, place or length wrong */
-    CORBASTRIGO_RELAY_LENGTH = 17        /* an addrv2 address of a length that its network has not */
+    CORBASTRIGO_RELAY_LENGTH = 17,       /* an addrv2 address of a length that its network has not */
+    CORBASTRIGO_WIDTH = 18               /* a width that is neither 32 nor 128 */
 };
 
 /* Added to the check's refusal, 1 to 10, where a call takes two maps and the new one is refused. */
@@ -92,13 +94,14 @@ CORBASTRIGO_INLINE const char *corbastrigo_reason(uint8_t answer) {
     case CORBASTRIGO_NO_BITS: return "an instruction uses more address bits than are left";
     case CORBASTRIGO_TARGETS_CROSS: return "a jump's target lies at or past the innermost open jump's target";
     case CORBASTRIGO_SHORT_MATCHES: return "a MATCH shorter than 8 comes straight after a MATCH shorter than 8";
-    case CORBASTRIGO_ADDRESS_LENGTH: return "the address does not have 16 bytes";
+    case CORBASTRIGO_ADDRESS_LENGTH: return "the address does not have 16 bytes, or at width 32 not 4";
     case CORBASTRIGO_TOO_MANY: return "more than 4,096 candidates or occupied groups";
     case CORBASTRIGO_CANDIDATE: return "a candidate is not 20 bytes of a known form";
     case CORBASTRIGO_OUTPUT_TOO_SHORT: return "the output is too short";
     case CORBASTRIGO_OUT_OF_RANGE: return "the opcode or operand is out of its range";
     case CORBASTRIGO_RECORD: return "a record's length, zeros, place or size is wrong";
     case CORBASTRIGO_RELAY_LENGTH: return "the address has a length that its network does not have";
+    case CORBASTRIGO_WIDTH: return "the width is neither 32 nor 128";
     default: return "a reason that this version does not know";
     }
 }
@@ -107,6 +110,9 @@ CORBASTRIGO_INLINE const char *corbastrigo_reason(uint8_t answer) {
 #define CORBASTRIGO_MAX_MAP_BYTES 16777216
 #define CORBASTRIGO_MAX_CANDIDATES 4096
 #define CORBASTRIGO_ADDRESS_BYTES 16
+#define CORBASTRIGO_ADDRESS_BITS 128
+#define CORBASTRIGO_IPV4_BYTES 4
+#define CORBASTRIGO_IPV4_BITS 32
 #define CORBASTRIGO_CANDIDATE_BYTES 20
 #define CORBASTRIGO_RECORD_BYTES 16
 #define CORBASTRIGO_PREFIX_RECORD_BYTES 24
@@ -203,6 +209,47 @@ uint8_t corbastrigo_compare(const uint8_t *old_map, size_t old_map_len, const ui
  * above, 14 being a `first` of fewer than 16 bytes. */
 uint8_t corbastrigo_compare_bytes(const uint8_t *old_map, size_t old_map_len, const uint8_t *new_map, size_t new_map_len,
                                   uint8_t *first, size_t first_len, size_t *bytes);
+
+/* ---- Maps at a width. Each of these calls is the one above without `_bits`, over `width` address bits: 32 or 128. Any other width is
+ * refused with 18, first of all, by a comparison too, which adds nothing to it. At 128 each answers just as the call above.
+ *
+ * 32 is for maps without the 96 bits in front of a mapped IPv4 address. An address is the four bytes of an IPv4 address then, not its
+ * mapped form, its bit 0 the highest of the first byte. Records of prefixes and of changes are as long as at 128: the first 4 of their 16
+ * address bytes carry the address, the other 12 are zeros, and a prefix's length is 0 to 32.
+ *
+ * A map is for one width: what was checked at one is to be walked, listed and compared at that one. A map that is accepted at 32 is accepted
+ * at 128 too, but a walk there asks the first bits of the mapped form, not those of the IPv4 address. Groups and picks keep 128. */
+
+/* The check over `width` bits. Refusals 18, then 1 to 10. No map that is accepted here can abort a walk at the same width, and no such walk
+ * reads more than 2 * width + 1 instructions. */
+uint8_t corbastrigo_sanity_check_bits(const uint8_t *map, size_t map_len, uint32_t width, uint32_t *count, uint8_t *depth);
+
+/* Where that check stops, and why. Refusals 18, then 1. */
+uint8_t corbastrigo_sanity_check_stop_bits(const uint8_t *map, size_t map_len, uint32_t width, uint8_t *reason, size_t *place);
+
+/* The walk by an address of 4 bytes at width 32, of 16 at 128. Refusals 18, 11, 1. */
+uint8_t corbastrigo_interpret_bits(const uint8_t *map, size_t map_len, const uint8_t *address, size_t address_len, uint32_t width,
+                                   uint8_t *kind, uint32_t *number, uint32_t *count, uint8_t *bits);
+
+/* The instructions of a map that is accepted at the width. Refusals 18, then the check's at that width, then 14. */
+uint8_t corbastrigo_unpack_bits(const uint8_t *map, size_t map_len, uint32_t width, uint8_t *out, size_t out_len, size_t *written);
+
+/* The prefixes of such a map. `out` needs as many bytes as corbastrigo_list_bytes_bits says at the same width. Refusals 18, then the check's
+ * at that width, then 14. */
+uint8_t corbastrigo_list_bits(const uint8_t *map, size_t map_len, uint32_t width, uint8_t *out, size_t out_len, size_t *written);
+
+/* How many bytes that list has. Refusals 18, then the check's at that width. */
+uint8_t corbastrigo_list_bytes_bits(const uint8_t *map, size_t map_len, uint32_t width, size_t *bytes);
+
+/* Two maps compared, both at the one width. `out` needs as many bytes as corbastrigo_compare_bytes_bits says. Refusals 18, then at that
+ * width the check's of the old map, 1 to 10, and of the new one, 101 to 110, then 14. */
+uint8_t corbastrigo_compare_bits(const uint8_t *old_map, size_t old_map_len, const uint8_t *new_map, size_t new_map_len, uint32_t width,
+                                 uint8_t *out, size_t out_len, size_t *written);
+
+/* How many bytes that comparison has, and the first address that differs: 16 bytes of `first` at either width, at 32 the address and 12
+ * zeros. Refusals: as above, 14 being a `first` of fewer than 16 bytes. */
+uint8_t corbastrigo_compare_bytes_bits(const uint8_t *old_map, size_t old_map_len, const uint8_t *new_map, size_t new_map_len,
+                                       uint32_t width, uint8_t *first, size_t first_len, size_t *bytes);
 
 /* ---- Groups and picks. A candidate is 20 bytes: family 4 or 6, a zero, 16 address bytes (family 4: in the mapped form), the port
  * big-endian. `has_map` 0 is without a map: then `map` is not looked at (hand over NULL and 0), and a group is the prefix of the
