@@ -301,6 +301,203 @@ static void comparison_bytes(void) {
     IS(untouched(first + 16, 4), 4);
 }
 
+/* Each is 32 or 128 but for a bit, or in its lowest byte. */
+static const uint32_t no_widths[] = {0, 31, 33, 64, 127, 129, 160, 256 + 32, 256 + 128, UINT32_MAX - 95, UINT32_MAX};
+
+/* Every call that takes a width, refused for it: with a map that is sane, and with all that is refused later. */
+static void no_width(uint32_t width) {
+    uint8_t address[16] = {3, 4}, small = BEFORE(1), other = BEFORE(2), out[224];
+    uint32_t number = BEFORE(3), count = BEFORE(4);
+    size_t size = BEFORE(5);
+    memset(out, BEFORE(1), sizeof out);
+    IS(corbastrigo_sanity_check_bits(two_narrow, 8, width, &count, &small), CORBASTRIGO_WIDTH);
+    IS(corbastrigo_sanity_check_bits(too_long, sizeof too_long, width, &count, &small), CORBASTRIGO_WIDTH);
+    IS(corbastrigo_sanity_check_stop_bits(two_narrow, 8, width, &small, &size), CORBASTRIGO_WIDTH);
+    IS(corbastrigo_sanity_check_stop_bits(too_long, sizeof too_long, width, &small, &size), CORBASTRIGO_WIDTH);
+    IS(corbastrigo_interpret_bits(two_narrow, 8, address, 4, width, &small, &number, &count, &other), CORBASTRIGO_WIDTH);
+    IS(corbastrigo_interpret_bits(two_prefixes, 35, address, 16, width, &small, &number, &count, &other), CORBASTRIGO_WIDTH);
+    IS(corbastrigo_interpret_bits(too_long, sizeof too_long, address, 5, width, &small, &number, &count, &other), CORBASTRIGO_WIDTH);
+    IS(corbastrigo_unpack_bits(two_narrow, 8, width, out, 64, &size), CORBASTRIGO_WIDTH);
+    IS(corbastrigo_unpack_bits(none, 0, width, out, 0, &size), CORBASTRIGO_WIDTH);
+    IS(corbastrigo_list_bits(two_narrow, 8, width, out, 192, &size), CORBASTRIGO_WIDTH);
+    IS(corbastrigo_list_bits(too_long, sizeof too_long, width, out, 0, &size), CORBASTRIGO_WIDTH);
+    IS(corbastrigo_list_bytes_bits(two_narrow, 8, width, &size), CORBASTRIGO_WIDTH);
+    IS(corbastrigo_list_bytes_bits(none, 0, width, &size), CORBASTRIGO_WIDTH);
+    IS(corbastrigo_compare_bits(two_narrow, 8, lone_return, 3, width, out, 224, &size), CORBASTRIGO_WIDTH);
+    IS(corbastrigo_compare_bits(too_long, sizeof too_long, lone_return, 3, width, out, 0, &size), CORBASTRIGO_WIDTH);
+    IS(corbastrigo_compare_bytes_bits(two_narrow, 8, lone_return, 3, width, out, 16, &size), CORBASTRIGO_WIDTH);
+    IS(corbastrigo_compare_bytes_bits(lone_return, 3, too_long, sizeof too_long, width, out, 15, &size), CORBASTRIGO_WIDTH);
+    IS(small, BEFORE(1));
+    IS(other, BEFORE(2));
+    IS(number, BEFORE(3));
+    IS(count, BEFORE(4));
+    IS(size, BEFORE(5));
+    IS(untouched(out, sizeof out), sizeof out);
+}
+
+/* The four MATCHes of a byte in front of two_prefixes use up 32 bits: the one behind them starts at bit 72. */
+static void checks_at_a_width(void) {
+    uint32_t count = BEFORE(1);
+    uint8_t depth = BEFORE(2), reason = BEFORE(1);
+    size_t place = BEFORE(2);
+    IS(corbastrigo_sanity_check_bits(two_prefixes, 35, 32, &count, &depth), CORBASTRIGO_NO_BITS);
+    IS(corbastrigo_sanity_check_bits(too_long, sizeof too_long, 32, &count, &depth), CORBASTRIGO_MAP_TOO_LONG);
+    IS(corbastrigo_sanity_check_stop_bits(too_long, sizeof too_long, 32, &reason, &place), CORBASTRIGO_MAP_TOO_LONG);
+    IS(count, BEFORE(1));
+    IS(depth, BEFORE(2));
+    IS(reason, BEFORE(1));
+    IS(place, BEFORE(2));
+    IS(corbastrigo_sanity_check_bits(two_narrow, 8, 32, &count, &depth), 0);
+    IS(count, 4);
+    IS(depth, 1);
+    IS(corbastrigo_sanity_check_bits(two_prefixes, 35, 128, &count, &depth), 0);
+    IS(count, 16);
+    IS(depth, 1);
+    IS(corbastrigo_sanity_check_stop_bits(two_prefixes, 35, 32, &reason, &place), 0);
+    IS(reason, CORBASTRIGO_NO_BITS);
+    IS(place, 72);
+    IS(corbastrigo_sanity_check_stop_bits(two_narrow, 8, 32, &reason, &place), 0);
+    IS(reason, 0);
+    IS(place, 40);
+    IS(corbastrigo_sanity_check_stop_bits(two_prefixes, 34, 128, &reason, &place), 0);
+    IS(reason, CORBASTRIGO_CUT);
+    IS(place, 256);
+}
+
+static void walks_at_a_width(void) {
+    const uint8_t address[4] = {3, 4, 0, 0}, zeros[4] = {0, 0, 0, 0};
+    uint8_t wide[16], kind = BEFORE(1), bits = BEFORE(4);
+    uint32_t number = BEFORE(2), count = BEFORE(3);
+    mapped(wide, 3, 4, 0, 0);
+    IS(corbastrigo_interpret_bits(two_narrow, 8, address, 3, 32, &kind, &number, &count, &bits), CORBASTRIGO_ADDRESS_LENGTH);
+    IS(corbastrigo_interpret_bits(two_narrow, 8, wide, 16, 32, &kind, &number, &count, &bits), CORBASTRIGO_ADDRESS_LENGTH);
+    IS(corbastrigo_interpret_bits(two_prefixes, 35, address, 4, 128, &kind, &number, &count, &bits), CORBASTRIGO_ADDRESS_LENGTH);
+    IS(corbastrigo_interpret_bits(too_long, sizeof too_long, wide, 5, 32, &kind, &number, &count, &bits), CORBASTRIGO_ADDRESS_LENGTH);
+    IS(corbastrigo_interpret_bits(too_long, sizeof too_long, wide, 4, 32, &kind, &number, &count, &bits), CORBASTRIGO_MAP_TOO_LONG);
+    IS(kind, BEFORE(1));
+    IS(number, BEFORE(2));
+    IS(count, BEFORE(3));
+    IS(bits, BEFORE(4));
+    IS(corbastrigo_interpret_bits(two_narrow, 8, address, 4, 32, &kind, &number, &count, &bits), 0);
+    IS(kind, CORBASTRIGO_RETURNED);
+    IS(number, 2);
+    IS(count, 3);
+    IS(bits, 7);
+    IS(corbastrigo_interpret_bits(two_prefixes, 35, wide, 16, 128, &kind, &number, &count, &bits), 0);
+    IS(kind, CORBASTRIGO_RETURNED);
+    IS(number, 2);
+    IS(count, 15);
+    IS(bits, 103);
+    IS(corbastrigo_interpret_bits(two_prefixes, 35, zeros, 4, 32, &kind, &number, &count, &bits), 0);
+    IS(kind, CORBASTRIGO_ABORTED);
+    IS(number, 0);
+    IS(count, 5);
+    IS(bits, 32);
+}
+
+/* At 32 two_narrow has 4 instructions and 8 prefixes: 0.0.0.0/7, 2.0.0.0/7 and six that differ from the MATCH, the last 128.0.0.0/1. */
+static void records_at_a_width(void) {
+    static const uint8_t second[24] = {2, 0, 0, 0, 0, 0, 0, 0, 0, 0, 0, 0, 0, 0, 0, 0, 7, 0, 0, 0, 2, 0, 0, 0};
+    uint8_t list[2500];
+    size_t written = BEFORE(2), bytes = BEFORE(3);
+    memset(list, BEFORE(1), sizeof list);
+    IS(corbastrigo_unpack_bits(two_narrow, 8, 32, list, 63, &written), CORBASTRIGO_OUTPUT_TOO_SHORT);
+    IS(corbastrigo_unpack_bits(two_prefixes, 35, 32, list, 256, &written), CORBASTRIGO_NO_BITS);
+    IS(corbastrigo_list_bits(two_narrow, 8, 32, list, 191, &written), CORBASTRIGO_OUTPUT_TOO_SHORT);
+    IS(corbastrigo_list_bits(two_prefixes, 35, 32, list, sizeof list, &written), CORBASTRIGO_NO_BITS);
+    IS(corbastrigo_list_bytes_bits(two_prefixes, 35, 32, &bytes), CORBASTRIGO_NO_BITS);
+    IS(untouched(list, sizeof list), sizeof list);
+    IS(written, BEFORE(2));
+    IS(bytes, BEFORE(3));
+    IS(corbastrigo_unpack_bits(two_narrow, 8, 32, list, 64, &written), 0);
+    IS(written, 4 * CORBASTRIGO_RECORD_BYTES);
+    IS(list[16], CORBASTRIGO_JUMP);
+    IS(untouched(list + 64, sizeof list - 64), sizeof list - 64);
+    IS(corbastrigo_list_bytes_bits(two_narrow, 8, 32, &bytes), 0);
+    IS(bytes, 8 * CORBASTRIGO_PREFIX_RECORD_BYTES);
+    IS(corbastrigo_list_bits(two_narrow, 8, 32, list, 193, &written), 0);
+    IS(written, 192);
+    IS(memcmp(list + 24, second, 24), 0);
+    IS(list[7 * 24], 0x80);
+    IS(list[7 * 24 + 16], 1);
+    IS(untouched(list + 192, sizeof list - 192), sizeof list - 192);
+    IS(corbastrigo_unpack_bits(two_prefixes, 35, 128, list, 256, &written), 0);
+    IS(written, 256);
+    IS(corbastrigo_list_bytes_bits(two_prefixes, 35, 128, &bytes), 0);
+    IS(bytes, 2496);
+    IS(corbastrigo_list_bits(two_prefixes, 35, 128, list, 2496, &written), 0);
+    IS(written, 2496);
+    IS(list[103 * 24], 0x80);
+}
+
+/* Of two_narrow's prefixes all but the first go elsewhere than the lone RETURN, from 2.0.0.0 on. */
+static void comparisons_at_a_width(void) {
+    static const uint8_t change[28] = {2, 0, 0, 0, 0, 0, 0, 0, 0, 0, 0, 0, 0, 0, 0, 0, 7, 0, 0, 0, 2, 0, 0, 0, 1, 0, 0, 0};
+    uint8_t list[200], first[20];
+    size_t written = BEFORE(2), bytes = BEFORE(3);
+    memset(list, BEFORE(1), sizeof list);
+    memset(first, BEFORE(1), sizeof first);
+    IS(corbastrigo_compare_bits(two_narrow, 8, lone_return, 3, 32, list, 195, &written), CORBASTRIGO_OUTPUT_TOO_SHORT);
+    IS(corbastrigo_compare_bytes_bits(two_narrow, 8, lone_return, 3, 32, first, 15, &bytes), CORBASTRIGO_OUTPUT_TOO_SHORT);
+    IS(untouched(list, sizeof list), sizeof list);
+    IS(untouched(first, sizeof first), sizeof first);
+    IS(written, BEFORE(2));
+    IS(bytes, BEFORE(3));
+    IS(corbastrigo_compare_bytes_bits(two_narrow, 8, lone_return, 3, 32, first, sizeof first, &bytes), 0);
+    IS(bytes, 7 * CORBASTRIGO_CHANGE_RECORD_BYTES);
+    IS(memcmp(first, change, 16), 0);
+    IS(untouched(first + 16, 4), 4);
+    IS(corbastrigo_compare_bits(two_narrow, 8, lone_return, 3, 32, list, sizeof list, &written), 0);
+    IS(written, 196);
+    IS(memcmp(list, change, 28), 0);
+    IS(list[6 * 28], 0x80);
+    IS(untouched(list + 196, 4), 4);
+    IS(corbastrigo_compare_bits(lone_return, 3, two_narrow, 8, 32, list, 196, &written), 0);
+    IS(list[20], 1);
+    IS(list[24], 2);
+    IS(corbastrigo_compare_bits(two_prefixes, 35, two_prefixes, 35, 128, list, sizeof list, &written), 0);
+    IS(written, 0);
+    IS(corbastrigo_compare_bytes_bits(two_prefixes, 35, lone_return, 3, 128, first, 16, &bytes), 0);
+    IS(bytes, 103 * CORBASTRIGO_CHANGE_RECORD_BYTES);
+}
+
+/* Each reason at a width: the maps of the list above are refused alike at both. */
+static void refused_at_a_width(uint32_t width) {
+    uint8_t list[28];
+    uint32_t count = BEFORE(4);
+    uint8_t depth = BEFORE(5);
+    size_t written = BEFORE(2), bytes = BEFORE(3);
+    memset(list, BEFORE(1), sizeof list);
+    for (size_t i = 0; i < sizeof refused / sizeof *refused; i++) {
+        const uint8_t *const map = refused[i].map, reason = refused[i].reason;
+        const size_t len = refused[i].len;
+        IS(corbastrigo_sanity_check_bits(map, len, width, &count, &depth), reason);
+        IS(corbastrigo_unpack_bits(map, len, width, list, 0, &written), reason);
+        IS(corbastrigo_list_bits(map, len, width, list, sizeof list, &written), reason);
+        IS(corbastrigo_list_bytes_bits(map, len, width, &bytes), reason);
+        IS(corbastrigo_compare_bits(map, len, lone_return, 3, width, list, sizeof list, &written), reason);
+        IS(corbastrigo_compare_bits(lone_return, 3, map, len, width, list, 0, &written), CORBASTRIGO_NEW_MAP + reason);
+        IS(corbastrigo_compare_bytes_bits(map, len, map, len, width, list, 16, &bytes), reason);
+        IS(corbastrigo_compare_bytes_bits(lone_return, 3, map, len, width, list, 0, &bytes), CORBASTRIGO_NEW_MAP + reason);
+    }
+    IS(untouched(list, sizeof list), sizeof list);
+    IS(written, BEFORE(2));
+    IS(bytes, BEFORE(3));
+    IS(count, BEFORE(4));
+    IS(depth, BEFORE(5));
+}
+
+static void at_a_width(void) {
+    for (size_t i = 0; i < sizeof no_widths / sizeof *no_widths; i++)
+        no_width(no_widths[i]);
+    checks_at_a_width();
+    walks_at_a_width();
+    records_at_a_width();
+    comparisons_at_a_width();
+    refused_at_a_width(CORBASTRIGO_IPV4_BITS);
+    refused_at_a_width(CORBASTRIGO_ADDRESS_BITS);
+}
+
 static void groups(void) {
     uint8_t peer[20];
     uint64_t group = BEFORE(1);
@@ -429,6 +626,7 @@ int main(void) {
     refused_comparisons();
     comparisons();
     comparison_bytes();
+    at_a_width();
     groups();
     scan();
     pick(corbastrigo_select_diverse, CORBASTRIGO_MAP_ENDS);

@@ -32,6 +32,19 @@ static void make(void) {
     candidate(peers + 60, 1, 2, 0, 1);
 }
 
+/* The same by the calls that take a width. */
+static void long_map_at(size_t len, uint32_t width) {
+    IS(corbastrigo_sanity_check_bits(barred, len, width, &count, &small), CORBASTRIGO_MAP_TOO_LONG);
+    IS(corbastrigo_sanity_check_stop_bits(barred, len, width, &small, &size), CORBASTRIGO_MAP_TOO_LONG);
+    IS(corbastrigo_interpret_bits(barred, len, barred, width / 8, width, &small, &number, &count, &other), CORBASTRIGO_MAP_TOO_LONG);
+    IS(corbastrigo_unpack_bits(barred, len, width, barred, 16, &size), CORBASTRIGO_MAP_TOO_LONG);
+    IS(corbastrigo_list_bits(barred, len, width, barred, 24, &size), CORBASTRIGO_MAP_TOO_LONG);
+    IS(corbastrigo_list_bytes_bits(barred, len, width, &size), CORBASTRIGO_MAP_TOO_LONG);
+    IS(corbastrigo_compare_bits(barred, len, lone_return, 3, width, barred, 28, &size), CORBASTRIGO_MAP_TOO_LONG);
+    IS(corbastrigo_compare_bytes_bits(lone_return, 3, barred, len, width, barred, 16, &size),
+       CORBASTRIGO_NEW_MAP + CORBASTRIGO_MAP_TOO_LONG);
+}
+
 /* Barred memory as a map of a length over the limit. */
 static void long_map(size_t len) {
     for (size_t i = 0; i < 4; i++)
@@ -47,6 +60,8 @@ static void long_map(size_t len) {
     IS(corbastrigo_compare(lone_return, 3, barred, len, barred, 28, &size), CORBASTRIGO_NEW_MAP + CORBASTRIGO_MAP_TOO_LONG);
     IS(corbastrigo_compare_bytes(barred, len, lone_return, 3, barred, 16, &size), CORBASTRIGO_MAP_TOO_LONG);
     IS(corbastrigo_compare_bytes(lone_return, 3, barred, len, barred, 16, &size), CORBASTRIGO_NEW_MAP + CORBASTRIGO_MAP_TOO_LONG);
+    for (uint32_t width = 32; width <= 128; width += 96)
+        long_map_at(len, width);
     IS(corbastrigo_netgroup(peer, 20, 1, barred, len, &group), CORBASTRIGO_MAP_TOO_LONG);
     IS(corbastrigo_netgroup_unchecked(peer, 20, 1, barred, len, &group), CORBASTRIGO_MAP_TOO_LONG);
     for (size_t i = 0; i < 2; i++)
@@ -57,6 +72,8 @@ static void long_map(size_t len) {
 /* Barred memory as an address, a candidate or records of a length that is refused. */
 static void wrong_length(size_t len) {
     IS(corbastrigo_interpret(barred, 3, barred, len, &small, &number, &count, &other), CORBASTRIGO_ADDRESS_LENGTH);
+    IS(corbastrigo_interpret_bits(barred, 3, barred, len, 32, &small, &number, &count, &other), CORBASTRIGO_ADDRESS_LENGTH);
+    IS(corbastrigo_interpret_bits(barred, 3, barred, len, 128, &small, &number, &count, &other), CORBASTRIGO_ADDRESS_LENGTH);
     IS(corbastrigo_clearnet_unroutable(barred, len, &small), CORBASTRIGO_ADDRESS_LENGTH);
     for (unsigned id = 1; id <= 6; id++)
         IS(corbastrigo_addrv2_skip_relay((uint8_t)id, barred, len, 8333, &small), CORBASTRIGO_RELAY_LENGTH);
@@ -92,6 +109,31 @@ static void too_many_groups(size_t len) {
     IS(total, BEFORE(3));
 }
 
+/* Barred memory in every place, of lengths that are right at 32: a width that is refused is so first. */
+static void no_width(uint32_t width) {
+    IS(corbastrigo_sanity_check_bits(barred, 3, width, &count, &small), CORBASTRIGO_WIDTH);
+    IS(corbastrigo_sanity_check_stop_bits(barred, 3, width, &small, &size), CORBASTRIGO_WIDTH);
+    IS(corbastrigo_interpret_bits(barred, 3, barred, 4, width, &small, &number, &count, &other), CORBASTRIGO_WIDTH);
+    IS(corbastrigo_unpack_bits(barred, 3, width, barred, 16, &size), CORBASTRIGO_WIDTH);
+    IS(corbastrigo_list_bits(barred, 3, width, barred, 24, &size), CORBASTRIGO_WIDTH);
+    IS(corbastrigo_list_bytes_bits(barred, 3, width, &size), CORBASTRIGO_WIDTH);
+    IS(corbastrigo_compare_bits(barred, 3, barred, 3, width, barred, 28, &size), CORBASTRIGO_WIDTH);
+    IS(corbastrigo_compare_bytes_bits(barred, 3, barred, 3, width, barred, 16, &size), CORBASTRIGO_WIDTH);
+}
+
+/* Outputs that are too short at 32, and an address of 4 bytes at the end of what can be read: nothing behind it is. */
+static void short_at_32(void) {
+    uint8_t *const last = (uint8_t *)end_of_lent - 4;
+    memset(last, 0, 4);
+    IS(corbastrigo_interpret_bits(two_prefixes, 35, last, 4, 32, &small, &number, &count, &other), 0);
+    IS(small, CORBASTRIGO_ABORTED);
+    IS(other, 32);
+    IS(corbastrigo_unpack_bits(two_narrow, 8, 32, barred, 63, &size), CORBASTRIGO_OUTPUT_TOO_SHORT);
+    IS(corbastrigo_list_bits(two_narrow, 8, 32, barred, 191, &size), CORBASTRIGO_OUTPUT_TOO_SHORT);
+    IS(corbastrigo_compare_bits(two_narrow, 8, lone_return, 3, 32, barred, 195, &size), CORBASTRIGO_OUTPUT_TOO_SHORT);
+    IS(corbastrigo_compare_bytes_bits(two_narrow, 8, lone_return, 3, 32, barred, 15, &size), CORBASTRIGO_OUTPUT_TOO_SHORT);
+}
+
 static void refused_lengths(void) {
     uint8_t list[256];
     long_map(CORBASTRIGO_MAX_MAP_BYTES + 1);
@@ -102,6 +144,10 @@ static void refused_lengths(void) {
     wrong_lists(corbastrigo_select_diverse_unchecked);
     too_many_groups(CORBASTRIGO_MAX_CANDIDATES + 1);
     too_many_groups(SIZE_MAX);
+    no_width(0);
+    no_width(256 + 32);
+    no_width(UINT32_MAX);
+    short_at_32();
     IS(corbastrigo_addrv2_skip_relay(7, barred, 513, 8333, &small), CORBASTRIGO_RELAY_LENGTH);
     IS(corbastrigo_unpack(two_prefixes, 35, barred, 255, &size), CORBASTRIGO_OUTPUT_TOO_SHORT);
     IS(corbastrigo_unpack(two_prefixes, 35, list, 256, &size), 0);
@@ -125,6 +171,26 @@ static void no_map(uint8_t *map, size_t len) {
         IS(selections[i](peers, 80, NULL, 0, 4, 0, map, len, places, 4, taken, 4, &total, &first, &examined, &instructions), 0);
         IS(first, 3);
     }
+}
+
+/* The calls that take a width; 18 too is told without a look at any pointer. */
+static void empty_at_32(void) {
+    size = BEFORE(1);
+    IS(corbastrigo_sanity_check_bits(NULL, 0, 32, &count, &small), CORBASTRIGO_MAP_ENDS);
+    IS(corbastrigo_sanity_check_stop_bits(NULL, 0, 31, &small, &size), CORBASTRIGO_WIDTH);
+    IS(corbastrigo_interpret_bits(two_narrow, 8, NULL, 0, 32, &small, &number, &count, &other), CORBASTRIGO_ADDRESS_LENGTH);
+    IS(corbastrigo_interpret_bits(NULL, 0, address, 4, 32, &small, &number, &count, &other), 0);
+    IS(small, CORBASTRIGO_ABORTED);
+    IS(corbastrigo_unpack_bits(NULL, 0, 32, NULL, 0, &size), CORBASTRIGO_MAP_ENDS);
+    IS(corbastrigo_list_bits(two_narrow, 8, 32, NULL, 0, &size), CORBASTRIGO_OUTPUT_TOO_SHORT);
+    IS(corbastrigo_list_bytes_bits(NULL, 0, 32, &size), CORBASTRIGO_MAP_ENDS);
+    IS(corbastrigo_compare_bits(lone_return, 3, NULL, 0, 32, NULL, 0, &size), CORBASTRIGO_NEW_MAP + CORBASTRIGO_MAP_ENDS);
+    IS(corbastrigo_compare_bytes_bits(two_narrow, 8, lone_return, 3, 32, NULL, 0, &size), CORBASTRIGO_OUTPUT_TOO_SHORT);
+    IS(size, BEFORE(1));
+    IS(corbastrigo_compare_bits(two_narrow, 8, two_narrow, 8, 32, NULL, 0, &size), 0);
+    IS(size, 0);
+    IS(corbastrigo_sanity_check_stop_bits(NULL, 0, 32, &small, &size), 0);
+    IS(small, CORBASTRIGO_MAP_ENDS);
 }
 
 /* Maps that say the same need no output. */
@@ -169,6 +235,7 @@ static void empty_lists(void) {
     IS(corbastrigo_list_bytes(NULL, 0, &size), CORBASTRIGO_MAP_ENDS);
     IS(size, 0);
     empty_comparisons();
+    empty_at_32();
     IS(corbastrigo_prefix_group(NULL, 0, &group), CORBASTRIGO_CANDIDATE);
     IS(corbastrigo_netgroup(NULL, 0, 0, NULL, 0, &group), CORBASTRIGO_CANDIDATE);
     IS(corbastrigo_netgroup(peer, 20, 1, NULL, 0, &group), CORBASTRIGO_MAP_ENDS);

@@ -48,6 +48,14 @@ static const uint8_t embedded[16] = {0, 0x64, 0xff, 0x9b, 0, 1, 0, 0, 0, 0, 0, 0
     call(list_bytes, OF_OTHERS, (MAP, &size))                                                                                          \
     call(compare, OF_TWO_MAPS, (MAPS, changes, sizeof changes, &size))                                                                 \
     call(compare_bytes, OF_TWO_MAPS, (MAPS, changes, sizeof changes, &size))                                                           \
+    call(sanity_check_bits, OF_OTHERS, (MAP, 128, &count, &small))                                                                     \
+    call(sanity_check_stop_bits, OF_OTHERS, (MAP, 128, &small, &size))                                                                 \
+    call(interpret_bits, OF_OTHERS, (MAP, peers + 2, 16, 128, &small, &number, &count, &other))                                        \
+    call(unpack_bits, OF_OTHERS, (MAP, 128, records, sizeof records, &size))                                                           \
+    call(list_bits, OF_OTHERS, (MAP, 128, prefixes, sizeof prefixes, &size))                                                           \
+    call(list_bytes_bits, OF_OTHERS, (MAP, 128, &size))                                                                                \
+    call(compare_bits, OF_TWO_MAPS, (MAPS, 128, changes, sizeof changes, &size))                                                       \
+    call(compare_bytes_bits, OF_TWO_MAPS, (MAPS, 128, changes, sizeof changes, &size))                                                 \
     call(prefix_group, OF_OTHERS, (peers, 20, &wide))                                                                                  \
     call(netgroup, OF_OTHERS, (peers, 20, 1, MAP, &wide))                                                                              \
     call(netgroup_unchecked, OF_OTHERS, (peers, 20, 1, MAP, &wide))                                                                    \
