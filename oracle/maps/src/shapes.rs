@@ -56,14 +56,25 @@ fn behind(tree: &mut Tree, bytes: &[u8], root: usize) -> usize {
     bytes.iter().rev().fold(root, |then, &byte| tree.push(Node::Match(256 | u32::from(byte), then)))
 }
 
+/// By trial a leaf takes about 5.5 bytes with the instructions above it.
+fn leaves_of(bytes: usize) -> u64 {
+    (bytes as u64 * 2 / 11).max(4)
+}
+
 /// The shape of real maps: a deep IPv4 tree under ::ffff:0:0/96 and a smaller tree of 2000::/3, of about `bytes` bytes.
 pub fn real(random: &mut Random, bytes: usize) -> Vec<u8> {
     let mut tree = Tree::default();
-    // By trial a leaf takes about 5.5 bytes with the instructions above it.
-    let leaves = (bytes as u64 * 2 / 11).max(4);
+    let leaves = leaves_of(bytes);
     let ipv4 = grow(&mut tree, random, leaves * 4 / 5, 32, Before::Other);
     let ipv6 = grow(&mut tree, random, leaves / 5, 61, Before::Other);
     let root = families(&mut tree, ipv4, ipv6);
+    tree.bytes(root)
+}
+
+/// The IPv4 tree of such a map by itself, without the mapped bits: over 32 address bits, of about `bytes` bytes.
+pub fn ipv4(random: &mut Random, bytes: usize) -> Vec<u8> {
+    let mut tree = Tree::default();
+    let root = grow(&mut tree, random, leaves_of(bytes), 32, Before::Other);
     tree.bytes(root)
 }
 
