@@ -1,4 +1,5 @@
 //! The library's calls with everything that they leave behind: the answer, then each lent number and place after the call.
+use crate::bits;
 use corbastrigo_sys as sys;
 
 /// What lent numbers and places hold before a call.
@@ -10,6 +11,11 @@ pub const BEFORE_SIZE: usize = BEFORE64 as usize;
 
 pub type Read = (u8, u32, usize);
 pub type Written = (u8, u64, usize);
+pub type Check = (u8, u32, u8);
+pub type Stop = (u8, u8, usize);
+pub type Walk = (u8, u8, u32, u32, u8);
+/// Of a call that writes bytes to an output.
+pub type Bytes = (u8, usize, Vec<u8>);
 
 pub fn decode(call: sys::Decode, map: &[u8], at: usize) -> Read {
     let (mut value, mut next) = (BEFORE32, BEFORE_SIZE);
@@ -35,19 +41,19 @@ pub fn encode_instruction(opcode: u32, operand: u32) -> Written {
     (answer, bits, len)
 }
 
-pub fn sanity_check(map: &[u8]) -> (u8, u32, u8) {
+pub fn sanity_check(map: &[u8]) -> Check {
     let (mut count, mut depth) = (BEFORE32, BEFORE);
     let answer = unsafe { sys::corbastrigo_sanity_check(map.as_ptr(), map.len(), &mut count, &mut depth) };
     (answer, count, depth)
 }
 
-pub fn sanity_check_stop(map: &[u8]) -> (u8, u8, usize) {
+pub fn sanity_check_stop(map: &[u8]) -> Stop {
     let (mut reason, mut place) = (BEFORE, BEFORE_SIZE);
     let answer = unsafe { sys::corbastrigo_sanity_check_stop(map.as_ptr(), map.len(), &mut reason, &mut place) };
     (answer, reason, place)
 }
 
-pub fn interpret(map: &[u8], address: &[u8]) -> (u8, u8, u32, u32, u8) {
+pub fn interpret(map: &[u8], address: &[u8]) -> Walk {
     let (mut kind, mut number, mut count, mut bits) = (BEFORE, BEFORE32, BEFORE32, BEFORE);
     let answer = unsafe {
         let (at, len) = (address.as_ptr(), address.len());
@@ -56,21 +62,21 @@ pub fn interpret(map: &[u8], address: &[u8]) -> (u8, u8, u32, u32, u8) {
     (answer, kind, number, count, bits)
 }
 
-fn records(call: sys::Records, input: &[u8], room: usize) -> (u8, usize, Vec<u8>) {
+fn records(call: sys::Records, input: &[u8], room: usize) -> Bytes {
     let (mut out, mut written) = (vec![BEFORE; room], BEFORE_SIZE);
     let answer = unsafe { call(input.as_ptr(), input.len(), out.as_mut_ptr(), out.len(), &mut written) };
     (answer, written, out)
 }
 
-pub fn unpack(map: &[u8], room: usize) -> (u8, usize, Vec<u8>) {
+pub fn unpack(map: &[u8], room: usize) -> Bytes {
     records(sys::corbastrigo_unpack, map, room)
 }
 
-pub fn pack(list: &[u8], room: usize) -> (u8, usize, Vec<u8>) {
+pub fn pack(list: &[u8], room: usize) -> Bytes {
     records(sys::corbastrigo_pack, list, room)
 }
 
-pub fn list(map: &[u8], room: usize) -> (u8, usize, Vec<u8>) {
+pub fn list(map: &[u8], room: usize) -> Bytes {
     records(sys::corbastrigo_list, map, room)
 }
 
@@ -83,19 +89,81 @@ pub fn list_bytes(map: &[u8]) -> (u8, usize) {
 /// A call that compares two maps and writes bytes.
 type OfTwo = unsafe extern "C" fn(*const u8, usize, *const u8, usize, *mut u8, usize, *mut usize) -> u8;
 
-fn of_two(call: OfTwo, [old, new]: [&[u8]; 2], room: usize) -> (u8, usize, Vec<u8>) {
+fn of_two(call: OfTwo, [old, new]: [&[u8]; 2], room: usize) -> Bytes {
     let (mut out, mut number) = (vec![BEFORE; room], BEFORE_SIZE);
     let answer = unsafe { call(old.as_ptr(), old.len(), new.as_ptr(), new.len(), out.as_mut_ptr(), out.len(), &mut number) };
     (answer, number, out)
 }
 
-pub fn compare(maps: [&[u8]; 2], room: usize) -> (u8, usize, Vec<u8>) {
+pub fn compare(maps: [&[u8]; 2], room: usize) -> Bytes {
     of_two(sys::corbastrigo_compare, maps, room)
 }
 
-pub fn compare_bytes(maps: [&[u8]; 2], room: usize) -> (u8, usize, Vec<u8>) {
+pub fn compare_bytes(maps: [&[u8]; 2], room: usize) -> Bytes {
     of_two(sys::corbastrigo_compare_bytes, maps, room)
 }
+
+// ---- at a width
+
+pub fn sanity_check_bits(map: &[u8], width: u32) -> Check {
+    let (mut count, mut depth) = (BEFORE32, BEFORE);
+    let answer = unsafe { bits::corbastrigo_sanity_check_bits(map.as_ptr(), map.len(), width, &mut count, &mut depth) };
+    (answer, count, depth)
+}
+
+pub fn sanity_check_stop_bits(map: &[u8], width: u32) -> Stop {
+    let (mut reason, mut place) = (BEFORE, BEFORE_SIZE);
+    let answer = unsafe { bits::corbastrigo_sanity_check_stop_bits(map.as_ptr(), map.len(), width, &mut reason, &mut place) };
+    (answer, reason, place)
+}
+
+pub fn interpret_bits(map: &[u8], address: &[u8], width: u32) -> Walk {
+    let (mut kind, mut number, mut count, mut bits) = (BEFORE, BEFORE32, BEFORE32, BEFORE);
+    let answer = unsafe {
+        let (at, len) = (address.as_ptr(), address.len());
+        bits::corbastrigo_interpret_bits(map.as_ptr(), map.len(), at, len, width, &mut kind, &mut number, &mut count, &mut bits)
+    };
+    (answer, kind, number, count, bits)
+}
+
+fn records_bits(call: bits::RecordsBits, map: &[u8], width: u32, room: usize) -> Bytes {
+    let (mut out, mut written) = (vec![BEFORE; room], BEFORE_SIZE);
+    let answer = unsafe { call(map.as_ptr(), map.len(), width, out.as_mut_ptr(), out.len(), &mut written) };
+    (answer, written, out)
+}
+
+pub fn unpack_bits(map: &[u8], width: u32, room: usize) -> Bytes {
+    records_bits(bits::corbastrigo_unpack_bits, map, width, room)
+}
+
+pub fn list_bits(map: &[u8], width: u32, room: usize) -> Bytes {
+    records_bits(bits::corbastrigo_list_bits, map, width, room)
+}
+
+pub fn list_bytes_bits(map: &[u8], width: u32) -> (u8, usize) {
+    let mut bytes = BEFORE_SIZE;
+    let answer = unsafe { bits::corbastrigo_list_bytes_bits(map.as_ptr(), map.len(), width, &mut bytes) };
+    (answer, bytes)
+}
+
+fn of_two_bits(call: bits::CompareBits, [old, new]: [&[u8]; 2], width: u32, room: usize) -> Bytes {
+    let (mut out, mut number) = (vec![BEFORE; room], BEFORE_SIZE);
+    let answer = unsafe {
+        let (at, len) = (out.as_mut_ptr(), out.len());
+        call(old.as_ptr(), old.len(), new.as_ptr(), new.len(), width, at, len, &mut number)
+    };
+    (answer, number, out)
+}
+
+pub fn compare_bits(maps: [&[u8]; 2], width: u32, room: usize) -> Bytes {
+    of_two_bits(bits::corbastrigo_compare_bits, maps, width, room)
+}
+
+pub fn compare_bytes_bits(maps: [&[u8]; 2], width: u32, room: usize) -> Bytes {
+    of_two_bits(bits::corbastrigo_compare_bytes_bits, maps, width, room)
+}
+
+// ---- peers
 
 pub fn prefix_group(candidate: &[u8]) -> (u8, u64) {
     let mut group = BEFORE64;

@@ -27,6 +27,19 @@ impl<'a> Listed<'a> {
     }
 }
 
+/// The bytes that a comparison needs and the first address, told into an output of `room` bytes.
+pub fn told(made: &Result<Vec<Change>, Refusal>, room: usize) -> calls::Bytes {
+    let mut out = vec![BEFORE; room];
+    match made {
+        Err(reason) => (number(*reason), BEFORE_SIZE, out),
+        Ok(_) if room < 16 => (14, BEFORE_SIZE, out),
+        Ok(changes) => {
+            out[..16].copy_from_slice(&changes::first_of(changes));
+            (0, RECORD * changes.len(), out)
+        }
+    }
+}
+
 /// Two maps with what differs between them, and how many prefixes both have.
 pub struct Pair<'a> {
     maps: [&'a Known<'a>; 2],
@@ -52,19 +65,6 @@ impl<'a> Pair<'a> {
     /// How many bytes a comparison needs; of refused maps, one that could be needed.
     fn needed(&self) -> usize {
         self.made.as_ref().map_or(RECORD, |changes| RECORD * changes.len())
-    }
-
-    /// The bytes needed and the first address, into an output of `room` bytes.
-    fn told(&self, room: usize) -> (u8, usize, Vec<u8>) {
-        let mut out = vec![BEFORE; room];
-        match &self.made {
-            Err(reason) => (number(*reason), BEFORE_SIZE, out),
-            Ok(_) if room < 16 => (14, BEFORE_SIZE, out),
-            Ok(changes) => {
-                out[..16].copy_from_slice(&changes::first_of(changes));
-                (0, RECORD * changes.len(), out)
-            }
-        }
     }
 
     /// With so many bytes the library need not count first.
@@ -96,7 +96,7 @@ impl<'a> Pair<'a> {
 
     fn bytes_told(&self, tally: &mut Tally, room: usize) {
         let answer = calls::compare_bytes(self.bytes(), room);
-        tally.same("bytes of a comparison", &(self.bytes(), room), answer, self.told(room));
+        tally.same("bytes of a comparison", &(self.bytes(), room), answer, told(&self.made, room));
     }
 
     /// Outputs that are none, that are longer, and that are a byte short of where nothing is counted first.
@@ -158,34 +158,34 @@ fn other_operand(random: &mut Random, program: &mut Program) {
     }
 }
 
-/// A program in other words that say the same of every address.
-fn in_other_words(random: &mut Random, program: &Program) -> Program {
+/// A program in other words that say the same of every address of so many bits.
+fn in_other_words(random: &mut Random, program: &Program, bits: u32) -> Program {
     match random.below(4) {
         0 => program.late(),
         1 => program.spelt(random),
-        2 => program.halved(128, random),
-        _ => program.spelt(random).halved(128, random).late(),
+        2 => program.halved(bits, random),
+        _ => program.spelt(random).halved(bits, random).late(),
     }
 }
 
-/// A map made of another, and whether it says the same by construction.
-fn made_of(random: &mut Random, map: &[u8]) -> (Vec<u8>, bool) {
+/// A map made of another that is accepted over so many bits, as it is then, and whether it says the same by construction.
+pub fn made_of(random: &mut Random, map: &[u8], bits: u32) -> (Vec<u8>, bool) {
     let mut program = records::program(map);
     let mut place = random.below(program.count() as u64) as usize;
     match random.below(8) {
         0 => return (map.to_vec(), true),
-        1 | 2 => return (in_other_words(random, &program).bytes(), true),
+        1 | 2 => return (in_other_words(random, &program, bits).bytes(), true),
         3 => {
-            let (node, left) = program.at(&mut place, 128).expect("an instruction of the program");
+            let (node, left) = program.at(&mut place, bits).expect("an instruction of the program");
             *node = records::program(&shapes::random(random, 8, left));
         }
         4 => {
-            let (node, _) = program.at(&mut place, 128).expect("an instruction of the program");
+            let (node, _) = program.at(&mut place, bits).expect("an instruction of the program");
             other_operand(random, node);
-            program = in_other_words(random, &program);
+            program = in_other_words(random, &program, bits);
         }
         _ => {
-            let (node, _) = program.at(&mut place, 128).expect("an instruction of the program");
+            let (node, _) = program.at(&mut place, bits).expect("an instruction of the program");
             other_operand(random, node);
         }
     }
@@ -196,7 +196,7 @@ fn made_of(random: &mut Random, map: &[u8]) -> (Vec<u8>, bool) {
 fn drawn(tally: &mut Tally, random: &mut Random, every: bool) {
     let (map, other) = (tree(random), tree(random));
     both_orders(tally, random, [&map, &other], false, every);
-    let (made, same) = made_of(random, &map);
+    let (made, same) = made_of(random, &map, 128);
     both_orders(tally, random, [&map, &made], same, every);
     let [copies, others] = [&map, &other].map(|map| damaged(map, random));
     for _ in 0..3 {

@@ -4,7 +4,7 @@ use crate::calls::{self, BEFORE, BEFORE32, BEFORE64, BEFORE_SIZE};
 use crate::changes::{Listed, Pair};
 use crate::programs::{known, walks, Known};
 use crate::tally::Tally;
-use crate::{codes, listing, picks, Form};
+use crate::{codes, listing, picks, widths, Form};
 use corbastrigo_sys as sys;
 use maps::{shapes, Random};
 use oracle::asmap::{RETURN, TWO_PREFIX_ASMAP};
@@ -17,7 +17,7 @@ const LIMIT: usize = 16_777_216;
 const HUGE: &str = "a map of about the limit";
 
 /// Every call that takes a map, with one byte too many.
-fn one_too_many(tally: &mut Tally, map: &[u8]) {
+fn one_too_many(tally: &mut Tally, random: &mut Random, map: &[u8]) {
     assert_eq!(map.len(), LIMIT + 1);
     for call in [
         sys::corbastrigo_decode_type as sys::Decode,
@@ -39,6 +39,7 @@ fn one_too_many(tally: &mut Tally, map: &[u8]) {
     tally.same("list", &HUGE, calls::list(map, 0), (1, BEFORE_SIZE, vec![]));
     tally.same("bytes of a list", &HUGE, calls::list_bytes(map), (1, BEFORE_SIZE));
     two_with_one_too_many(tally, map);
+    at_a_width(tally, random, map);
     let mut candidate = [0; 20];
     candidate[0] = 6;
     let (checked, unchecked) = (sys::corbastrigo_netgroup, sys::corbastrigo_netgroup_unchecked);
@@ -48,6 +49,31 @@ fn one_too_many(tally: &mut Tally, map: &[u8]) {
     tally.same("group", &HUGE, calls::netgroup(checked, &candidate[1..], 1, map), (13, BEFORE64));
     picks::all_ways(tally, &candidate, &[], 1, map, [1, 1]);
     picks::all_ways(tally, &candidate, &[], 1, map, [1, 0]);
+}
+
+/// The same map by the calls that take a width; a width that is none is refused first.
+fn at_a_width(tally: &mut Tally, random: &mut Random, map: &[u8]) {
+    let sane = &[0; 3][..];
+    for width in [32, 128] {
+        let right = vec![0; width as usize / 8];
+        let walk = |reason| (reason, BEFORE, BEFORE32, BEFORE32, BEFORE);
+        tally.same("check at a width", &HUGE, calls::sanity_check_bits(map, width), (1, BEFORE32, BEFORE));
+        tally.same("where it stops at a width", &HUGE, calls::sanity_check_stop_bits(map, width), (1, BEFORE, BEFORE_SIZE));
+        tally.same("walk at a width", &HUGE, calls::interpret_bits(map, &right, width), walk(1));
+        tally.same("walk at a width", &HUGE, calls::interpret_bits(map, &right[1..], width), walk(11));
+        tally.same("bytes of a list at a width", &HUGE, calls::list_bytes_bits(map, width), (1, BEFORE_SIZE));
+        for room in [0, 64] {
+            let refused = |reason| (reason, BEFORE_SIZE, vec![BEFORE; room]);
+            tally.same("unpack at a width", &HUGE, calls::unpack_bits(map, width, room), refused(1));
+            tally.same("list at a width", &HUGE, calls::list_bits(map, width, room), refused(1));
+            for (maps, reason) in [([map, sane], 1), ([sane, map], 101), ([map, map], 1)] {
+                tally.same("compare at a width", &HUGE, calls::compare_bits(maps, width, room), refused(reason));
+                let told = calls::compare_bytes_bits(maps, width, room);
+                tally.same("bytes of a comparison at a width", &HUGE, told, refused(reason));
+            }
+        }
+    }
+    (0..20).for_each(|_| widths::no_width(tally, random, [map, sane]));
 }
 
 /// The same map as the old one, as the new one and as both, and beside a map that is refused.
@@ -122,7 +148,7 @@ fn greatest(tally: &mut Tally, random: &mut Random, form: Form) {
     listing::list(tally, &spoiled);
     map[LIMIT - 1] ^= 0x80;
     map.push(0);
-    one_too_many(tally, &map);
+    one_too_many(tally, random, &map);
 }
 
 /// Records of the longest instruction that fill the limit to its last bit, and one bit more.

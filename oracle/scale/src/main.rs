@@ -3,6 +3,7 @@
 //! call is one comparison.
 //!
 //!     scale [--long] [--seed N]
+mod bits;
 mod calls;
 mod changes;
 mod codes;
@@ -15,6 +16,7 @@ mod programs;
 mod safe;
 mod scans;
 mod tally;
+mod widths;
 
 use maps::Random;
 use std::time::{Instant, SystemTime, UNIX_EPOCH};
@@ -60,7 +62,7 @@ fn main() {
     println!("scale: seed {seed}");
     let mut tally = Tally::default();
     type Part = fn(&mut Tally, &mut Random, Form);
-    let parts: [(&str, Part); 12] = [
+    let parts: [(&str, Part); 13] = [
         ("codes", codes::run),
         ("short strings", programs::short_strings),
         ("random bytes", programs::random_bytes),
@@ -73,6 +75,7 @@ fn main() {
         ("two maps", changes::run),
         ("occupied scans", scans::run),
         ("crowded picks", crowded::run),
+        ("widths", widths::run),
     ];
     for (number, (name, part)) in parts.into_iter().enumerate() {
         let (start, before) = (Instant::now(), tally.compared);

@@ -5,8 +5,9 @@ use crate::{codes, listing, Form};
 use corbastrigo_sys as sys;
 use maps::{shapes, Random};
 use oracle::asmap::{self, AsMap};
-use oracle::document::{self, Refusal, Verdict};
+use oracle::document::{self, Refusal, Verdict, Walk};
 use oracle::records;
+use oracle::width::{Width, W128};
 
 /// The answer of a fallible call of the oracle, as a number.
 pub fn number(refusal: Refusal) -> u8 {
@@ -26,33 +27,45 @@ fn past_its_check(map: &[u8]) -> AsMap {
     unsafe { std::mem::transmute::<Vec<u8>, AsMap>(map.to_vec()) }
 }
 
-/// Checks a map within the limit, and holds document 01's verdict to the original's.
-pub fn known<'a>(tally: &mut Tally, map: &'a [u8]) -> Known<'a> {
-    let (verdict, place) = document::check_stop(map);
-    let (expected, accepted) = match verdict {
+/// Document 01's verdict on a map within the limit at a width, held to the original's, and what the calls leave behind then.
+pub fn checked(tally: &mut Tally, map: &[u8], width: Width) -> (Verdict, calls::Check, calls::Stop) {
+    let (verdict, place) = document::check_stop_bits(map, width);
+    let (check, accepted) = match verdict {
         Verdict::Accepted { count, depth } => ((0, count, depth as u8), true),
         Verdict::Refused(reason) => ((number(reason), BEFORE32, BEFORE), false),
     };
-    assert_eq!(asmap::sanity_check(map), accepted, "document 01 and the original differ on {map:02x?}");
+    let theirs = asmap::sanity_check_bits(map, width.bits() as i32);
+    assert_eq!(theirs, accepted, "document 01 and the original differ on {map:02x?} at {width:?}");
     *(if accepted { &mut tally.accepted } else { &mut tally.refused }) += 1;
-    tally.same("check", &map, calls::sanity_check(map), expected);
-    tally.same("where it stops", &map, calls::sanity_check_stop(map), (0, expected.0, place));
+    (verdict, check, (0, check.0, place))
+}
+
+/// Checks a map within the limit.
+pub fn known<'a>(tally: &mut Tally, map: &'a [u8]) -> Known<'a> {
+    let (verdict, check, stop) = checked(tally, map, W128);
+    tally.same("check", &map, calls::sanity_check(map), check);
+    tally.same("where it stops", &map, calls::sanity_check_stop(map), stop);
     Known { map, verdict, original: past_its_check(map) }
+}
+
+/// What a walk leaves behind. No walk of a map that is accepted at its width aborts, or reads more instructions than it may.
+pub fn walk_left(walk: &Walk, accepted: bool, width: Width) -> calls::Walk {
+    let kind = match walk.kind {
+        "return" => 1,
+        "difference" => 2,
+        _ => 3,
+    };
+    assert!(!accepted || kind != 3 && walk.count <= 2 * width.bits() + 1, "an accepted map aborts, or its walk is too long");
+    (0, kind, walk.number, walk.count, walk.bits as u8)
 }
 
 impl Known<'_> {
     pub fn walk(&self, tally: &mut Tally, address: &[u8; 16]) {
         let walked = document::walk(self.map, address);
-        let kind = match walked.kind {
-            "return" => 1,
-            "difference" => 2,
-            _ => 3,
-        };
         let theirs = self.original.interpret_ip16(address);
         assert_eq!(theirs, walked.number, "document 01 and the original differ on {:02x?}", self.map);
         let accepted = matches!(self.verdict, Verdict::Accepted { .. });
-        assert!(!accepted || kind != 3, "an accepted map aborts");
-        let expected = (0, kind, walked.number, walked.count, walked.bits as u8);
+        let expected = walk_left(&walked, accepted, W128);
         tally.same("walk", &(self.map, address), calls::interpret(self.map, address), expected);
         self.group(tally, address, walked.number);
     }
@@ -90,7 +103,7 @@ impl Known<'_> {
 }
 
 /// What a call that writes bytes leaves behind in an output of `room` bytes.
-pub fn left(made: &Result<Vec<u8>, Refusal>, room: usize) -> (u8, usize, Vec<u8>) {
+pub fn left(made: &Result<Vec<u8>, Refusal>, room: usize) -> calls::Bytes {
     let mut out = vec![BEFORE; room];
     match made {
         Err(reason) => (number(*reason), BEFORE_SIZE, out),
