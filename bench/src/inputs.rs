@@ -43,6 +43,22 @@ fn shaped(seed: u64, [lone, small]: [&[u8]; 2]) -> Vec<(String, Vec<u8>)> {
     maps
 }
 
+/// Maps over 32 address bits: the IPv4 trees of real maps by size, then the worst shapes.
+pub fn narrow() -> Vec<(String, Vec<u8>)> {
+    let random = &mut Random(SEED);
+    let mut maps: Vec<(&str, Vec<u8>)> = [1_000, 10_000, 100_000, 1_500_000, 16_000_000]
+        .iter()
+        .map(|&bytes| ("IPv4 tree", shapes::ipv4(&mut Random(SEED), bytes)))
+        .collect();
+    maps.extend([
+        ("nothing but jumps, 18 deep", shapes::jumps(random, 18)),
+        ("two-bit matches, 10 deep", shapes::two_bit_matches(random, 10)),
+        ("32 jumps open", shapes::comb(random, 32, false)),
+        ("32 jumps, one open", shapes::comb(random, 32, true)),
+    ]);
+    maps.into_iter().map(|(name, map)| (format!("{name}, {} bytes", map.len()), map)).collect()
+}
+
 /// Two more for the listing, since real maps of 1.6 MB have about 850,000 prefixes: one of that size and one of about that many prefixes.
 pub fn listed() -> [(String, Vec<u8>); 2] {
     listed_by(SEED)
@@ -104,6 +120,12 @@ pub fn addresses(v6: u64, count: usize) -> Vec<[u8; 16]> {
         false => ipv4(random).to_ipv6_mapped().octets(),
     };
     (0..count).map(|_| address(random)).collect()
+}
+
+/// IPv4 addresses, each its four bytes and twelve zeros.
+pub fn narrow_addresses(count: usize) -> Vec<[u8; 16]> {
+    let random = &mut Random(SEED + 1);
+    (0..count).map(|_| (u128::from(u32::from(ipv4(random))) << 96).to_be_bytes()).collect()
 }
 
 /// Candidates, one in five of IPv6.

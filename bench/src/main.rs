@@ -2,7 +2,7 @@
 //! in docs/BENCHMARKS.md.
 //!
 //!     bench                     every part
-//!     bench PART...             some of: check walk records list compare codes group pick scan filters growth
+//!     bench PART...             some of: check walk width records list compare codes group pick scan filters growth
 //!     bench --count CALL BYTES  one call of ours alone, many times, for a tool that counts instructions: check, walk, unpack,
 //!                               pack, list or compare
 #[allow(dead_code)]
@@ -24,11 +24,16 @@ mod error {
     }
 }
 
+#[allow(dead_code)]
+#[path = "../../oracle/scale/src/bits.rs"]
+mod bits;
+
 mod compare;
 mod inputs;
 mod measure;
 mod occupied;
 mod parts;
+mod width;
 
 fn main() {
     let words: Vec<String> = std::env::args().skip(1).collect();
@@ -36,12 +41,13 @@ fn main() {
     if let ["--count", call, bytes] = words[..] {
         return parts::count(call, bytes.parse().expect("a number of bytes"));
     }
-    let all = ["check", "walk", "records", "list", "compare", "codes", "group", "pick", "scan", "filters", "growth"];
+    let all = ["check", "walk", "width", "records", "list", "compare", "codes", "group", "pick", "scan", "filters", "growth"];
     let chosen = if words.is_empty() { &all[..] } else { &words };
     for part in chosen {
         match *part {
             "check" => parts::check(),
             "walk" => parts::walk(),
+            "width" => width::part(),
             "records" => parts::records(),
             "list" => parts::list(),
             "compare" => compare::part(),

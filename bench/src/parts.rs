@@ -19,7 +19,7 @@ pub fn ours_check(map: &[u8]) -> u32 {
     count
 }
 
-fn ours_walk(map: &[u8], address: &[u8; 16]) -> (u32, u32) {
+pub fn ours_walk(map: &[u8], address: &[u8; 16]) -> (u32, u32) {
     let (mut kind, mut number, mut count, mut bits) = (0, 0, 0, 0);
     unsafe {
         sys::corbastrigo_interpret(
