@@ -65,7 +65,7 @@ enum corbastrigo_refusal {
     CORBASTRIGO_NO_BITS = 8,             /* more address bits used than are left */
     CORBASTRIGO_TARGETS_CROSS = 9,       /* a jump's target at or past the innermost open jump's */
     CORBASTRIGO_SHORT_MATCHES = 10,      /* a MATCH shorter than 8 straight after one shorter than 8 */
-    CORBASTRIGO_ADDRESS_LENGTH = 11,     /* an address not of 16 bytes, or at width 32 not of 4 */
+    CORBASTRIGO_ADDRESS_LENGTH = 11,     /* an address not of 16 bytes, or of 4 at width 32 */
     CORBASTRIGO_TOO_MANY = 12,           /* over 4,096 candidates or occupied groups */
     CORBASTRIGO_CANDIDATE = 13,          /* a candidate of another length or form */
     CORBASTRIGO_OUTPUT_TOO_SHORT = 14,   /* a lent output too short */
@@ -94,7 +94,7 @@ CORBASTRIGO_INLINE const char *corbastrigo_reason(uint8_t answer) {
     case CORBASTRIGO_NO_BITS: return "an instruction uses more address bits than are left";
     case CORBASTRIGO_TARGETS_CROSS: return "a jump's target lies at or past the innermost open jump's target";
     case CORBASTRIGO_SHORT_MATCHES: return "a MATCH shorter than 8 comes straight after a MATCH shorter than 8";
-    case CORBASTRIGO_ADDRESS_LENGTH: return "the address does not have 16 bytes, or at width 32 not 4";
+    case CORBASTRIGO_ADDRESS_LENGTH: return "the address does not have 16 bytes, or 4 at width 32";
     case CORBASTRIGO_TOO_MANY: return "more than 4,096 candidates or occupied groups";
     case CORBASTRIGO_CANDIDATE: return "a candidate is not 20 bytes of a known form";
     case CORBASTRIGO_OUTPUT_TOO_SHORT: return "the output is too short";
