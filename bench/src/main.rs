@@ -24,10 +24,6 @@ mod error {
     }
 }
 
-#[allow(dead_code)]
-#[path = "../../oracle/scale/src/bits.rs"]
-mod bits;
-
 mod compare;
 mod inputs;
 mod measure;

@@ -2,16 +2,17 @@
 //! such a map ends before it asks for a bit behind the first 32, so walks at 128 by the same four bytes and twelve zeros, ours and the
 //! original's, read the same instructions, and stand beside it.
 use crate::asmap::{self, AsMap};
+use crate::inputs;
 use crate::measure::{best, both, head, in_turn, ratios, row, timed};
 use crate::parts::{keep, ours_walk};
-use crate::{bits, inputs};
+use corbastrigo_sys as sys;
 use std::hint::black_box;
 
 const WIDTH: u32 = 32;
 
 fn ours_check(map: &[u8]) -> u32 {
     let (mut count, mut depth) = (0, 0);
-    let answer = unsafe { bits::corbastrigo_sanity_check_bits(map.as_ptr(), map.len(), WIDTH, &mut count, &mut depth) };
+    let answer = unsafe { sys::corbastrigo_sanity_check_bits(map.as_ptr(), map.len(), WIDTH, &mut count, &mut depth) };
     assert_eq!(answer, 0, "the shapes are accepted");
     count
 }
@@ -21,7 +22,7 @@ fn ours_narrow_walk(map: &[u8], address: &[u8; 16]) -> (u32, u32) {
     let (mut kind, mut number, mut count, mut bits) = (0, 0, 0, 0);
     unsafe {
         let (at, len) = (address.as_ptr(), 4);
-        bits::corbastrigo_interpret_bits(map.as_ptr(), map.len(), at, len, WIDTH, &mut kind, &mut number, &mut count, &mut bits)
+        sys::corbastrigo_interpret_bits(map.as_ptr(), map.len(), at, len, WIDTH, &mut kind, &mut number, &mut count, &mut bits)
     };
     (number, count)
 }

@@ -1,5 +1,4 @@
 //! The library's calls with everything that they leave behind: the answer, then each lent number and place after the call.
-use crate::bits;
 use corbastrigo_sys as sys;
 
 /// What lent numbers and places hold before a call.
@@ -105,15 +104,18 @@ pub fn compare_bytes(maps: [&[u8]; 2], room: usize) -> Bytes {
 
 // ---- at a width
 
+/// A call that compares two maps at a width and writes bytes.
+type OfTwoBits = unsafe extern "C" fn(*const u8, usize, *const u8, usize, u32, *mut u8, usize, *mut usize) -> u8;
+
 pub fn sanity_check_bits(map: &[u8], width: u32) -> Check {
     let (mut count, mut depth) = (BEFORE32, BEFORE);
-    let answer = unsafe { bits::corbastrigo_sanity_check_bits(map.as_ptr(), map.len(), width, &mut count, &mut depth) };
+    let answer = unsafe { sys::corbastrigo_sanity_check_bits(map.as_ptr(), map.len(), width, &mut count, &mut depth) };
     (answer, count, depth)
 }
 
 pub fn sanity_check_stop_bits(map: &[u8], width: u32) -> Stop {
     let (mut reason, mut place) = (BEFORE, BEFORE_SIZE);
-    let answer = unsafe { bits::corbastrigo_sanity_check_stop_bits(map.as_ptr(), map.len(), width, &mut reason, &mut place) };
+    let answer = unsafe { sys::corbastrigo_sanity_check_stop_bits(map.as_ptr(), map.len(), width, &mut reason, &mut place) };
     (answer, reason, place)
 }
 
@@ -121,32 +123,32 @@ pub fn interpret_bits(map: &[u8], address: &[u8], width: u32) -> Walk {
     let (mut kind, mut number, mut count, mut bits) = (BEFORE, BEFORE32, BEFORE32, BEFORE);
     let answer = unsafe {
         let (at, len) = (address.as_ptr(), address.len());
-        bits::corbastrigo_interpret_bits(map.as_ptr(), map.len(), at, len, width, &mut kind, &mut number, &mut count, &mut bits)
+        sys::corbastrigo_interpret_bits(map.as_ptr(), map.len(), at, len, width, &mut kind, &mut number, &mut count, &mut bits)
     };
     (answer, kind, number, count, bits)
 }
 
-fn records_bits(call: bits::RecordsBits, map: &[u8], width: u32, room: usize) -> Bytes {
+fn records_bits(call: sys::RecordsBits, map: &[u8], width: u32, room: usize) -> Bytes {
     let (mut out, mut written) = (vec![BEFORE; room], BEFORE_SIZE);
     let answer = unsafe { call(map.as_ptr(), map.len(), width, out.as_mut_ptr(), out.len(), &mut written) };
     (answer, written, out)
 }
 
 pub fn unpack_bits(map: &[u8], width: u32, room: usize) -> Bytes {
-    records_bits(bits::corbastrigo_unpack_bits, map, width, room)
+    records_bits(sys::corbastrigo_unpack_bits, map, width, room)
 }
 
 pub fn list_bits(map: &[u8], width: u32, room: usize) -> Bytes {
-    records_bits(bits::corbastrigo_list_bits, map, width, room)
+    records_bits(sys::corbastrigo_list_bits, map, width, room)
 }
 
 pub fn list_bytes_bits(map: &[u8], width: u32) -> (u8, usize) {
     let mut bytes = BEFORE_SIZE;
-    let answer = unsafe { bits::corbastrigo_list_bytes_bits(map.as_ptr(), map.len(), width, &mut bytes) };
+    let answer = unsafe { sys::corbastrigo_list_bytes_bits(map.as_ptr(), map.len(), width, &mut bytes) };
     (answer, bytes)
 }
 
-fn of_two_bits(call: bits::CompareBits, [old, new]: [&[u8]; 2], width: u32, room: usize) -> Bytes {
+fn of_two_bits(call: OfTwoBits, [old, new]: [&[u8]; 2], width: u32, room: usize) -> Bytes {
     let (mut out, mut number) = (vec![BEFORE; room], BEFORE_SIZE);
     let answer = unsafe {
         let (at, len) = (out.as_mut_ptr(), out.len());
@@ -156,11 +158,11 @@ fn of_two_bits(call: bits::CompareBits, [old, new]: [&[u8]; 2], width: u32, room
 }
 
 pub fn compare_bits(maps: [&[u8]; 2], width: u32, room: usize) -> Bytes {
-    of_two_bits(bits::corbastrigo_compare_bits, maps, width, room)
+    of_two_bits(sys::corbastrigo_compare_bits, maps, width, room)
 }
 
 pub fn compare_bytes_bits(maps: [&[u8]; 2], width: u32, room: usize) -> Bytes {
-    of_two_bits(bits::corbastrigo_compare_bytes_bits, maps, width, room)
+    of_two_bits(sys::corbastrigo_compare_bytes_bits, maps, width, room)
 }
 
 // ---- peers

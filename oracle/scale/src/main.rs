@@ -3,7 +3,6 @@
 //! call is one comparison.
 //!
 //!     scale [--long] [--seed N]
-mod bits;
 mod calls;
 mod changes;
 mod codes;
