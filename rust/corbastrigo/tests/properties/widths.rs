@@ -1,13 +1,12 @@
 //! Maps of 32 address bits over drawn programs, what the two widths have to do with each other, and that a width which is none leaves
 //! everything.
-use crate::calls::{BEFORE, BEFORE32, BEFORE_SIZE};
+use crate::calls::{self, BEFORE, BEFORE32, BEFORE_SIZE};
 use crate::holds;
 use crate::order::any_maps;
 use crate::prefixes::failed;
 use crate::programs::{programs_of, walked};
 use corbastrigo::{changes, compare, compare_bits, first_change, first_change_bits, interpret_bits, list_bits, unpack_bits};
 use corbastrigo::{prefixes, sanity_check_stop_bits, AsMap4, Prefix, Refusal};
-use corbastrigo_sys as sys;
 use proptest::prelude::*;
 
 #[test]
@@ -93,38 +92,21 @@ fn only_the_bits_that_are_left_tell_the_widths_apart() {
     assert!(met.get().iter().all(|&maps| maps > 100), "{:?} maps accepted, refused at both, refused for 32 bits", met.get());
 }
 
-/// What the calls answer at a width, with every lent number and place after it.
-fn left_at(map: &[u8], width: u32) -> Vec<(u8, bool)> {
-    let (at, len, address) = (map.as_ptr(), map.len(), [0; 4]);
-    let (mut count, mut number, mut small, mut other) = (BEFORE32, BEFORE32, BEFORE, BEFORE);
-    let (mut size, mut out) = (BEFORE_SIZE, [BEFORE; 16]);
-    let (to, room) = (out.as_mut_ptr(), out.len());
-    let answers = unsafe {
-        [
-            sys::corbastrigo_sanity_check_bits(at, len, width, &mut count, &mut small),
-            sys::corbastrigo_sanity_check_stop_bits(at, len, width, &mut small, &mut size),
-            sys::corbastrigo_interpret_bits(at, len, address.as_ptr(), 4, width, &mut small, &mut number, &mut count, &mut other),
-            sys::corbastrigo_unpack_bits(at, len, width, to, room, &mut size),
-            sys::corbastrigo_list_bits(at, len, width, to, room, &mut size),
-            sys::corbastrigo_list_bytes_bits(at, len, width, &mut size),
-            sys::corbastrigo_compare_bits(at, len, at, len, width, to, room, &mut size),
-            sys::corbastrigo_compare_bytes_bits(at, len, at, len, width, to, room, &mut size),
-        ]
-    };
-    let numbers = (count, number, small, other) == (BEFORE32, BEFORE32, BEFORE, BEFORE);
-    let kept = numbers && size == BEFORE_SIZE && out == [BEFORE; 16];
-    answers.iter().map(|&answer| (answer, kept)).collect()
-}
-
 #[test]
 fn a_width_that_is_none_leaves_everything() {
     let widths = prop_oneof![0..300u32, any::<u32>(), any::<u32>().prop_map(|high| high << 8 | 32)];
-    holds(1_500, (any_maps(), widths), |(map, width)| {
-        if ![32, 128].contains(&width) {
-            prop_assert_eq!(left_at(&map, width), vec![(18, true); 8]);
-        }
+    let widths = widths.prop_filter("no width", |width| ![32, 128].contains(width));
+    holds(1_500, (any_maps(), widths, 0..18usize, 0..40usize), |(map, width, length, room)| {
+        let nothing = (18, BEFORE_SIZE, vec![BEFORE; room]);
+        let walk = calls::interpret_bits(&map, &vec![7; length], width);
+        prop_assert_eq!(calls::sanity_check_bits(&map, width), (18, BEFORE32, BEFORE));
+        prop_assert_eq!(calls::sanity_check_stop_bits(&map, width), (18, BEFORE, BEFORE_SIZE));
+        prop_assert_eq!(walk, (18, BEFORE, BEFORE32, BEFORE32, BEFORE));
+        prop_assert_eq!(&calls::unpack_bits(&map, width, room), &nothing);
+        prop_assert_eq!(&calls::list_bits(&map, width, room), &nothing);
+        prop_assert_eq!(calls::list_bytes_bits(&map, width), (18, BEFORE_SIZE));
+        prop_assert_eq!(&calls::compare_bits([&map, &map], width, room), &nothing);
+        prop_assert_eq!(&calls::compare_bytes_bits([&map, &map], width, room), &nothing);
         Ok(())
     });
-    // What is left where a width is one: the test above could not fail without.
-    assert!(left_at(&[0, 0, 0], 32).iter().all(|&(_, kept)| !kept));
 }
