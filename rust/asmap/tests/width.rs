@@ -15,7 +15,7 @@ fn one_by_one(bits: usize) -> Vec<u8> {
 }
 
 /// A folder with `four.asmap` (FOUR), `three.asmap`, in which 2 is 3, `most.asmap` of 32 address bits and `over.asmap` of 33;
-/// `above.asmap` and `below.asmap` have other bytes and the same numbers.
+/// `above.asmap` and `below.asmap` have other bytes and the same numbers; `one.asmap` and `halves.asmap` differ for every address.
 fn folder() -> Folder {
     let folder = Folder::new();
     folder.write("four.asmap", packed(&FOUR));
@@ -24,6 +24,8 @@ fn folder() -> Folder {
     folder.write("over.asmap", one_by_one(33));
     folder.write("above.asmap", packed(&[(3, 5), (1, 22), (2, 2), (0, 7), (2, 2), (0, 8)]));
     folder.write("below.asmap", packed(&[(1, 41), (3, 5), (2, 2), (0, 7), (3, 5), (2, 2), (0, 8)]));
+    folder.write("one.asmap", packed(&[(0, 1)]));
+    folder.write("halves.asmap", packed(&[(1, 17), (0, 2), (0, 2)]));
     folder.write("peers.txt", "1.2.3.4\n3.4.5.6\n2.0.0.1\n");
     folder.write(
         "peers.json",
@@ -64,10 +66,12 @@ fn every_subcommand_at_32() {
         ("list_most", &["list", "most.asmap"]),
         ("diff", &["diff", "four.asmap", "three.asmap"]),
         ("diff_same", &["diff", "above.asmap", "below.asmap"]),
-        ("diff_everything", &["diff", "four.asmap", "most.asmap"]),
+        ("diff_most", &["diff", "four.asmap", "most.asmap"]),
+        ("diff_everything", &["diff", "one.asmap", "halves.asmap"]),
         ("diff_addresses", &["diff", "--addresses", "peers.txt", "four.asmap", "three.asmap"]),
         ("diff_addresses_json", &["diff", "--addresses", "peers.json", "four.asmap", "three.asmap"]),
         ("undo_check", &["undo-check", "four.asmap", "three.asmap"]),
+        ("undo_check_everything", &["undo-check", "one.asmap", "halves.asmap"]),
         ("undo_check_same", &["undo-check", "above.asmap", "below.asmap"]),
         ("unpack", &["unpack", "four.asmap"]),
         ("pack", &["pack", "-o", "new.asmap", "list.txt"]),
