@@ -154,7 +154,7 @@ uint8_t corbastrigo_encode_instruction(uint32_t opcode, uint32_t operand, uint64
 /* ---- Maps */
 
 /* Whether a map is sane over 128 address bits. Writes its number of instructions and how many jumps were open at most. Refusals 1 to
- * 10. No map that is accepted here can abort a walk. */
+ * 10. No map that is accepted here can abort a walk by 16 bytes. */
 uint8_t corbastrigo_sanity_check(const uint8_t *map, size_t map_len, uint32_t *count, uint8_t *depth);
 
 /* Where the check of a map stops, and why. Writes the reason, 0 where the check accepts and else the number of its refusal, 2 to 10; and the
@@ -165,7 +165,7 @@ uint8_t corbastrigo_sanity_check_stop(const uint8_t *map, size_t map_len, uint8_
 /* How a walk ended. */
 #define CORBASTRIGO_RETURNED 1 /* at a RETURN */
 #define CORBASTRIGO_DIFFERED 2 /* at a MATCH that differs, with the default, 0 until a DEFAULT was read */
-#define CORBASTRIGO_ABORTED 3  /* at a cut code or with too few address bits, number 0; of refused maps only */
+#define CORBASTRIGO_ABORTED 3  /* at a cut code or with too few address bits, number 0; only of maps refused at that width */
 
 /* Walks a map by an address of 16 bytes, IPv4 in its mapped form (ten zeros, ff ff, its four). Any map will do. Writes how the walk
  * ended, the number (0 alone does not tell how), the instructions that were read whole, and the address bits read. Refusals 11, then

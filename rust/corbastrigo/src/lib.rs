@@ -8,8 +8,8 @@
 //! with the place of a group among the occupied ones.
 //!
 //! A node of IPv4 alone may keep a map of four-byte addresses, without the 96 bits that stand in front of them elsewhere: that is an
-//! [`AsMap4`], and what takes bytes of a map has a form for it whose name ends in `_bits` and which takes the width, 32 or 128. A map is
-//! walked at the width at which it was checked, and at no other; groups and picks are by an [`AsMap`].
+//! [`AsMap4`]. Check, walk, unpack, list and compare have a form for the bytes of one whose name ends in `_bits` and which takes the width,
+//! 32 or 128. A map is walked at the width at which it was checked, and at no other; groups and picks are by an [`AsMap`].
 //!
 //! Nothing here panics or allocates more than a fixed multiple of what it is given. Every call answers, or refuses with a [`Refusal`]
 //! and has written nothing.
@@ -31,7 +31,7 @@
 //!
 //! Two things to know before reading numbers. The number 0 is not "unmapped": a walk that aborts has it, and so has one that differs
 //! before it met a DEFAULT; [`Walk::end`] tells. And some addresses that come out right say nothing of a map: no map that
-//! [`sanity_check`] accepts can abort a walk, and nothing is promised of any other.
+//! [`sanity_check`] accepts can abort a walk by 16 bytes, and nothing is promised of any other.
 #![deny(missing_docs)]
 #![deny(clippy::undocumented_unsafe_blocks)]
 

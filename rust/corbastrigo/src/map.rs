@@ -115,7 +115,8 @@ pub enum End {
     Returned,
     /// At a MATCH that differs, with the default.
     Differed,
-    /// At a cut code, or with too few address bits. No map that the check accepts aborts a walk.
+    /// At a cut code, or with too few address bits. No map that the check accepts aborts a walk
+    /// by as many bits as it was checked over.
     Aborted,
 }
 
