@@ -241,7 +241,7 @@ impl AsMap4 {
         AsMap4::checked(bytes).ok()
     }
 
-    /// The map, or the check's reason. A map for addresses of 128 bits is mostly refused for using more than 32 of them, 8.
+    /// The map, or the check's reason. A map of 128 bits that tells IPv4 addresses apart uses more than 96 of them, and is refused for it, 8.
     ///
     /// ```
     /// use corbastrigo::{AsMap4, Refusal};
