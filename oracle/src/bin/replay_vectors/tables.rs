@@ -45,7 +45,8 @@ const TABLES: [(&str, &str); 11] = [
         "width",
         "Maps at both widths (document 02, CR 3); check.txt says how they are written as text. At 32 an IPv4 address is its four bytes, at\n\
          128 it has its mapped form, which begins with 80 zeros and 16 ones. A map that is accepted at 32 is so at 128, with the same\n\
-         numbers; but there its first 32 bits are asked of the mapped form, so its walks end elsewhere: a map is for one width.\n\
+         count and depth; but there the bits that it asks for are those of the mapped form, and an address may end elsewhere: a map is for\n\
+         one width.\n\
          Map: the check at both widths, as in check.txt. Address: the walk at both, with how it ends, the number, the instructions read\n\
          whole and the address bits read. Then a map's prefixes at 32 with their numbers, addresses of other lengths, other widths.",
     ),

@@ -12,8 +12,8 @@ use std::net::Ipv4Addr;
 
 const BOTH: [u32; 2] = [32, 128];
 
-/// Neither 32 nor 128: around them, of other addresses, and those that are one of them in their low bits.
-const NO_WIDTHS: [u32; 11] = [0, 1, 31, 33, 64, 127, 129, 160, 256 + 32, u32::MAX - 95, u32::MAX];
+/// Neither 32 nor 128: around them, both at once, and what would be one of them, or both, if it were cut to a byte.
+const NO_WIDTHS: [u32; 12] = [0, 1, 31, 33, 64, 127, 129, 160, 256 + 32, 256 + 128, u32::MAX - 95, u32::MAX];
 
 /// A node's map without the mapped bits: TWO_PREFIX_ASMAP from its 97th address bit on.
 const TWO_PREFIXES: &str = "M64 J17 R1 R2";
@@ -142,6 +142,7 @@ fn no_widths(list: &mut List, tables: &mut Tables) {
     for width in NO_WIDTHS {
         let said = list.at(width, |list| {
             let said = [verdict(list.check(&sane)), walked(list.walk(&sane, &[3, 4, 0, 0]))];
+            let _ = list.check(&[]);
             let _ = list.walk(&[], &[0; 5]);
             list.unpack(&sane, 64);
             list.unpack(&[], 0);
