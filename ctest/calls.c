@@ -301,7 +301,7 @@ static void comparison_bytes(void) {
     IS(untouched(first + 16, 4), 4);
 }
 
-/* Each is 32 or 128 but for a bit, or in its lowest byte. */
+/* Around 32 and 128, both at once, and what would be one of them, or both, if it were cut to a byte. */
 static const uint32_t no_widths[] = {0, 31, 33, 64, 127, 129, 160, 256 + 32, 256 + 128, UINT32_MAX - 95, UINT32_MAX};
 
 /* Every call that takes a width, refused for it: with a map that is sane, and with all that is refused later. */

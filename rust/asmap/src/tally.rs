@@ -157,7 +157,7 @@ mod tests {
     fn of_32_bits_all_are_ipv4() {
         let four = Width::asked(32).expect("a width");
         for (length, ipv4) in [(0, 1 << 32), (1, 1 << 31), (7, 33_554_432), (31, 2), (32, 1)] {
-            // Whatever the first four bytes are, and also where 16 of them would be those of the mapped form.
+            // Whatever the address is: none of them is looked for in the mapped form.
             for address in ["::", "200::", "ffff:fffe::"] {
                 assert_eq!(Count::of(&change(address, length, 1, 2), four), Count { ipv4, ipv6: 0 }, "{address}/{length}");
             }

@@ -8,7 +8,7 @@ const JUMP: u32 = 1;
 const MATCH: u32 = 2;
 const DEFAULT: u32 = 3;
 
-/// Widths that there are not: neighbours of the two, and what a byte or a wrong shift would cut to one of them.
+/// Widths that there are not: neighbours of the two, their bytes, both at once, and what would be one of them if it were cut or shifted.
 const NO_WIDTHS: [u32; 14] = [0, 1, 4, 16, 31, 33, 64, 127, 129, 32 + 128, 32 + 256, 128 + 256, 32 << 8, (1 << 31) + 32];
 
 /// The bytes of instructions, each given as opcode and operand.
@@ -59,8 +59,8 @@ fn parts(walk: Walk) -> (End, u32, u32, u8) {
 
 #[test]
 fn a_map_of_more_than_32_bits_is_refused_8_at_32() {
-    for (map, bits) in [(one_by_one as fn(usize) -> Vec<u8>, 32), (nested, 32)] {
-        let (most, over) = (map(bits), map(bits + 1));
+    for map in [one_by_one as fn(usize) -> Vec<u8>, nested] {
+        let (most, over) = (map(32), map(33));
         assert_eq!(sanity_check_bits(&most, 32), sanity_check(&most));
         assert!(sanity_check(&most).is_ok() && sanity_check(&over).is_ok());
         assert_eq!(sanity_check_bits(&over, 32), Err(Refusal::NoBits));
@@ -73,10 +73,11 @@ fn a_map_of_more_than_32_bits_is_refused_8_at_32() {
         assert_eq!((unpack_bits(&over, 32), list_bits(&over, 32)), (Err(Refusal::NoBits), Err(Refusal::NoBits)));
         assert_eq!(list_bytes_bits(&over, 32), Err(Refusal::NoBits));
         assert_eq!(unpack_bits(&most, 32), unpack(&most));
+        assert!(sanity_check_bits(&map(128), 128).is_ok());
+        assert_eq!(sanity_check_bits(&map(129), 128), Err(Refusal::NoBits));
     }
-    // 128 of the one and of the other are the most at 128.
-    assert_eq!(sanity_check_bits(&one_by_one(129), 128), Err(Refusal::NoBits));
-    assert!(sanity_check_bits(&nested(128), 128).is_ok_and(|check| check.depth == 128));
+    let depth = |width: u32| sanity_check_bits(&nested(width as usize), width).map(|check| check.depth);
+    assert_eq!([32, 128].map(depth), [Ok(32), Ok(128)]);
 }
 
 #[test]
