@@ -117,12 +117,12 @@ impl Error for CompareError {
 /// How many bytes a comparison has, and the first address that differs: zeros where none does. Without a width it is that of 128 bits.
 fn counted(old: &[u8], new: &[u8], width: Option<u32>) -> Result<(usize, [u8; 16]), CompareError> {
     let (mut first, mut bytes) = ([0; 16], 0);
-    let (old_at, new_at, to) = (old.as_ptr(), new.as_ptr(), first.as_mut_ptr());
+    let (old_at, new_at, to, room) = (old.as_ptr(), new.as_ptr(), first.as_mut_ptr(), first.len());
     // SAFETY: the slices and the array give their own pointers and lengths; array and number are borrowed for the call and are nobody else's.
     let answer = unsafe {
         match width {
-            None => sys::corbastrigo_compare_bytes(old_at, old.len(), new_at, new.len(), to, 16, &mut bytes),
-            Some(width) => sys::corbastrigo_compare_bytes_bits(old_at, old.len(), new_at, new.len(), width, to, 16, &mut bytes),
+            None => sys::corbastrigo_compare_bytes(old_at, old.len(), new_at, new.len(), to, room, &mut bytes),
+            Some(width) => sys::corbastrigo_compare_bytes_bits(old_at, old.len(), new_at, new.len(), width, to, room, &mut bytes),
         }
     };
     CompareError::check(answer)?;
