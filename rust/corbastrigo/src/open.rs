@@ -5,8 +5,8 @@ use std::fs::File;
 use std::io::{self, Read};
 use std::path::{Path, PathBuf};
 
-/// Why [`AsMap::open`](crate::AsMap::open) or [`AsMap4::open`](crate::AsMap4::open) made no map of a file. Its words name the file and what failed; the reason stands behind it, as
-/// [`source`](Error::source), and is shown by `Debug` too.
+/// Why [`AsMap::open`](crate::AsMap::open) or [`AsMap4::open`](crate::AsMap4::open) made no map of a file. Its words name the file and
+/// what failed; the reason stands behind it, as [`source`](Error::source), and is shown by `Debug` too.
 #[derive(Debug)]
 #[non_exhaustive]
 pub enum OpenError {
