@@ -215,20 +215,22 @@ mod tests {
         let mut runner = TestRunner::deterministic();
         // Few ones make RETURNs likely, many ones MATCHes and DEFAULTs.
         let bytes = (vec(any::<u8>(), 0..256), vec(any::<u8>(), 256), 0..3_usize);
-        for address_bytes in [16, 4] {
-            let (mut returned, mut differed, mut aborted) = (0, 0, 0);
-            for _ in 0..10_000 {
-                let (a, b, kind) = bytes.new_tree(&mut runner).expect("bytes").current();
-                let map: Vec<u8> = a.iter().zip(b).map(|(a, b)| [a & b, *a, a | b][kind]).collect();
-                let address = any::<[u8; 16]>().new_tree(&mut runner).expect("an address").current();
-                let replay = walked(&map, &address[..address_bytes]);
+        let mut met = [[0; 3]; 2];
+        for _ in 0..10_000 {
+            let (a, b, kind) = bytes.new_tree(&mut runner).expect("bytes").current();
+            let map: Vec<u8> = a.iter().zip(b).map(|(a, b)| [a & b, *a, a | b][kind]).collect();
+            let address = any::<[u8; 16]>().new_tree(&mut runner).expect("an address").current();
+            for (ends, length) in met.iter_mut().zip([16, 4]) {
+                let replay = walked(&map, &address[..length]);
                 match replay.walk.end {
-                    End::Returned => returned += 1,
-                    End::Differed => differed += 1,
-                    _ => aborted += 1,
+                    End::Returned => ends[0] += 1,
+                    End::Differed => ends[1] += 1,
+                    _ => ends[2] += 1,
                 }
                 assert_eq!(replay.why_zero.is_some(), replay.walk.number == 0);
             }
+        }
+        for [returned, differed, aborted] in met {
             assert!(returned > 1_000 && differed > 1_000 && aborted > 100, "{returned} {differed} {aborted}");
         }
     }
