@@ -24,6 +24,11 @@ use crate::maps::list_bytes;
 use crate::maps::walk;
 use crate::maps::written;
 use crate::maps::written_of_two;
+use crate::widths::check_bits;
+use crate::widths::check_stop_bits;
+use crate::widths::list_bytes_bits;
+use crate::widths::walk_bits;
+use crate::widths::written_bits;
 use libc::STDIN_FILENO;
 use libc::STDOUT_FILENO;
 use replay_lines::outcome::Seen;
@@ -37,6 +42,7 @@ mod addresses;
 mod codes;
 mod groups;
 mod maps;
+mod widths;
 
 // Room for the list. One that fills it is taken for too long.
 fn list_room() -> [u8; 1048576]
@@ -54,7 +60,7 @@ fn word_room() -> [u8; 262144]
 
 // ---- a line
 
-// The kinds of call by their letters, and 23 for any other letter. They are counted and printed in this order.
+// The kinds of call by their letters, and 31 for any other letter. They are counted and printed in this order; the capitals are calls at a width.
 fn kind_of(letter: u8) -> usize {
     match letter {
         b'd' => 0,
@@ -71,16 +77,24 @@ fn kind_of(letter: u8) -> usize {
         b'q' => 11,
         b'v' => 12,
         b'y' => 13,
-        b'n' => 14,
-        b'g' => 15,
-        b'h' => 16,
-        b's' => 17,
-        b't' => 18,
-        b'o' => 19,
-        b'm' => 20,
-        b'f' => 21,
-        b'r' => 22,
-        _ => 23,
+        b'C' => 14,
+        b'K' => 15,
+        b'W' => 16,
+        b'U' => 17,
+        b'L' => 18,
+        b'Q' => 19,
+        b'V' => 20,
+        b'Y' => 21,
+        b'n' => 22,
+        b'g' => 23,
+        b'h' => 24,
+        b's' => 25,
+        b't' => 26,
+        b'o' => 27,
+        b'm' => 28,
+        b'f' => 29,
+        b'r' => 30,
+        _ => 31,
     }
 }
 
@@ -95,10 +109,13 @@ fn shape_of(kind: usize) -> [u8; 9]
         3 => [4, 4, 9, 0, 0, 0, 0, 0, 0],
         7 | 8 | 9 | 10 => [9, 9, 9, 0, 0, 0, 0, 0, 0],
         12 | 13 => [9, 9, 9, 9, 0, 0, 0, 0, 0],
-        15 | 16 => [1, 9, 9, 9, 0, 0, 0, 0, 0],
-        17 | 18 => [1, 9, 9, 8, 9, 9, 9, 9, 0],
-        19 => [8, 9, 9, 0, 0, 0, 0, 0, 0],
-        22 => [1, 2, 9, 9, 0, 0, 0, 0, 0],
+        14 | 15 | 19 => [4, 9, 9, 0, 0, 0, 0, 0, 0],
+        16 | 17 | 18 => [4, 9, 9, 9, 0, 0, 0, 0, 0],
+        20 | 21 => [4, 9, 9, 9, 9, 0, 0, 0, 0],
+        23 | 24 => [1, 9, 9, 9, 0, 0, 0, 0, 0],
+        25 | 26 => [1, 9, 9, 8, 9, 9, 9, 9, 0],
+        27 => [8, 9, 9, 0, 0, 0, 0, 0, 0],
+        30 => [1, 2, 9, 9, 0, 0, 0, 0, 0],
         _ => [9, 9, 0, 0, 0, 0, 0, 0, 0],
     }
 }
@@ -164,21 +181,31 @@ fn replay_map(kind: usize, bytes: &[u8], words: Words) -> Seen {
     }
 }
 
+fn replay_width(kind: usize, bytes: &[u8], words: Words) -> Seen {
+    match kind {
+        14 => check_bits(bytes, words),
+        15 => check_stop_bits(bytes, words),
+        16 => walk_bits(bytes, words),
+        19 => list_bytes_bits(bytes, words),
+        _ => written_bits(kind, bytes, words),
+    }
+}
+
 fn replay_peers(kind: usize, bytes: &[u8], words: Words) -> Seen {
     match kind {
-        14 => prefix_group(bytes, words),
-        15 => group(bytes, words, true),
-        16 => group(bytes, words, false),
-        17 => pick(bytes, words, 0),
-        18 => pick(bytes, words, 2),
+        22 => prefix_group(bytes, words),
+        23 => group(bytes, words, true),
+        24 => group(bytes, words, false),
+        25 => pick(bytes, words, 0),
+        26 => pick(bytes, words, 2),
         _ => scan(bytes, words),
     }
 }
 
 fn replay_address(kind: usize, bytes: &[u8], words: Words) -> Seen {
     match kind {
-        20 => mapped(bytes, words),
-        21 => unroutable(bytes, words),
+        28 => mapped(bytes, words),
+        29 => unroutable(bytes, words),
         _ => relay_skip(bytes, words),
     }
 }
@@ -191,7 +218,10 @@ fn replay_words(kind: usize, bytes: &[u8], words: Words) -> Seen {
     if kind < 14 {
         return replay_map(kind, bytes, words);
     }
-    if kind < 20 {
+    if kind < 22 {
+        return replay_width(kind, bytes, words);
+    }
+    if kind < 28 {
         return replay_peers(kind, bytes, words);
     }
     replay_address(kind, bytes, words)
@@ -209,7 +239,7 @@ fn letter_of(line: &[u8]) -> u8 {
 }
 
 fn replay_line(kind: usize, line: &[u8], bytes: &mut [u8]) -> Seen {
-    if 22 < kind {
+    if 30 < kind {
         return Seen::Unread;
     }
     let words = read_words(line, bytes);
@@ -225,19 +255,19 @@ fn replay_line(kind: usize, line: &[u8], bytes: &mut [u8]) -> Seen {
 
 // ---- the list
 
-// Every line is counted at one of 49 places: for each kind of call the answers that are ours and, 23 places on, those that differ; then
+// Every line is counted at one of 65 places: for each kind of call the answers that are ours and, 31 places on, those that differ; then
 // headings, lines with a wrong count of words, and lines that could not be read.
 fn place_of(kind: usize, seen: Seen) -> usize
-    ensures { λ r. ⌜ r < 49 ⌝ }
+    ensures { λ r. ⌜ r < 65 ⌝ }
 {
-    if 22 < kind {
-        return 48;
+    if 30 < kind {
+        return 64;
     }
     match seen {
         Seen::Same => kind,
-        Seen::Differs => 23 + kind,
-        Seen::Count => 47,
-        Seen::Unread => 48,
+        Seen::Differs => 31 + kind,
+        Seen::Count => 63,
+        Seen::Unread => 64,
     }
 }
 
@@ -250,18 +280,18 @@ fn is_heading(line: &[u8]) -> bool {
 }
 
 fn line_place(line: &[u8], bytes: &mut [u8]) -> usize
-    ensures { λ r. ⌜ r < 49 ⌝ }
+    ensures { λ r. ⌜ r < 65 ⌝ }
 {
     if is_heading(line) {
-        return 46;
+        return 62;
     }
     let kind = kind_of(letter_of(line));
     place_of(kind, replay_line(kind, line, bytes))
 }
 
 // One line more. The list is far too short for a count to wrap.
-fn add_one(counts: &mut [u64; 49], place: usize)
-    requires { ⌜ place < 49 ⌝ }
+fn add_one(counts: &mut [u64; 65], place: usize)
+    requires { ⌜ place < 65 ⌝ }
 {
     counts[place] = wrapping_add_u64(counts[place], 1);
 }
@@ -276,16 +306,16 @@ fn say_number(n: u64) {
 
 // Names a line that is neither a heading nor has our answer, by the place where it is counted.
 fn say_line(line: u64, place: usize) {
-    if place < 23 || place == 46 {
+    if place < 31 || place == 62 {
         return;
     }
     say(b"line ");
     say_number(line);
-    if place < 46 {
+    if place < 62 {
         say(b" differs\n");
         return;
     }
-    if place < 48 {
+    if place < 64 {
         say(b" has a wrong count of words\n");
         return;
     }
@@ -293,7 +323,7 @@ fn say_line(line: u64, place: usize) {
 }
 
 // Hands back how many lines there are.
-fn replay_list(list: &[u8], bytes: &mut [u8], counts: &mut [u64; 49]) -> u64 {
+fn replay_list(list: &[u8], bytes: &mut [u8], counts: &mut [u64; 65]) -> u64 {
     let mut lines: u64 = 0;
     let mut at: usize = 0;
     while at < list.len() {
@@ -307,10 +337,10 @@ fn replay_list(list: &[u8], bytes: &mut [u8], counts: &mut [u64; 49]) -> u64 {
     lines
 }
 
-fn say_kind(name: &[u8], counts: &[u64; 49], kind: usize)
-    requires { ⌜ kind < 23 ⌝ }
+fn say_kind(name: &[u8], counts: &[u64; 65], kind: usize)
+    requires { ⌜ kind < 31 ⌝ }
 {
-    let differ = counts[kind + 23];
+    let differ = counts[kind + 31];
     say(name);
     say_number(wrapping_add_u64(counts[kind], differ));
     say(b" answers, ");
@@ -318,7 +348,7 @@ fn say_kind(name: &[u8], counts: &[u64; 49], kind: usize)
     say(b" differ\n");
 }
 
-fn say_codes(counts: &[u64; 49]) {
+fn say_codes(counts: &[u64; 65]) {
     say_kind(b"code read: ", counts, 0);
     say_kind(b"code written: ", counts, 1);
     say_kind(b"instruction read: ", counts, 2);
@@ -326,7 +356,7 @@ fn say_codes(counts: &[u64; 49]) {
     say_kind(b"bit reader: ", counts, 4);
 }
 
-fn say_maps(counts: &[u64; 49]) {
+fn say_maps(counts: &[u64; 65]) {
     say_kind(b"check: ", counts, 5);
     say_kind(b"where a check stops: ", counts, 6);
     say_kind(b"walk: ", counts, 7);
@@ -338,29 +368,40 @@ fn say_maps(counts: &[u64; 49]) {
     say_kind(b"bytes of a comparison: ", counts, 13);
 }
 
-fn say_peers(counts: &[u64; 49]) {
-    say_kind(b"group by prefix: ", counts, 14);
-    say_kind(b"group: ", counts, 15);
-    say_kind(b"group, map unchecked: ", counts, 16);
-    say_kind(b"pick: ", counts, 17);
-    say_kind(b"pick, map unchecked: ", counts, 18);
-    say_kind(b"occupied scan: ", counts, 19);
+fn say_widths(counts: &[u64; 65]) {
+    say_kind(b"check at a width: ", counts, 14);
+    say_kind(b"where a check at a width stops: ", counts, 15);
+    say_kind(b"walk at a width: ", counts, 16);
+    say_kind(b"unpack at a width: ", counts, 17);
+    say_kind(b"list at a width: ", counts, 18);
+    say_kind(b"bytes of a list at a width: ", counts, 19);
+    say_kind(b"compare at a width: ", counts, 20);
+    say_kind(b"bytes of a comparison at a width: ", counts, 21);
 }
 
-fn say_addresses(counts: &[u64; 49]) {
-    say_kind(b"IPv4-mapped address: ", counts, 20);
-    say_kind(b"unroutable: ", counts, 21);
-    say_kind(b"relay skip: ", counts, 22);
+fn say_peers(counts: &[u64; 65]) {
+    say_kind(b"group by prefix: ", counts, 22);
+    say_kind(b"group: ", counts, 23);
+    say_kind(b"group, map unchecked: ", counts, 24);
+    say_kind(b"pick: ", counts, 25);
+    say_kind(b"pick, map unchecked: ", counts, 26);
+    say_kind(b"occupied scan: ", counts, 27);
 }
 
-fn say_lines(lines: u64, counts: &[u64; 49]) {
+fn say_addresses(counts: &[u64; 65]) {
+    say_kind(b"IPv4-mapped address: ", counts, 28);
+    say_kind(b"unroutable: ", counts, 29);
+    say_kind(b"relay skip: ", counts, 30);
+}
+
+fn say_lines(lines: u64, counts: &[u64; 65]) {
     say_number(lines);
     say(b" lines, ");
-    say_number(counts[46]);
+    say_number(counts[62]);
     say(b" of them headings, ");
-    say_number(counts[47]);
+    say_number(counts[63]);
     say(b" with a wrong count of words, ");
-    say_number(counts[48]);
+    say_number(counts[64]);
     say(b" not read\n");
 }
 
@@ -368,10 +409,11 @@ fn main() {
     let mut list = list_room();
     let mut bytes = word_room();
     let n = io::read_full(STDIN_FILENO, &mut list);
-    let mut counts = [0u64; 49];
+    let mut counts = [0u64; 65];
     let lines = replay_list(&list[..n], &mut bytes, &mut counts);
     say_codes(&counts);
     say_maps(&counts);
+    say_widths(&counts);
     say_peers(&counts);
     say_addresses(&counts);
     say_lines(lines, &counts);

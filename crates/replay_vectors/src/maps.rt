@@ -15,25 +15,30 @@ use replay_lines::outcome::refused;
 use replay_lines::words::Words;
 use replay_lines::words::word;
 
+// What a check came to.
+pub fn checked(verdict: Verdict) -> Out {
+    match verdict {
+        Verdict::Refused(reason) => refused(reason),
+        Verdict::Accepted(count, depth) => done().number(count as u64, 4).byte(depth),
+    }
+}
+
 pub fn check(bytes: &[u8], words: Words) -> Seen {
     let verdict = asmap_check::sanity_check(word(bytes, words, 0));
-    let answer = word(bytes, words, 1);
-    match verdict {
-        Verdict::Refused(reason) => compared(refused(reason), answer),
-        Verdict::Accepted(count, depth) => compared(
-            done().number(count as u64, 4).byte(depth),
-            answer,
-        ),
+    compared(checked(verdict), word(bytes, words, 1))
+}
+
+// Where a check stopped.
+pub fn stopped_at(stopped: Stopped) -> Out {
+    match stopped {
+        Stopped::Refused(reason) => refused(reason),
+        Stopped::At(reason, place) => done().byte(reason).number(place as u64, 8),
     }
 }
 
 pub fn check_stop(bytes: &[u8], words: Words) -> Seen {
     let stopped = asmap_check::sanity_check_stop(word(bytes, words, 0));
-    let answer = word(bytes, words, 1);
-    match stopped {
-        Stopped::Refused(reason) => compared(refused(reason), answer),
-        Stopped::At(reason, place) => compared(done().byte(reason).number(place as u64, 8), answer),
-    }
+    compared(stopped_at(stopped), word(bytes, words, 1))
 }
 
 fn kind_number(kind: Kind) -> u8 {
@@ -52,17 +57,21 @@ fn ended(ending: Ending) -> Out {
         .byte(ending.bits)
 }
 
-pub fn walk(bytes: &[u8], words: Words) -> Seen {
-    let got = asmap_walk::interpret(word(bytes, words, 0), word(bytes, words, 1));
-    let answer = word(bytes, words, 2);
+// What a walk came to.
+pub fn walked(got: Interpreted) -> Out {
     match got {
-        Interpreted::Refused(reason) => compared(refused(reason), answer),
-        Interpreted::Ended(ending) => compared(ended(ending), answer),
+        Interpreted::Refused(reason) => refused(reason),
+        Interpreted::Ended(ending) => ended(ending),
     }
 }
 
+pub fn walk(bytes: &[u8], words: Words) -> Seen {
+    let got = asmap_walk::interpret(word(bytes, words, 0), word(bytes, words, 1));
+    compared(walked(got), word(bytes, words, 2))
+}
+
 // How many bytes unpack, pack, the listing or a comparison wrote.
-fn wrote(got: Answer) -> Out {
+pub fn wrote(got: Answer) -> Out {
     match got {
         Answer::Refused(reason) => refused(reason),
         Answer::Wrote(n) => done().number(n as u64, 4),
@@ -95,7 +104,7 @@ pub fn written(kind: usize, bytes: &[u8], words: Words) -> Seen {
 }
 
 // How many bytes a listing or a comparison needs.
-fn needed(got: Needed) -> Out {
+pub fn needed(got: Needed) -> Out {
     match got {
         Needed::Refused(reason) => refused(reason),
         Needed::Bytes(n) => done().number(n as u64, 8),
