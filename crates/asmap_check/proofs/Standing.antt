@@ -16,6 +16,7 @@ use Rattle.asmap_program.specs.models.Pieces.{piecesOf, countPieces}
 use Rattle.asmap_program.proofs.Tree.{View, view}
 use Rattle.asmap_program.proofs.Depth.{one-more, Room, Reached, begins, goes, room}
 use Rattle.asmap_program.proofs.Loop.{moved, result, result-step, result-start, stop, stop-step, stop-start, passing, passing-step, passing-start}
+use Rattle.asmap_program.proofs.Wider.{accepted-wider}
 use Rattle.asmap_codes.specs.Instruction.{mapOf}
 use Rattle.asmap_check.specs.declared.Judged.{Judged}
 use Rattle.asmap_check.specs.declared.Stopped.the-variants as stopped
@@ -137,3 +138,9 @@ module _ (m : List ℕ) (w : ℕ) where
       go : (b : Bool) → ltb 16777216 (length m) ≡ b → unlessLong b (check (mapOf m) w) ≡ Accepted c d → (length m ≤ 16777216) × (check (mapOf m) w ≡ Accepted c d)
       go true h q = let z : _≡_ {A = ℕ} 0 1 = cc in absurd (omega arith)
       go false h q = (ltb-false 16777216 (length m) h, q)
+
+-- what is accepted at a width is accepted at every greater one, alike
+pub accepted-at-more : (m : List ℕ) (w v c d : ℕ) → w ≤ v → checkOf m w ≡ Accepted c d → checkOf m v ≡ Accepted c d
+accepted-at-more m w v c d h e =
+    let s = accepted-within m w c d e in
+    sym (checked m v (s .0)) ∙ accepted-wider (mapOf m) w v c d h (s .1) .0

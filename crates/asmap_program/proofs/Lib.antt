@@ -9,3 +9,4 @@ pub mod Demand
 pub mod CoreCheck
 pub mod CoreWalk
 pub mod TreeAccepted
+pub mod Wider

@@ -4,11 +4,13 @@ use Prim.Native.Nat.{ℕ}
 use mathlib.Core.Path.{_≡_, refl}
 use mathlib.Core.Logic.{_⊎_}
 use mathlib.Core.List.{List, [], _∷_}
+use native.Mathlib.Omega.{arith}
 use lib.ListN.{take}
 use Rattle.asmap_program.specs.declared.Verdict.the-variants as verdict
 use Rattle.asmap_program.proofs.Widths.{a-width, narrow, whole-bytes}
 use Rattle.asmap_check.specs.declared.Stopped.the-variants as stopped
 use Rattle.asmap_check.specs.Check.{checkOf, checkAt, stoppedOf, stoppedAt}
+use Rattle.asmap_check.proofs.Standing.{accepted-at-more}
 use Rattle.asmap_walk.specs.declared.Interpreted.the-variants as walk
 use Rattle.asmap_walk.specs.Interpret.{interpretOver, interpretAt}
 use Rattle.asmap_records.specs.Output.{Result, No}
@@ -22,11 +24,12 @@ use Rattle.asmap_compare.specs.Promise.{Compares}
 use Rattle.answers.specs.Outcome.{Hands}
 use Rattle.answers.specs.Maps.{mapChecked, checkStopped, walkMade, bytesNeeded, Writes, Finds}
 use Rattle.answers.specs.Promise.{Demand3At, CoreVerdictAt, CoreNumberAt}
-use Rattle.demand_statements.specs.AnyInput.{AtWidth, Checks, Stops, Walks, Unpacks, Lists, Needs, Changes, FindsFirst}
+use Rattle.demand_statements.specs.AnyInput.{AtWidth, AlsoAt128, Checks, Stops, Walks, Unpacks, Lists, Needs, Changes, FindsFirst}
 use Rattle.demand_statements.specs.Walked.{InRecords}
 use Rattle.demand_statements.specs.Listed.{ListedWalk, ListedWithRoom}
 use Rattle.demand_statements.specs.Same.{CoreAccepts, Again, UnpackedThenPacked}
 use Rattle.demand_statements.specs.Agreed.{AgreedWalks}
+use Rattle.demand_statements.proofs.AnswerLaws.{answered, handed-out}
 use Rattle.demand_statements.proofs.WidthLaws.{ByWidth, said-at, answered-at, hands-by, writes-by, finds-by}
 use Rattle.demand_statements.proofs.CoreAnswers.{core-accepts}
 use Rattle.demand_statements.proofs.MapAnswers.{checks, stops, walks, unpacks}
@@ -102,6 +105,16 @@ module _ (m : List ℕ) (w : ℕ) {r : ℕ} where
     pub found-at : (n : List ℕ) → Finds (comparisonAt m n w) o o′ r (written ∷ []) (written′ ∷ [])
         → AtWidth w r (FindsFirst m n w o o′ r written written′) ((o′ ≡ o) × (written′ ≡ written))
     found-at n h = said-at w r (λ t k. found m n w o o′ k) both (finds-by (comparison m n w) w h)
+
+-- ---- one map at both widths
+
+-- the check at 32 refused the map
+pub not-at-32 : (m : List ℕ) {r : ℕ} {lent left exit : List ℕ} → Hands (mapChecked (checkAt m 32)) r lent left → (r ≡ 0 → ⊥) → AlsoAt128 m r exit
+not-at-32 m h n c d e = absurd (n (answered (checkOf m 32) e (check-over m 32 h .over refl)))
+
+-- r is the answer of the check at 128
+pub also-at-128 : (m : List ℕ) {r : ℕ} {lent left : List ℕ} → Hands (mapChecked (checkOf m 128)) r lent left → AlsoAt128 m r left
+also-at-128 m h c d e = handed-out (checkOf m 128) (accepted-at-more m 32 128 c d (omega arith) e) h
 
 -- ---- demands 2 and 3
 

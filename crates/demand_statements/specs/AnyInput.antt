@@ -152,6 +152,11 @@ pub record AtWidth (w r : ℕ) (Has Left : Type 0) : Type 0 where
   pub untouched : w ≢ 32 → w ≢ 128 → Left
   pub a-width : (w ≡ 32) ⊎ (w ≡ 128) → Has
 
+-- What the check accepts at 32 it accepts at 128 too, with the same count and depth: it cannot tell for which width a map was made. r is the answer
+-- of a caller who checks at 32 and then at 128, exit the numbers handed out there.
+abbrev pub AlsoAt128 : List ℕ → ℕ → List ℕ → Type 0
+AlsoAt128 m r exit = (c d : ℕ) → checkOf m 32 ≡ Accepted c d → (r ≡ 0) × (exit ≡ c ∷ d ∷ [])
+
 -- ---- groups and picks; `has` is 0 without a map
 
 -- The candidate at place i of a row is one: a zero after its family, which is 6, or 4 with an address in the mapped form.

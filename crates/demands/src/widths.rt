@@ -8,11 +8,12 @@ ghost use Rattle.asmap_program.specs.Core.{coreInterpret, Number};
 ghost use Rattle.asmap_program.specs.Map.{addressBit};
 ghost use Rattle.asmap_codes.specs.Core.{fileOf};
 ghost use Rattle.demand_statements.specs.Agreed.{AgreedWalks};
-ghost use Rattle.demand_statements.specs.AnyInput.{AtWidth, Checks, Stops, Walks, Unpacks, Lists, Needs, Changes, FindsFirst};
+ghost use Rattle.demand_statements.specs.AnyInput.{AtWidth, AlsoAt128, Checks, Stops, Walks, Unpacks, Lists, Needs, Changes, FindsFirst};
 ghost use Rattle.demand_statements.specs.Listed.{ListedWalk, ListedWithRoom};
 ghost use Rattle.demand_statements.specs.Same.{CoreAccepts, Again, UnpackedThenPacked};
 ghost use Rattle.demand_statements.specs.Walked.{AcceptedWalk, InRecords};
 use corbastrigo::maps::corbastrigo_pack;
+use corbastrigo::maps::corbastrigo_sanity_check;
 use corbastrigo::widths::corbastrigo_compare_bits;
 use corbastrigo::widths::corbastrigo_compare_bytes_bits;
 use corbastrigo::widths::corbastrigo_interpret_bits;
@@ -98,6 +99,26 @@ pub fn compare_needed(
     ensures { λ r. ⌜ AtWidth width r (FindsFirst (now («old_map» .entry)) (now («new_map» .entry)) width (now (first .entry)) (now (first .exit)) r (now (bytes .entry)) (now (bytes .exit))) ((now (first .exit) ≡ now (first .entry)) × (now (bytes .exit) ≡ now (bytes .entry))) ⌝ }
 {
     corbastrigo_compare_bytes_bits(old_map, new_map, width, first, bytes)
+}
+
+// ---- one map at both widths
+
+// A map is checked at 32, and at 128 where it is accepted: there it is accepted too, with the same count and depth. So the check at 128 cannot tell that a
+// map is for addresses of four bytes, and whoever holds one has to keep its width.
+pub fn accepted_at_both(
+    map: &[u8],
+    narrow_count: &mut u32,
+    narrow_depth: &mut u8,
+    count: &mut u32,
+    depth: &mut u8,
+) -> u8
+    ensures { λ r. ⌜ AlsoAt128 (now (map .entry)) r (now (count .exit) ∷ now (depth .exit) ∷ []) ⌝ }
+{
+    let refused = corbastrigo_sanity_check_bits(map, 32, narrow_count, narrow_depth);
+    if refused != 0 {
+        return refused;
+    }
+    corbastrigo_sanity_check(map, count, depth)
 }
 
 // ---- what holds of maps that the check accepts at the width
