@@ -1,10 +1,13 @@
 //! Every public function of the safe crate, with answers from document 01.
+mod scratch;
+
 use corbastrigo::*;
+use scratch::Scratch;
 use std::collections::HashSet;
 use std::error::Error;
 use std::io;
 use std::net::{IpAddr, SocketAddr};
-use std::path::{Path, PathBuf};
+use std::path::Path;
 
 /// 1.2.0.0/16 is sent to 1, 3.4.0.0/16 to 2.
 const TWO_PREFIXES: [u8; 35] = [
@@ -91,24 +94,6 @@ fn an_abort_has_the_number_0_and_is_told() {
     assert_eq!(parts(walk), (End::Aborted, 0, 1, 1));
     assert_eq!(number(interpret(&[1], &[0; 15])), 11);
     assert_eq!(number(interpret(&vec![0; MAX_MAP_BYTES + 1], &[0; 16])), 1);
-}
-
-/// A file that is gone when the test is done with it.
-struct Scratch(PathBuf);
-
-impl Scratch {
-    fn new(name: &str, bytes: &[u8]) -> Scratch {
-        let path = std::env::temp_dir().join(format!("corbastrigo-{name}-{}", std::process::id()));
-        std::fs::write(&path, bytes).expect("a file can be written");
-        Scratch(path)
-    }
-}
-
-impl Drop for Scratch {
-    fn drop(&mut self) {
-        // Where the test removed it itself there is nothing to do.
-        let _ = std::fs::remove_file(&self.0);
-    }
 }
 
 #[test]

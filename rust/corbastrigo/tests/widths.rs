@@ -1,7 +1,9 @@
 //! Maps of 32 address bits beside those of 128: each call at both widths, the refused widths, and the two kinds of map.
+mod scratch;
+
 use corbastrigo::*;
+use scratch::Scratch;
 use std::net::{Ipv4Addr, Ipv6Addr};
-use std::path::PathBuf;
 
 const RETURN: u32 = 0;
 const JUMP: u32 = 1;
@@ -241,24 +243,6 @@ fn at_128_each_answers_as_without_a_width() {
             assert_eq!(compare_bytes_bits(map, second, 128), compare_bytes(map, second));
             assert_eq!(first_change_bits(map, second, 128), first_change(map, second));
         }
-    }
-}
-
-/// A file that is gone when the test is done with it.
-struct Scratch(PathBuf);
-
-impl Scratch {
-    fn new(name: &str, bytes: &[u8]) -> Scratch {
-        let path = std::env::temp_dir().join(format!("corbastrigo-{name}-{}", std::process::id()));
-        std::fs::write(&path, bytes).expect("a file can be written");
-        Scratch(path)
-    }
-}
-
-impl Drop for Scratch {
-    fn drop(&mut self) {
-        // Where the test removed it itself there is nothing to do.
-        let _ = std::fs::remove_file(&self.0);
     }
 }
 
