@@ -325,6 +325,7 @@ static void no_width(uint32_t width) {
     IS(corbastrigo_list_bytes_bits(none, 0, width, &size), CORBASTRIGO_WIDTH);
     IS(corbastrigo_compare_bits(two_narrow, 8, lone_return, 3, width, out, 224, &size), CORBASTRIGO_WIDTH);
     IS(corbastrigo_compare_bits(too_long, sizeof too_long, lone_return, 3, width, out, 0, &size), CORBASTRIGO_WIDTH);
+    IS(corbastrigo_compare_bits(lone_return, 3, too_long, sizeof too_long, width, out, 28, &size), CORBASTRIGO_WIDTH);
     IS(corbastrigo_compare_bytes_bits(two_narrow, 8, lone_return, 3, width, out, 16, &size), CORBASTRIGO_WIDTH);
     IS(corbastrigo_compare_bytes_bits(lone_return, 3, too_long, sizeof too_long, width, out, 15, &size), CORBASTRIGO_WIDTH);
     IS(small, BEFORE(1));
@@ -366,9 +367,15 @@ static void checks_at_a_width(void) {
 
 static void walks_at_a_width(void) {
     const uint8_t address[4] = {3, 4, 0, 0}, zeros[4] = {0, 0, 0, 0};
-    uint8_t wide[16], kind = BEFORE(1), bits = BEFORE(4);
+    uint8_t wide[256 + 16] = {0}, kind = BEFORE(1), bits = BEFORE(4);
     uint32_t number = BEFORE(2), count = BEFORE(3);
     mapped(wide, 3, 4, 0, 0);
+    /* the last two would be 4 and 16 if a length were cut to a byte */
+    static const size_t lengths[] = {15, 17, 256 + 4, 256 + 16};
+    for (size_t i = 0; i < sizeof lengths / sizeof *lengths; i++) {
+        IS(corbastrigo_interpret_bits(two_narrow, 8, wide, lengths[i], 32, &kind, &number, &count, &bits), CORBASTRIGO_ADDRESS_LENGTH);
+        IS(corbastrigo_interpret_bits(two_prefixes, 35, wide, lengths[i], 128, &kind, &number, &count, &bits), CORBASTRIGO_ADDRESS_LENGTH);
+    }
     IS(corbastrigo_interpret_bits(two_narrow, 8, address, 3, 32, &kind, &number, &count, &bits), CORBASTRIGO_ADDRESS_LENGTH);
     IS(corbastrigo_interpret_bits(two_narrow, 8, wide, 16, 32, &kind, &number, &count, &bits), CORBASTRIGO_ADDRESS_LENGTH);
     IS(corbastrigo_interpret_bits(two_prefixes, 35, address, 4, 128, &kind, &number, &count, &bits), CORBASTRIGO_ADDRESS_LENGTH);
@@ -402,6 +409,7 @@ static void records_at_a_width(void) {
     size_t written = BEFORE(2), bytes = BEFORE(3);
     memset(list, BEFORE(1), sizeof list);
     IS(corbastrigo_unpack_bits(two_narrow, 8, 32, list, 63, &written), CORBASTRIGO_OUTPUT_TOO_SHORT);
+    IS(corbastrigo_unpack_bits(two_prefixes, 35, 128, list, 255, &written), CORBASTRIGO_OUTPUT_TOO_SHORT);
     IS(corbastrigo_unpack_bits(two_prefixes, 35, 32, list, 256, &written), CORBASTRIGO_NO_BITS);
     IS(corbastrigo_list_bits(two_narrow, 8, 32, list, 191, &written), CORBASTRIGO_OUTPUT_TOO_SHORT);
     IS(corbastrigo_list_bits(two_prefixes, 35, 32, list, sizeof list, &written), CORBASTRIGO_NO_BITS);
@@ -409,7 +417,7 @@ static void records_at_a_width(void) {
     IS(untouched(list, sizeof list), sizeof list);
     IS(written, BEFORE(2));
     IS(bytes, BEFORE(3));
-    IS(corbastrigo_unpack_bits(two_narrow, 8, 32, list, 64, &written), 0);
+    IS(corbastrigo_unpack_bits(two_narrow, 8, 32, list, 65, &written), 0);
     IS(written, 4 * CORBASTRIGO_RECORD_BYTES);
     IS(list[16], CORBASTRIGO_JUMP);
     IS(untouched(list + 64, sizeof list - 64), sizeof list - 64);
@@ -425,9 +433,10 @@ static void records_at_a_width(void) {
     IS(written, 256);
     IS(corbastrigo_list_bytes_bits(two_prefixes, 35, 128, &bytes), 0);
     IS(bytes, 2496);
-    IS(corbastrigo_list_bits(two_prefixes, 35, 128, list, 2496, &written), 0);
+    IS(corbastrigo_list_bits(two_prefixes, 35, 128, list, sizeof list, &written), 0);
     IS(written, 2496);
     IS(list[103 * 24], 0x80);
+    IS(untouched(list + 2496, 4), 4);
 }
 
 /* Of two_narrow's prefixes all but the first go elsewhere than the lone RETURN, from 2.0.0.0 on. */
@@ -455,6 +464,8 @@ static void comparisons_at_a_width(void) {
     IS(corbastrigo_compare_bits(lone_return, 3, two_narrow, 8, 32, list, 196, &written), 0);
     IS(list[20], 1);
     IS(list[24], 2);
+    IS(untouched(list + 196, 4), 4);
+    IS(corbastrigo_compare_bits(lone_return, 3, two_prefixes, 35, 32, list, 196, &written), CORBASTRIGO_NEW_MAP + CORBASTRIGO_NO_BITS);
     IS(corbastrigo_compare_bits(two_prefixes, 35, two_prefixes, 35, 128, list, sizeof list, &written), 0);
     IS(written, 0);
     IS(corbastrigo_compare_bytes_bits(two_prefixes, 35, lone_return, 3, 128, first, 16, &bytes), 0);
