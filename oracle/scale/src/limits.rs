@@ -73,7 +73,27 @@ fn at_a_width(tally: &mut Tally, random: &mut Random, map: &[u8]) {
             }
         }
     }
-    (0..20).for_each(|_| widths::no_width(tally, random, [map, sane]));
+    for maps in [[map, sane], [sane, map]] {
+        (0..20).for_each(|_| widths::no_width(tally, random, maps));
+    }
+    zeros_of_the_limit(tally);
+}
+
+/// Zeros to the last byte of the limit: read, and refused behind the first RETURN.
+fn zeros_of_the_limit(tally: &mut Tally) {
+    let map = &vec![0; LIMIT][..];
+    let (sane, refused) = (&[0; 3][..], |reason| (reason, BEFORE_SIZE, vec![BEFORE; 64]));
+    for width in [32, 128] {
+        let walked = calls::interpret_bits(map, &vec![0; width as usize / 8], width);
+        tally.same("walk at a width", &HUGE, walked, (0, 1, 1, 1, 0));
+        tally.same("check at a width", &HUGE, calls::sanity_check_bits(map, width), (6, BEFORE32, BEFORE));
+        tally.same("where it stops at a width", &HUGE, calls::sanity_check_stop_bits(map, width), (0, 6, 0));
+        tally.same("bytes of a list at a width", &HUGE, calls::list_bytes_bits(map, width), (6, BEFORE_SIZE));
+        tally.same("unpack at a width", &HUGE, calls::unpack_bits(map, width, 64), refused(6));
+        tally.same("list at a width", &HUGE, calls::list_bits(map, width, 64), refused(6));
+        tally.same("compare at a width", &HUGE, calls::compare_bits([sane, map], width, 64), refused(106));
+        tally.same("bytes of a comparison at a width", &HUGE, calls::compare_bytes_bits([map, sane], width, 64), refused(6));
+    }
 }
 
 /// The same map as the old one, as the new one and as both, and beside a map that is refused.

@@ -82,28 +82,33 @@ fn all_calls(tally: &mut Tally, random: &mut Random, map: &[u8], walks: usize) {
     beside_namesakes(tally, map, &random.address());
     not_four_bytes(tally, random, map);
     no_width(tally, random, [map, &[0; 3]]);
+    no_width(tally, random, [&[0; 3], map]);
 }
 
 /// At 128.
 fn beside_namesakes(tally: &mut Tally, map: &[u8], address: &[u8; 16]) {
     tally.same("check at 128", &map, calls::sanity_check_bits(map, 128), calls::sanity_check(map));
     tally.same("where it stops at 128", &map, calls::sanity_check_stop_bits(map, 128), calls::sanity_check_stop(map));
-    for address in [&address[..], &address[..4], &[]] {
+    let longer = [&address[..], &[0; 256]].concat();
+    for length in [16, 0, 4, 15, 17, 256 + 16] {
+        let address = &longer[..length];
         let walked = calls::interpret(map, address);
         tally.same("walk at 128", &(map, address), calls::interpret_bits(map, address, 128), walked);
     }
-    let needed = calls::list_bytes(map);
+    let (check, needed) = (calls::sanity_check(map), calls::list_bytes(map));
     tally.same("bytes of a list at 128", &map, calls::list_bytes_bits(map, 128), needed);
-    let bytes = if needed.0 == 0 { needed.1 } else { 24 };
-    for room in [bytes, bytes - 1] {
+    let (records, prefixes) = if needed.0 == 0 { (16 * check.1 as usize, needed.1) } else { (16, 24) };
+    for past in [0, 1, 6] {
+        let room = prefixes - 1 + past;
         tally.same("list at 128", &(map, room), calls::list_bits(map, 128, room), calls::list(map, room));
+        let room = records - 1 + past;
         tally.same("unpack at 128", &(map, room), calls::unpack_bits(map, 128, room), calls::unpack(map, room));
     }
 }
 
 /// An address of another length, at 32.
 fn not_four_bytes(tally: &mut Tally, random: &mut Random, map: &[u8]) {
-    let length = [0, 1, 3, 5, 16, 17][random.below(6) as usize];
+    let length = [0, 1, 3, 5, 16, 17, 256 + 4][random.below(7) as usize];
     let address = random.bytes(length);
     let refused = (11, BEFORE, BEFORE32, BEFORE32, BEFORE);
     tally.same("walk at 32", &(map, &address), calls::interpret_bits(map, &address, 32), refused);
