@@ -34,7 +34,7 @@ use Rattle.answers.specs.Outcome.{handed, IsDone, Hands}
 use Rattle.answers.specs.Maps.{mapChecked, kindNumber, endNumbers, walkMade}
 use Rattle.answers.specs.Codes.{codeRead}
 use Rattle.answers.specs.Groups.{groupFound, totalsOf, pickMade, Picks}
-use Rattle.answers.specs.Promise.{Finished, Demand3, Demand3At, CoreVerdictAt, CoreNumber, CoreNumberAt, CoreCode}
+use Rattle.answers.specs.Promise.{Finished, Demand3, Demand3At, CoreVerdict, CoreVerdictAt, CoreNumber, CoreNumberAt, CoreCode}
 use Rattle.answers.proofs.Handing.{Counted, hands}
 
 -- ---- the walk
@@ -110,14 +110,17 @@ core-code m at {y} r e p h = read-by-core m at y (subst (λ (d : Decoded). CoreR
 
 -- ---- the check: 0 where Core accepts, and no other number
 
-pub core-verdict : (m : List ℕ) (w : ℕ) (x : Verdict) {r : ℕ} {lent left : List ℕ} → LikeCore m w x → Hands (mapChecked x) r lent left
+verdict-over : (m : List ℕ) (w : ℕ) (x : Verdict) {r : ℕ} {lent left : List ℕ} → LikeCore m w x → Hands (mapChecked x) r lent left
     → length m ≤ limit → coreCheck (fileOf m) w ≡ eqb r 0
 unfolding handed IsDone mapChecked
-core-verdict m w (verdict.Accepted c d) {r} p h l = let e = h .numbers in let z : r ≡ 0 = cc in p l ∙ sym (eq-eqb r 0 z)
-core-verdict m w (verdict.Refused n) {r} p h l = p l ∙ sym (ne-eqb r 0 (λ z. h .zero-is-done z))
+verdict-over m w (verdict.Accepted c d) {r} p h l = let e = h .numbers in let z : r ≡ 0 = cc in p l ∙ sym (eq-eqb r 0 z)
+verdict-over m w (verdict.Refused n) {r} p h l = p l ∙ sym (ne-eqb r 0 (λ z. h .zero-is-done z))
+
+pub core-verdict : (m : List ℕ) (x : Verdict) {r : ℕ} {lent left : List ℕ} → LikeCore m 128 x → Hands (mapChecked x) r lent left → CoreVerdict m r
+core-verdict m x p h = verdict-over m 128 x p h
 
 pub core-verdict-at : (m : List ℕ) (w : ℕ) (x : Verdict) {r : ℕ} {lent left : List ℕ} → LikeCoreAt m w x → Hands (mapChecked x) r lent left → CoreVerdictAt m w r
-core-verdict-at m w x p h t = core-verdict m w x (p t) h
+core-verdict-at m w x p h t = verdict-over m w x (p t) h
 
 -- ---- groups and pick: where the answer is 0, what was found is in the lent numbers at exit
 

@@ -21,7 +21,7 @@ returns c =
     let m = c .before .before .before .before .before .args .map .now in
     let v = c .before .before .before .sanity-check .ensures in
     let h = hands mapChecked (v .0) (map-checked m 128) (c .hand-verdict .ensures) in
-    (h, core-verdict m 128 (checkOf m 128) (subst (LikeCore m 128) (v .0) (v .1)) h)
+    (h, core-verdict m (checkOf m 128) (subst (LikeCore m 128) (v .0) (v .1)) h)
 
 pub corbastrigo-sanity-check-spec : {M : Type 1} → statement M
 corbastrigo-sanity-check-spec =
