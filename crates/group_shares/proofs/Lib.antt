@@ -1,0 +1,5 @@
+pub mod SpreadLaws
+pub mod RunLaws
+pub mod SortLaws
+pub mod PartLaws
+pub mod ShareLaws
