@@ -1,0 +1,5 @@
+pub mod LineLaws
+pub mod PerCentLaws
+pub mod TellLaws
+pub mod PlaceLaws
+pub mod Examples

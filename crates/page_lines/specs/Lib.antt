@@ -1,0 +1,3 @@
+pub mod PerCent
+pub mod Line
+pub mod Told
