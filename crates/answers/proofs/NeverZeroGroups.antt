@@ -1,8 +1,8 @@
--- Which numbers a group call, the occupied scan or a pick refuses with; none of them is 0.
+-- Which numbers a group call, the occupied scan, a pick or a page refuses with; none of them is 0.
 -- Assumes nothing.
 use Prim.Native.Nat.{ℕ, _+_, _/_, _%_, _≤_, _<_, min}
 use mathlib.Core.Bool.{Bool, true, false, not, cond}
-use mathlib.Core.List.{List}
+use mathlib.Core.List.{List, []}
 use native.Mathlib.Omega.{arith}
 use lib.Dec.{eqb, ltb}
 use lib.ListN.{length}
@@ -23,10 +23,12 @@ use Rattle.netgroup.specs.Refusal.{verdictRefusal, limitRefusal, checkRefusal}
 use Rattle.netgroup.specs.Netgroup.{groupUnless, groupCall, prefixGroupCall, netgroupOf, netgroupUnchecked}
 use Rattle.netgroup_pick.specs.PickRefusal.{roomRefusal, pickRefusal}
 use Rattle.netgroup_pick.specs.Pick.{pickUnless, pickCall, selectDiverse, selectUnchecked}
-use Rattle.answers.specs.Maps.{mapChecked}
+use Rattle.asmap_records.specs.Output.{within, answerOf}
+use Rattle.spread_page.specs.Page.{pageUnless, pageCall, spreadPage, spreadUnchecked}
+use Rattle.answers.specs.Maps.{mapChecked, bytesWritten}
 use Rattle.answers.specs.Groups.{groupFound, scanMade, pickMade}
 use Rattle.answers.proofs.Handing.{Counted, Refuses, counted}
-use Rattle.answers.proofs.NeverZeroMaps.{map-numbers}
+use Rattle.answers.proofs.NeverZeroMaps.{map-numbers, Makes, bytes-numbers}
 
 -- P: what is shown of the number of a refusal
 module _ (P : ℕ → Type 0) where
@@ -92,6 +94,10 @@ module _ (P : ℕ → Type 0) where
   no-list false false true d many none = many
   no-list false false false d many none = refusing d 13 none
 
+  listed : (bytes occupied : List ℕ) → P 12 → P 13 → From (listRefusal bytes occupied)
+  listed bytes occupied many none =
+      no-list (not (eqb (length bytes % 20) 0)) (ltb 4096 (length bytes / 20)) (ltb 4096 (length occupied)) (not (allValid (candidatesOf bytes))) many none
+
   no-room : (a b : Bool) → P 14 → From (orElse (refuseIf a 14) (refuseIf b 14))
   no-room true b short = short
   no-room false b short = refusing b 14 short
@@ -102,10 +108,6 @@ module _ (P : ℕ → Type 0) where
     made-unless None n h = tt
     made-unless (Number k) n h = h
 
-    listed : P 12 → P 13 → From (listRefusal bytes occupied)
-    listed many none =
-        no-list (not (eqb (length bytes % 20) 0)) (ltb 4096 (length bytes / 20)) (ltb 4096 (length occupied)) (not (allValid (candidatesOf bytes))) many none
-
     roomy : P 14 → From (roomRefusal (length bytes / 20) max picks groups)
     roomy short = no-room (ltb (length picks) (min max (length bytes / 20))) (ltb (length groups) (min max (length bytes / 20))) short
 
@@ -115,7 +117,19 @@ module _ (P : ℕ → Type 0) where
     pick-numbers ofMap n many none short h =
         let room = roomRefusal (length bytes / 20) max picks groups in
         made-unless (pickRefusal ofMap bytes occupied max picks groups) n
-        (either (listRefusal bytes occupied) (orElse ofMap room) (listed many none) (either ofMap room h (roomy short)))
+        (either (listRefusal bytes occupied) (orElse ofMap room) (listed bytes occupied many none) (either ofMap room h (roomy short)))
+
+  -- ---- the page
+
+  page-makes : (why : Refusal) (n : Numbering) (all : List (List ℕ)) → From why → Makes P (pageUnless why n all)
+  page-makes None n all h = tt
+  page-makes (Number k) n all h = h
+
+  -- in a room of k bytes: 13, 12, 13, what is wrong with the map, 14
+  pub page-numbers : (k : ℕ) (bytes : List ℕ) (ofMap : Refusal) (n : Numbering) → P 12 → P 13 → P 14 → From ofMap → Refuses P (bytesWritten (answerOf (within k (pageCall ofMap n bytes))))
+  page-numbers k bytes ofMap n many none short h =
+      bytes-numbers P k (pageCall ofMap n bytes) short
+      (page-makes (orElse (listRefusal bytes []) ofMap) n (candidatesOf bytes) (either (listRefusal bytes []) ofMap (listed bytes [] many none) h))
 
 -- ---- none of them is 0
 
@@ -152,3 +166,14 @@ module _ (bytes occupied : List ℕ) (max : ℕ) (picks groups : List ℕ) where
 
   pub unchecked-made : (n : Numbering) → Counted (pickMade (selectUnchecked n bytes occupied max picks groups .answer))
   unchecked-made n = pick-made (limitRefusal n) n (by-limit-1 n)
+
+page-made : (k : ℕ) (bytes : List ℕ) (ofMap : Refusal) (n : Numbering) → From1 ofMap → Counted (bytesWritten (answerOf (within k (pageCall ofMap n bytes))))
+page-made k bytes ofMap n h = counted _ (page-numbers (λ n. 0 < n) k bytes ofMap n (omega arith) (omega arith) (omega arith) h)
+
+pub page-written : (k : ℕ) (n : Numbering) (bytes : List ℕ) → Counted (bytesWritten (answerOf (within k (spreadPage n bytes))))
+unfolding spreadPage
+page-written k n bytes = page-made k bytes (checkRefusal n) n (by-check-1 n)
+
+pub unchecked-written : (k : ℕ) (n : Numbering) (bytes : List ℕ) → Counted (bytesWritten (answerOf (within k (spreadUnchecked n bytes))))
+unfolding spreadUnchecked
+unchecked-written k n bytes = page-made k bytes (limitRefusal n) n (by-limit-1 n)

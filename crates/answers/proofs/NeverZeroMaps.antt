@@ -72,7 +72,7 @@ walk-made m a = counted-walk (not (eqb (length a) 16)) (ltb limit (length m)) (s
 
 -- P: what is shown of the number of a refusal
 module _ (P : ℕ → Type 0) where
-  abbrev Makes : Result → Type 0
+  abbrev pub Makes : Result → Type 0
   Makes (Made l) = Unit {0}
   Makes (No n) = P n
 
@@ -91,7 +91,7 @@ module _ (P : ℕ → Type 0) where
   numbered-answer (No n) h = h
 
   -- in a room of k bytes
-  bytes-numbers : (k : ℕ) (r : Result) → P 14 → Makes r → Refuses P (bytesWritten (answerOf (within k r)))
+  pub bytes-numbers : (k : ℕ) (r : Result) → P 14 → Makes r → Refuses P (bytesWritten (answerOf (within k r)))
   bytes-numbers k r short h = numbered-answer (within k r) (goes-on _ (λ l. refused (ltb k (length l)) 14 _ short tt) r h)
 
   -- made by the check's verdict: refused as it says

@@ -24,6 +24,8 @@ use Rattle.asmap_walk.specs.declared.Interpreted.{Interpreted}
 use Rattle.asmap_walk.specs.declared.Interpreted.the-variants.{Ended}
 use Rattle.asmap_walk.specs.Interpret.{walkOf, summary}
 use Rattle.asmap_walk.specs.Promise as walk
+use Rattle.asmap_records.specs.declared.Answer.{Answer}
+use Rattle.asmap_records.specs.declared.Answer.the-variants as records
 use Rattle.netgroup.specs.declared.GroupAnswer.{GroupAnswer}
 use Rattle.netgroup.specs.declared.GroupAnswer.the-variants as group
 use Rattle.netgroup_pick.specs.declared.PickAnswer.{PickAnswer}
@@ -31,7 +33,7 @@ use Rattle.netgroup_pick.specs.declared.PickAnswer.the-variants as pick
 use Rattle.netgroup_pick.specs.Pick.{Handed}
 use Rattle.netgroup_pick.specs.Pick as below
 use Rattle.answers.specs.Outcome.{handed, IsDone, Hands}
-use Rattle.answers.specs.Maps.{mapChecked, kindNumber, endNumbers, walkMade}
+use Rattle.answers.specs.Maps.{mapChecked, kindNumber, endNumbers, walkMade, bytesWritten}
 use Rattle.answers.specs.Codes.{codeRead}
 use Rattle.answers.specs.Groups.{groupFound, totalsOf, pickMade, Picks}
 use Rattle.answers.specs.Promise.{Finished, Demand3, Demand3At, CoreVerdict, CoreVerdictAt, CoreNumber, CoreNumberAt, CoreCode}
@@ -122,12 +124,21 @@ core-verdict m x p h = verdict-over m 128 x p h
 pub core-verdict-at : (m : List ℕ) (w : ℕ) (x : Verdict) {r : ℕ} {lent left : List ℕ} → LikeCoreAt m w x → Hands (mapChecked x) r lent left → CoreVerdictAt m w r
 core-verdict-at m w x p h t = verdict-over m w x (p t) h
 
--- ---- groups and pick: where the answer is 0, what was found is in the lent numbers at exit
+-- ---- groups, pages and pick: where the answer is 0, what was found is in the lent numbers at exit
 
 pub found : (x : GroupAnswer) {r g : ℕ} {lent : List ℕ} → Hands (groupFound x) r lent (g ∷ []) → r ≡ 0 → x ≡ group.Group g
 unfolding handed IsDone groupFound
 found (group.Group g′) h z = let e = h .numbers in cc
 found (group.Refused n) h z = absurd (h .zero-is-done z)
+
+wrote : (x : Answer) {r n : ℕ} {lent : List ℕ} → Hands (bytesWritten x) r lent (n ∷ []) → r ≡ 0 → x ≡ records.Wrote n
+unfolding handed IsDone bytesWritten
+wrote (records.Wrote k) h z = let e = h .numbers in cc
+wrote (records.Refused k) h z = absurd (h .zero-is-done z)
+
+-- what is promised of an answer x, which is y, holds of the bytes that were written
+pub of-written : (P : Answer → Type 0) (y : Answer) {x : Answer} {r n : ℕ} {lent : List ℕ} → P x → x ≡ y → Hands (bytesWritten y) r lent (n ∷ []) → r ≡ 0 → P (records.Wrote n)
+of-written P y k e h z = subst P (e ∙ wrote y h z) k
 
 pub picked : (x : PickAnswer) {r total first examined instructions : ℕ} {lent : List ℕ}
     → Hands (pickMade x) r lent (total ∷ first ∷ examined ∷ instructions ∷ []) → r ≡ 0 → x ≡ pick.Picked (totalsOf total first examined instructions)

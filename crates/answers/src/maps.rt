@@ -72,7 +72,7 @@ pub fn hand_walk(
     }
 }
 
-// What unpack, pack or a listing came to.
+// What unpack, pack, a listing, a comparison or a page came to.
 pub fn hand_bytes(got: Answer, written: &mut usize) -> u8
     ensures { λ r. ⌜ r ∷ now (written .exit) ∷ [] ≡ handed (bytesWritten got) (now (written .entry) ∷ []) ⌝ }
 {

@@ -10,4 +10,5 @@ pub mod codes;
 pub mod filters;
 pub mod groups;
 pub mod maps;
+pub mod pages;
 pub mod widths;
