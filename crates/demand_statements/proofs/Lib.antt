@@ -11,6 +11,8 @@ pub mod ListAnswers
 pub mod CandidateLaws
 pub mod PickLaws
 pub mod PickAnswers
+pub mod PrintLaws
+pub mod PageAnswers
 pub mod FilterAnswers
 pub mod CoreAnswers
 pub mod CompareAnswers

@@ -37,10 +37,10 @@ use Rattle.demand_statements.proofs.MapAnswers.{check-10}
 use Rattle.demand_statements.proofs.PickLaws.{unrefused, grouped, grouped-loaded, picked-as, picked-loaded}
 
 -- what the check refuses with
-abbrev Checked : ℕ → Type 0
+abbrev pub Checked : ℕ → Type 0
 Checked n = (1 ≤ n) × (n ≤ 10)
 
-refusal : (m : List ℕ) {r : ℕ} {entry exit : List ℕ} → Hands (mapChecked (checkOf m 128)) r entry exit → (r ≡ 0 → ⊥) → Checked r
+pub refusal : (m : List ℕ) {r : ℕ} {entry exit : List ℕ} → Hands (mapChecked (checkOf m 128)) r entry exit → (r ≡ 0 → ⊥) → Checked r
 refusal m {r} h n = (some r n, check-10 m 128 h)
   where
     some : (r : ℕ) → (r ≡ 0 → ⊥) → 1 ≤ r
@@ -48,13 +48,13 @@ refusal m {r} h n = (some r n, check-10 m 128 h)
     some (suc r) n = omega arith
 
 -- a call with a map says so
-of-map : (P : ℕ → Type 0) (has : ℕ) (m : List ℕ) → (has ≢ 0 → (n : ℕ) → Checked n → P n) → From P (checkRefusal (numbering (groupingOf has) m))
+pub of-map : (P : ℕ → Type 0) (has : ℕ) (m : List ℕ) → (has ≢ 0 → (n : ℕ) → Checked n → P n) → From P (checkRefusal (numbering (groupingOf has) m))
 unfolding groupingOf
 of-map P zero m h = tt
 of-map P (suc k) m h = by-check P (byMap m) (h (λ z. omega arith) 1 (omega arith, omega arith)) (λ n l t. h (λ z. omega arith) n (omega arith, t))
 
 -- nothing is wrong with a map that can be used
-map-passes : (has : ℕ) (m : List ℕ) → Usable has m → checkRefusal (numbering (groupingOf has) m) ≡ None
+pub map-passes : (has : ℕ) (m : List ℕ) → Usable has m → checkRefusal (numbering (groupingOf has) m) ≡ None
 unfolding groupingOf
 map-passes zero m u = refl
 map-passes (suc k) m u = ap verdictRefusal (u (λ z. omega arith) .2)
@@ -116,10 +116,10 @@ loaded-concluded m c v z h w = (grouped-loaded (limitRefusal (numbering (groupin
 
 -- ---- a pick
 
-abbrev PickNumber : ℕ → ℕ → Type 0
+abbrev pub PickNumber : ℕ → ℕ → Type 0
 PickNumber has n = (n ≡ 12) ⊎ ((n ≡ 13) ⊎ ((n ≡ 14) ⊎ ((has ≢ 0) × Checked n)))
 
-abbrev LoadedPick : ℕ → Type 0
+abbrev pub LoadedPick : ℕ → Type 0
 LoadedPick n = (n ≡ 12) ⊎ ((n ≡ 13) ⊎ ((n ≡ 14) ⊎ Checked n))
 
 module _ (n : Numbering) (bytes occupied : List ℕ) (max : ℕ) (picks groups : List ℕ) where

@@ -41,7 +41,7 @@ ends : (m c : List ℕ) → Finished m c → Ends (walkFor m c)
 ends m c f = record { ended = f .ended; zero = f .zero }
 
 -- of the candidate at a place
-ends-at : (m bytes : List ℕ) (i : ℕ) → Finished m (take 20 (drop (20 * i) bytes)) → Ends (walkAt m bytes i)
+pub ends-at : (m bytes : List ℕ) (i : ℕ) → Finished m (take 20 (drop (20 * i) bytes)) → Ends (walkAt m bytes i)
 ends-at m bytes i f = subst (λ (a : List ℕ). Ends (walkOf m a 128)) (address-at bytes i) (ends m (take 20 (drop (20 * i) bytes)) f)
 
 -- a map whose check answered 0 is not refused

@@ -157,7 +157,7 @@ pub record AtWidth (w r : ℕ) (Has Left : Type 0) : Type 0 where
 abbrev pub AlsoAt128 : List ℕ → ℕ → List ℕ → Type 0
 AlsoAt128 m r exit = (c d : ℕ) → checkOf m 32 ≡ Accepted c d → (r ≡ 0) × (exit ≡ c ∷ d ∷ [])
 
--- ---- groups and picks; `has` is 0 without a map
+-- ---- groups, picks and pages; `has` is 0 without a map
 
 -- The candidate at place i of a row is one: a zero after its family, which is 6, or 4 with an address in the mapped form.
 pub record Candidate (candidates : List ℕ) (i : ℕ) : Type 0 where
@@ -213,6 +213,23 @@ pub record LoadedPicks (r : ℕ) (entry exit picks picks′ groups groups′ : L
   pub untouched : Untouched r entry exit
   pub picks-untouched : Untouched r picks picks′
   pub groups-untouched : Untouched r groups groups′
+
+-- A page: 13 for bytes that are no whole candidates, then 12 for more than 4,096 of them; and 0 where nothing is wrong and the output has 25 bytes
+-- for each candidate, which is enough for any groups.
+pub record Pages (has : ℕ) (m candidates o o′ : List ℕ) (r written written′ : ℕ) : Type 0 where
+  pub numbers : (r ≡ 0) ⊎ ((r ≡ 12) ⊎ ((r ≡ 13) ⊎ ((r ≡ 14) ⊎ ((has ≢ 0) × ((1 ≤ r) × (r ≤ 10))))))
+  pub no-candidates : length candidates % 20 ≢ 0 → r ≡ 13
+  pub too-many : length candidates % 20 ≡ 0 → 4096 < length candidates / 20 → r ≡ 12
+  pub answered : length candidates % 20 ≡ 0 → length candidates / 20 ≤ 4096 → ((i : ℕ) → i < length candidates / 20 → Candidate candidates i) → Usable has m
+      → 25 * (length candidates / 20) ≤ length o → r ≡ 0
+  pub past : r ≡ 0 → drop written′ o′ ≡ drop written′ o
+  pub untouched : r ≢ 0 → (o′ ≡ o) × (written′ ≡ written)
+
+-- The same by a map that the caller checks first.
+pub record LoadedPages (o o′ : List ℕ) (r written written′ : ℕ) : Type 0 where
+  pub numbers : (r ≡ 0) ⊎ ((r ≡ 12) ⊎ ((r ≡ 13) ⊎ ((r ≡ 14) ⊎ ((1 ≤ r) × (r ≤ 10)))))
+  pub past : r ≡ 0 → drop written′ o′ ≡ drop written′ o
+  pub untouched : r ≢ 0 → (o′ ≡ o) × (written′ ≡ written)
 
 -- ---- filters
 

@@ -4,3 +4,4 @@ pub mod Picked
 pub mod Same
 pub mod Listed
 pub mod Agreed
+pub mod Printed

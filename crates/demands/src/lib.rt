@@ -5,10 +5,10 @@
 // (`walkOf`), the unpacked list (`unpacked`), the first pass (`firstPass`) and Core's functions (`coreCheck`, `coreInterpret`, its four
 // decoders), with how these take bytes (`mapOf`, `fileOf`, `addressBit`). All else is numbers, bytes and equations, in
 // `demand_statements/specs`. Each is proved from the contracts of the exported calls and from laws about those definitions
-// (`demand_statements/proofs`); no code below them is looked at. So what a contract there no longer says is refused here. All 35 exported
+// (`demand_statements/proofs`); no code below them is looked at. So what a contract there no longer says is refused here. All 37 exported
 // calls have a caller.
 //
-// Demand 1, any input: `any_input`, and `refused` in `picks`. Maps, addresses, lists and lengths of every kind get an answer, 0, or one
+// Demand 1, any input: `any_input`, and `refused` in `picks` and `pages`. Maps, addresses, lists and lengths of every kind get an answer, 0, or one
 // of document 01's numbers for that call, said with when. Where the answer is not 0, every lent number and byte is what it was.
 //
 // Demand 2, as Core has it, and both ways without loss: `same`, and `core` in `walks` and of the codes read in `any_input`. A code that is
@@ -28,10 +28,14 @@
 //
 // Request 3, maps for four-byte addresses: `widths`. All of the above on maps, at a width of 32 or 128 bits, said once for both; 18 for any other.
 //
+// Request 4, the spread on a printed page: `pages`. Each byte of a line is read off the output: its group, rising from line to line, how many
+// candidates have it, their per cent, spaces and line feed. Every candidate's group has a line, and with a map no walk of a candidate aborts.
+//
 // Two maps compared: `comparisons`. Where a comparison needs no byte, the two walks by any address end with the same number.
 pub mod any_input;
 pub mod comparisons;
 pub mod lists;
+pub mod pages;
 pub mod picks;
 pub mod same;
 pub mod walks;
