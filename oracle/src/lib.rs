@@ -21,6 +21,7 @@ pub mod codes;
 pub mod document;
 pub mod filters;
 pub mod listing;
+pub mod page;
 pub mod picks;
 pub mod records;
 pub mod scan;

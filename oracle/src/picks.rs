@@ -88,7 +88,7 @@ pub struct Pick {
     pub instructions: u64,
 }
 
-fn refusal(bytes: &[u8], occupied: &[u64], max: usize, by: &Groups, rooms: [usize; 2]) -> Result<(), Refusal> {
+pub(crate) fn refusal(bytes: &[u8], occupied: &[u64], max: usize, by: &Groups, rooms: [usize; 2]) -> Result<(), Refusal> {
     if bytes.len() % 20 != 0 {
         return Err(13);
     }

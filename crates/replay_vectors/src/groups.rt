@@ -21,7 +21,7 @@ use replay_lines::words::wide;
 use replay_lines::words::word;
 
 // What groups go by: 0 without a map, 1 with one.
-fn grouping_of(n: u8) -> Grouping {
+pub fn grouping_of(n: u8) -> Grouping {
     match n {
         0 => Grouping::Prefixes,
         _ => Grouping::Map,

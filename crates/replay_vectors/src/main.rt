@@ -24,6 +24,7 @@ use crate::maps::list_bytes;
 use crate::maps::walk;
 use crate::maps::written;
 use crate::maps::written_of_two;
+use crate::pages::page;
 use crate::widths::check_bits;
 use crate::widths::check_stop_bits;
 use crate::widths::list_bytes_bits;
@@ -42,6 +43,7 @@ mod addresses;
 mod codes;
 mod groups;
 mod maps;
+mod pages;
 mod widths;
 
 // Room for the list. One that fills it is taken for too long.
@@ -60,7 +62,7 @@ fn word_room() -> [u8; 262144]
 
 // ---- a line
 
-// The kinds of call by their letters, and 31 for any other letter. They are counted and printed in this order; the capitals are calls at a width.
+// The kinds of call by their letters, and 33 for any other letter. They are counted and printed in this order; the capitals are calls at a width.
 fn kind_of(letter: u8) -> usize {
     match letter {
         b'd' => 0,
@@ -91,10 +93,12 @@ fn kind_of(letter: u8) -> usize {
         b's' => 25,
         b't' => 26,
         b'o' => 27,
-        b'm' => 28,
-        b'f' => 29,
-        b'r' => 30,
-        _ => 31,
+        b'a' => 28,
+        b'z' => 29,
+        b'm' => 30,
+        b'f' => 31,
+        b'r' => 32,
+        _ => 33,
     }
 }
 
@@ -115,7 +119,8 @@ fn shape_of(kind: usize) -> [u8; 9]
         23 | 24 => [1, 9, 9, 9, 0, 0, 0, 0, 0],
         25 | 26 => [1, 9, 9, 8, 9, 9, 9, 9, 0],
         27 => [8, 9, 9, 0, 0, 0, 0, 0, 0],
-        30 => [1, 2, 9, 9, 0, 0, 0, 0, 0],
+        28 | 29 => [1, 9, 9, 9, 9, 0, 0, 0, 0],
+        32 => [1, 2, 9, 9, 0, 0, 0, 0, 0],
         _ => [9, 9, 0, 0, 0, 0, 0, 0, 0],
     }
 }
@@ -198,14 +203,16 @@ fn replay_peers(kind: usize, bytes: &[u8], words: Words) -> Seen {
         24 => group(bytes, words, false),
         25 => pick(bytes, words, 0),
         26 => pick(bytes, words, 2),
-        _ => scan(bytes, words),
+        27 => scan(bytes, words),
+        28 => page(bytes, words, true),
+        _ => page(bytes, words, false),
     }
 }
 
 fn replay_address(kind: usize, bytes: &[u8], words: Words) -> Seen {
     match kind {
-        28 => mapped(bytes, words),
-        29 => unroutable(bytes, words),
+        30 => mapped(bytes, words),
+        31 => unroutable(bytes, words),
         _ => relay_skip(bytes, words),
     }
 }
@@ -221,7 +228,7 @@ fn replay_words(kind: usize, bytes: &[u8], words: Words) -> Seen {
     if kind < 22 {
         return replay_width(kind, bytes, words);
     }
-    if kind < 28 {
+    if kind < 30 {
         return replay_peers(kind, bytes, words);
     }
     replay_address(kind, bytes, words)
@@ -239,7 +246,7 @@ fn letter_of(line: &[u8]) -> u8 {
 }
 
 fn replay_line(kind: usize, line: &[u8], bytes: &mut [u8]) -> Seen {
-    if 30 < kind {
+    if 32 < kind {
         return Seen::Unread;
     }
     let words = read_words(line, bytes);
@@ -255,19 +262,19 @@ fn replay_line(kind: usize, line: &[u8], bytes: &mut [u8]) -> Seen {
 
 // ---- the list
 
-// Every line is counted at one of 65 places: for each kind of call the answers that are ours and, 31 places on, those that differ; then
+// Every line is counted at one of 69 places: for each kind of call the answers that are ours and, 33 places on, those that differ; then
 // headings, lines with a wrong count of words, and lines that could not be read.
 fn place_of(kind: usize, seen: Seen) -> usize
-    ensures { λ r. ⌜ r < 65 ⌝ }
+    ensures { λ r. ⌜ r < 69 ⌝ }
 {
-    if 30 < kind {
-        return 64;
+    if 32 < kind {
+        return 68;
     }
     match seen {
         Seen::Same => kind,
-        Seen::Differs => 31 + kind,
-        Seen::Count => 63,
-        Seen::Unread => 64,
+        Seen::Differs => 33 + kind,
+        Seen::Count => 67,
+        Seen::Unread => 68,
     }
 }
 
@@ -280,18 +287,18 @@ fn is_heading(line: &[u8]) -> bool {
 }
 
 fn line_place(line: &[u8], bytes: &mut [u8]) -> usize
-    ensures { λ r. ⌜ r < 65 ⌝ }
+    ensures { λ r. ⌜ r < 69 ⌝ }
 {
     if is_heading(line) {
-        return 62;
+        return 66;
     }
     let kind = kind_of(letter_of(line));
     place_of(kind, replay_line(kind, line, bytes))
 }
 
 // One line more. The list is far too short for a count to wrap.
-fn add_one(counts: &mut [u64; 65], place: usize)
-    requires { ⌜ place < 65 ⌝ }
+fn add_one(counts: &mut [u64; 69], place: usize)
+    requires { ⌜ place < 69 ⌝ }
 {
     counts[place] = wrapping_add_u64(counts[place], 1);
 }
@@ -306,16 +313,16 @@ fn say_number(n: u64) {
 
 // Names a line that is neither a heading nor has our answer, by the place where it is counted.
 fn say_line(line: u64, place: usize) {
-    if place < 31 || place == 62 {
+    if place < 33 || place == 66 {
         return;
     }
     say(b"line ");
     say_number(line);
-    if place < 62 {
+    if place < 66 {
         say(b" differs\n");
         return;
     }
-    if place < 64 {
+    if place < 68 {
         say(b" has a wrong count of words\n");
         return;
     }
@@ -323,7 +330,7 @@ fn say_line(line: u64, place: usize) {
 }
 
 // Hands back how many lines there are.
-fn replay_list(list: &[u8], bytes: &mut [u8], counts: &mut [u64; 65]) -> u64 {
+fn replay_list(list: &[u8], bytes: &mut [u8], counts: &mut [u64; 69]) -> u64 {
     let mut lines: u64 = 0;
     let mut at: usize = 0;
     while at < list.len() {
@@ -337,10 +344,10 @@ fn replay_list(list: &[u8], bytes: &mut [u8], counts: &mut [u64; 65]) -> u64 {
     lines
 }
 
-fn say_kind(name: &[u8], counts: &[u64; 65], kind: usize)
-    requires { ⌜ kind < 31 ⌝ }
+fn say_kind(name: &[u8], counts: &[u64; 69], kind: usize)
+    requires { ⌜ kind < 33 ⌝ }
 {
-    let differ = counts[kind + 31];
+    let differ = counts[kind + 33];
     say(name);
     say_number(wrapping_add_u64(counts[kind], differ));
     say(b" answers, ");
@@ -348,7 +355,7 @@ fn say_kind(name: &[u8], counts: &[u64; 65], kind: usize)
     say(b" differ\n");
 }
 
-fn say_codes(counts: &[u64; 65]) {
+fn say_codes(counts: &[u64; 69]) {
     say_kind(b"code read: ", counts, 0);
     say_kind(b"code written: ", counts, 1);
     say_kind(b"instruction read: ", counts, 2);
@@ -356,7 +363,7 @@ fn say_codes(counts: &[u64; 65]) {
     say_kind(b"bit reader: ", counts, 4);
 }
 
-fn say_maps(counts: &[u64; 65]) {
+fn say_maps(counts: &[u64; 69]) {
     say_kind(b"check: ", counts, 5);
     say_kind(b"where a check stops: ", counts, 6);
     say_kind(b"walk: ", counts, 7);
@@ -368,7 +375,7 @@ fn say_maps(counts: &[u64; 65]) {
     say_kind(b"bytes of a comparison: ", counts, 13);
 }
 
-fn say_widths(counts: &[u64; 65]) {
+fn say_widths(counts: &[u64; 69]) {
     say_kind(b"check at a width: ", counts, 14);
     say_kind(b"where a check at a width stops: ", counts, 15);
     say_kind(b"walk at a width: ", counts, 16);
@@ -379,29 +386,31 @@ fn say_widths(counts: &[u64; 65]) {
     say_kind(b"bytes of a comparison at a width: ", counts, 21);
 }
 
-fn say_peers(counts: &[u64; 65]) {
+fn say_peers(counts: &[u64; 69]) {
     say_kind(b"group by prefix: ", counts, 22);
     say_kind(b"group: ", counts, 23);
     say_kind(b"group, map unchecked: ", counts, 24);
     say_kind(b"pick: ", counts, 25);
     say_kind(b"pick, map unchecked: ", counts, 26);
     say_kind(b"occupied scan: ", counts, 27);
+    say_kind(b"page: ", counts, 28);
+    say_kind(b"page, map unchecked: ", counts, 29);
 }
 
-fn say_addresses(counts: &[u64; 65]) {
-    say_kind(b"IPv4-mapped address: ", counts, 28);
-    say_kind(b"unroutable: ", counts, 29);
-    say_kind(b"relay skip: ", counts, 30);
+fn say_addresses(counts: &[u64; 69]) {
+    say_kind(b"IPv4-mapped address: ", counts, 30);
+    say_kind(b"unroutable: ", counts, 31);
+    say_kind(b"relay skip: ", counts, 32);
 }
 
-fn say_lines(lines: u64, counts: &[u64; 65]) {
+fn say_lines(lines: u64, counts: &[u64; 69]) {
     say_number(lines);
     say(b" lines, ");
-    say_number(counts[62]);
+    say_number(counts[66]);
     say(b" of them headings, ");
-    say_number(counts[63]);
+    say_number(counts[67]);
     say(b" with a wrong count of words, ");
-    say_number(counts[64]);
+    say_number(counts[68]);
     say(b" not read\n");
 }
 
@@ -409,7 +418,7 @@ fn main() {
     let mut list = list_room();
     let mut bytes = word_room();
     let n = io::read_full(STDIN_FILENO, &mut list);
-    let mut counts = [0u64; 65];
+    let mut counts = [0u64; 69];
     let lines = replay_list(&list[..n], &mut bytes, &mut counts);
     say_codes(&counts);
     say_maps(&counts);

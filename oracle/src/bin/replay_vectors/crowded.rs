@@ -16,7 +16,7 @@ fn apart(k: u32) -> u64 {
 }
 
 /// A candidate of family 6 that has this group by its prefix.
-fn peer(group: u64, port: u16) -> Vec<u8> {
+pub fn peer(group: u64, port: u16) -> Vec<u8> {
     let first = u32::try_from(group).expect("four bytes").to_be_bytes();
     [&[6, 0][..], &first, &[0; 12], &port.to_be_bytes()].concat()
 }

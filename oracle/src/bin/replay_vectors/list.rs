@@ -7,6 +7,7 @@ use oracle::codes::{in_range, instruction, Row, ROWS};
 use oracle::document::{self, Refusal, Verdict, Walk};
 use oracle::filters::message;
 use oracle::listing::{self, Prefix, RECORD};
+use oracle::page;
 use oracle::picks::{self, By, Groups, Pick};
 use oracle::scan::{self, Scan};
 use oracle::width::{Width, W128};
@@ -15,7 +16,7 @@ use std::net::{IpAddr, Ipv4Addr, Ipv6Addr};
 use std::panic;
 
 /// The calls in the order in which the program counts them: letter and name.
-pub const CALLS: [(char, &str); 31] = [
+pub const CALLS: [(char, &str); 33] = [
     ('d', "code read"),
     ('e', "code written"),
     ('i', "instruction read"),
@@ -44,6 +45,8 @@ pub const CALLS: [(char, &str); 31] = [
     ('s', "pick"),
     ('t', "pick, map unchecked"),
     ('o', "occupied scan"),
+    ('a', "page"),
+    ('z', "page, map unchecked"),
     ('m', "IPv4-mapped address"),
     ('f', "unroutable"),
     ('r', "relay skip"),
@@ -71,6 +74,15 @@ pub struct Picking<'a> {
     pub by: By<'a>,
     pub map: &'a [u8],
     pub rooms: [usize; 2],
+}
+
+/// What a page is handed: the room is the output's. With `By::Prefixes` the map is there and not looked at.
+#[derive(Clone, Copy)]
+pub struct Paging<'a> {
+    pub list: &'a [u8],
+    pub by: By<'a>,
+    pub map: &'a [u8],
+    pub room: usize,
 }
 
 fn answered(answer: &Answer) -> Vec<u8> {
@@ -326,6 +338,22 @@ impl List {
         });
         self.add('o', &[&word::number(group), &numbers(occupied), &answered(&answer)]);
         made
+    }
+
+    pub fn page(&mut self, inputs: &Paging) -> Result<String, Refusal> {
+        self.paged('a', inputs)
+    }
+
+    pub fn page_unchecked(&mut self, inputs: &Paging) -> Result<String, Refusal> {
+        self.paged('z', inputs)
+    }
+
+    fn paged(&mut self, call: char, inputs: &Paging) -> Result<String, Refusal> {
+        let Paging { list, by, map, room } = *inputs;
+        let made = page::page(list, &Groups::new(by));
+        let Written { answer, left, bytes } = written_to(made.clone().map(String::into_bytes), room);
+        self.add(call, &[&[has_map(by)], list, map, &answer, &left]);
+        bytes.and(made)
     }
 
     // ---- addresses

@@ -50,6 +50,8 @@
 //!                                        have, and PLACES 2
 //!     t (the same)                       pick with a map that is not checked
 //!     o GROUP OCCUPIED ANSWER            occupied scan: whether there is a hit (1), its place or 0 (8), how many groups were read (8)
+//!     a HAS LIST MAP ANSWER PAGE         page: bytes written (4). HAS as above
+//!     z HAS LIST MAP ANSWER PAGE         the same with a map that is not checked
 //!     m IPV4 ADDRESS                     IPv4-mapped address
 //!     f ADDRESS ANSWER                   unroutable (1)
 //!     r NETWORK PORT ADDRESS ANSWER      relay skip (1)
@@ -64,6 +66,7 @@ mod comparisons;
 mod crowded;
 mod list;
 mod listings;
+mod pages;
 mod peers;
 mod programs;
 mod sample;
@@ -93,6 +96,7 @@ fn main() {
     peers::cases(&mut list, &mut tables);
     crowded::cases(&mut list);
     scans::cases(&mut list, &mut tables);
+    pages::cases(&mut list, &mut tables);
     addresses::cases(&mut list, &mut tables);
     sample::cases(&mut list);
     let words: Vec<String> = std::env::args().skip(1).collect();

@@ -6,7 +6,7 @@ use oracle::document::Refusal;
 use oracle::picks::{By, Groups, Pick};
 use std::net::SocketAddr;
 
-const MIXED: [&str; 10] = [
+pub const MIXED: [&str; 10] = [
     "1.2.3.4:8333",
     "1.2.9.9:8333",
     "3.4.0.1:8333",
@@ -19,11 +19,11 @@ const MIXED: [&str; 10] = [
     "3.4.0.1:8333",
 ];
 
-const LOOPBACK: [&str; 6] =
+pub const LOOPBACK: [&str; 6] =
     ["127.0.0.1:8333", "127.0.0.2:8333", "127.0.0.3:8333", "10.0.0.1:8333", "127.0.0.1:8334", "127.0.0.2:8333"];
 
 /// A map that is none: its walks abort, and the check refuses it with 2.
-const NONE: &[u8] = asmap::ASMAP_JUMP_OFF_END;
+pub const NONE: &[u8] = asmap::ASMAP_JUMP_OFF_END;
 
 fn candidate(text: &str) -> Vec<u8> {
     let socket: SocketAddr = text.parse().expect("an address and a port");
@@ -31,7 +31,7 @@ fn candidate(text: &str) -> Vec<u8> {
     [&[family, 0][..], &asmap::ip16_for_lookup(socket.ip()), &socket.port().to_be_bytes()].concat()
 }
 
-fn list_of(texts: &[&str]) -> Vec<u8> {
+pub fn list_of(texts: &[&str]) -> Vec<u8> {
     texts.iter().flat_map(|text| candidate(text)).collect()
 }
 
@@ -43,20 +43,20 @@ fn with(place: usize, byte: u8) -> Vec<u8> {
     [first, second].concat()
 }
 
-fn other_family() -> Vec<u8> {
+pub fn other_family() -> Vec<u8> {
     with(0, 5)
 }
 
-fn second_byte() -> Vec<u8> {
+pub fn second_byte() -> Vec<u8> {
     with(1, 1)
 }
 
 /// Family 4 without the mapped form.
-fn not_mapped() -> Vec<u8> {
+pub fn not_mapped() -> Vec<u8> {
     with(11, 1)
 }
 
-fn twenty_one() -> Vec<u8> {
+pub fn twenty_one() -> Vec<u8> {
     [candidate(MIXED[0]), vec![0]].concat()
 }
 

@@ -1,7 +1,7 @@
 //! The tables that teach something, as text: docs/tables/NAME.txt.
 
 /// Each with its first lines, which say what a row holds.
-const TABLES: [(&str, &str); 11] = [
+const TABLES: [(&str, &str); 12] = [
     (
         "codes",
         "The code of the first and the last value of each size of the four rows (document 01, Codes), and of values around each row.\n\
@@ -65,6 +65,14 @@ const TABLES: [(&str, &str); 11] = [
         "scan",
         "Where a group stands among the occupied groups (document 02, CR 2): the scan goes from the first on and ends at the first hit.\n\
          Group, groups: the hit's place from 0, or none, and how many groups were read, that place plus one or all; or the refusal.",
+    ),
+    (
+        "page",
+        "The groups of a candidate list on a printed page (document 02, CR 4), without a map or with one. Groups rise. A line has the group\n\
+         in 10 columns, how many candidates have it in 6, and the per cent that these are of all in 6, rounded to a tenth, halves up.\n\
+         Columns are filled from the right, a blank stands between two, and a line feed makes 25 bytes. pick.txt says who mixed and\n\
+         loopback are; the other lists are of IPv6, whose group without a map is the number of their first four bytes.\n\
+         List: the bytes that were written, or the refusal; then the page, here two columns in.",
     ),
     (
         "filters",
