@@ -231,6 +231,16 @@ pub fn select_diverse(call: sys::SelectDiverse, asked: &Asked) -> Left {
     Left { answer, picks, groups, totals: [total as u64, first as u64, examined as u64, instructions] }
 }
 
+/// What stands behind the lent bytes is handed back too.
+pub fn page(call: sys::Page, candidates: &[u8], has_map: u8, map: &[u8], room: usize) -> Bytes {
+    let (mut out, mut written) = (vec![BEFORE; room + sys::PAGE_LINE_BYTES], BEFORE_SIZE);
+    let answer = unsafe {
+        let at = out.as_mut_ptr();
+        call(candidates.as_ptr(), candidates.len(), has_map, map.as_ptr(), map.len(), at, room, &mut written)
+    };
+    (answer, written, out)
+}
+
 pub fn clearnet_unroutable(address: &[u8]) -> (u8, u8) {
     let mut unroutable = BEFORE;
     let answer = unsafe { sys::corbastrigo_clearnet_unroutable(address.as_ptr(), address.len(), &mut unroutable) };

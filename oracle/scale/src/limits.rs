@@ -4,7 +4,7 @@ use crate::calls::{self, BEFORE, BEFORE32, BEFORE64, BEFORE_SIZE};
 use crate::changes::{Listed, Pair};
 use crate::programs::{known, walks, Known};
 use crate::tally::Tally;
-use crate::{codes, listing, picks, widths, Form};
+use crate::{codes, listing, pages, picks, widths, Form};
 use corbastrigo_sys as sys;
 use maps::{shapes, Random};
 use oracle::asmap::{RETURN, TWO_PREFIX_ASMAP};
@@ -49,6 +49,8 @@ fn one_too_many(tally: &mut Tally, random: &mut Random, map: &[u8]) {
     tally.same("group", &HUGE, calls::netgroup(checked, &candidate[1..], 1, map), (13, BEFORE64));
     picks::all_ways(tally, &candidate, &[], 1, map, [1, 1]);
     picks::all_ways(tally, &candidate, &[], 1, map, [1, 0]);
+    pages::all_ways(tally, &candidate, map);
+    pages::all_ways(tally, &candidate[1..], map);
 }
 
 /// The same map by the calls that take a width; a width that is none is refused first.
@@ -159,6 +161,7 @@ fn greatest(tally: &mut Tally, random: &mut Random, form: Form) {
     }
     let lists: Vec<u8> = (0..40).flat_map(|i| [&[6, 0, 0x20, i][..], &[0; 16]].concat()).collect();
     picks::all_ways(tally, &lists, &[], 8, &map, [8, 8]);
+    pages::all_ways(tally, &lists, &map);
     let cut = known(tally, &map[..LIMIT - 1]);
     cut.walk(tally, &[0; 16]);
     listing::list(tally, &cut);
@@ -215,10 +218,15 @@ fn longest_lists(tally: &mut Tally, random: &mut Random) {
                 picks::all_ways(tally, &candidates, &occupied, max, &map, [room.saturating_sub(1), room]);
             }
         }
+        pages::all_ways(tally, &candidates, &map);
         let mut spoiled = candidates.clone();
         spoiled[20 * (count - 1)] = 5;
         picks::all_ways(tally, &spoiled, &[], 1, &map, [1, 1]);
         picks::all_ways(tally, &spoiled[..spoiled.len() - 1], &[], 1, &map, [1, 1]);
+        pages::all_ways(tally, &spoiled, &map);
+        pages::all_ways(tally, &spoiled[..spoiled.len() - 1], &map);
+        spoiled.push(0);
+        pages::all_ways(tally, &spoiled, &map);
     }
 }
 

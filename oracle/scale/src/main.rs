@@ -10,6 +10,7 @@ mod crowded;
 mod filters;
 mod limits;
 mod listing;
+mod pages;
 mod picks;
 mod programs;
 mod safe;
@@ -61,7 +62,7 @@ fn main() {
     println!("scale: seed {seed}");
     let mut tally = Tally::default();
     type Part = fn(&mut Tally, &mut Random, Form);
-    let parts: [(&str, Part); 13] = [
+    let parts: [(&str, Part); 14] = [
         ("codes", codes::run),
         ("short strings", programs::short_strings),
         ("random bytes", programs::random_bytes),
@@ -75,6 +76,7 @@ fn main() {
         ("occupied scans", scans::run),
         ("crowded picks", crowded::run),
         ("widths", widths::run),
+        ("pages", pages::run),
     ];
     for (number, (name, part)) in parts.into_iter().enumerate() {
         let (start, before) = (Instant::now(), tally.compared);

@@ -20,7 +20,7 @@ fn candidate(random: &mut Random, address: [u8; 16]) -> Vec<u8> {
 }
 
 /// A byte of a list changed, which makes most candidates wrong that it meets.
-fn spoiled(random: &mut Random, list: &mut Vec<u8>) {
+pub fn spoiled(random: &mut Random, list: &mut Vec<u8>) {
     match random.below(4) {
         0 => list.push(0),
         1 => list.truncate(list.len() - 1),
@@ -36,7 +36,7 @@ fn spoiled(random: &mut Random, list: &mut Vec<u8>) {
 }
 
 /// A list of candidates: few addresses, many times, or many.
-fn list(random: &mut Random, map: &[u8], count: usize) -> Vec<u8> {
+pub fn list(random: &mut Random, map: &[u8], count: usize) -> Vec<u8> {
     let few = random.percent(50);
     let pool: Vec<[u8; 16]> = (0..if few { 1 + random.below(6) as usize } else { count })
         .map(|_| if random.percent(50) { followed(map, random) } else { random.address() })
