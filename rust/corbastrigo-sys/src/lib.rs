@@ -13,6 +13,9 @@
 /// The bytes of a record of `corbastrigo_compare`: 16 address bytes, the prefix length, three zeros, the old map's number and the new one's.
 pub const CHANGE_RECORD_BYTES: usize = 28;
 
+/// The bytes of a line of `corbastrigo_page`: the group in 10 columns, a space, its candidates in 6, a space, the per cent in 6, a line feed.
+pub const PAGE_LINE_BYTES: usize = 25;
+
 /// What a comparison adds to the check's reason where it refuses the new map: 101 to 110.
 pub const NEW_MAP: u8 = 100;
 
@@ -50,6 +53,9 @@ pub type SelectDiverse = unsafe extern "C" fn(
     *mut usize,
     *mut u64,
 ) -> u8;
+
+/// A page: candidates, map or none; then the lines and how many bytes they have.
+pub type Page = unsafe extern "C" fn(*const u8, usize, u8, *const u8, usize, *mut u8, usize, *mut usize) -> u8;
 
 extern "C" {
     /// Reads an opcode at a bit.
@@ -247,6 +253,28 @@ extern "C" {
         first: *mut usize,
         examined: *mut usize,
         instructions: *mut u64,
+    ) -> u8;
+    /// Writes how candidates spread over groups, a line of 25 bytes for each group; a map is checked first.
+    pub fn corbastrigo_page(
+        candidates: *const u8,
+        candidates_len: usize,
+        has_map: u8,
+        map: *const u8,
+        map_len: usize,
+        out: *mut u8,
+        out_len: usize,
+        written: *mut usize,
+    ) -> u8;
+    /// Writes how candidates spread over groups, a line of 25 bytes for each group; a map is walked as it is.
+    pub fn corbastrigo_page_unchecked(
+        candidates: *const u8,
+        candidates_len: usize,
+        has_map: u8,
+        map: *const u8,
+        map_len: usize,
+        out: *mut u8,
+        out_len: usize,
+        written: *mut usize,
     ) -> u8;
     /// Whether an address can be no peer on the open Internet.
     pub fn corbastrigo_clearnet_unroutable(address: *const u8, address_len: usize, unroutable: *mut u8) -> u8;

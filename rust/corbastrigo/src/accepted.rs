@@ -189,8 +189,8 @@ impl AsMap {
 /// There is no other way to make one, so that no walk of it aborts.
 ///
 /// The check over 128 bits would accept its bytes too, and a walk by 16 bytes would end with numbers that the map has for other addresses.
-/// So the two are types of their own, and no way leads from one to the other but by the bytes and another check. Groups and picks are by
-/// an [`AsMap`] alone:
+/// So the two are types of their own, and no way leads from one to the other but by the bytes and another check. Groups, picks and pages are
+/// by an [`AsMap`] alone:
 ///
 /// ```
 /// # use corbastrigo::{select_diverse, AsMap, Refusal};

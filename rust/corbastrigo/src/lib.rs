@@ -4,12 +4,12 @@
 //! The names that a node calls are those of rbitcoin: [`AsMap`], [`netgroup()`], [`select_diverse`], [`prefix_group`],
 //! [`clearnet_unroutable`], [`addrv2_skip_relay`]. Beside them stands what is new: [`sanity_check`] with its reason, count and depth,
 //! [`sanity_check_stop`] with the bit at which it stops, [`interpret`] with its kind of end and counts, [`list`] with every prefix that a
-//! map tells apart, [`compare`] with every prefix that two maps send elsewhere, [`unpack`], [`pack`], the [`codes`], and [`scan_occupied`]
-//! with the place of a group among the occupied ones.
+//! map tells apart, [`compare`] with every prefix that two maps send elsewhere, [`unpack`], [`pack`], the [`codes`], [`scan_occupied`]
+//! with the place of a group among the occupied ones, and [`page()`] with the share of each group in a list of candidates.
 //!
 //! A node of IPv4 alone may keep a map of four-byte addresses, without the 96 bits that stand in front of them elsewhere: that is an
 //! [`AsMap4`]. Check, walk, unpack, list and compare have a form for the bytes of one whose name ends in `_bits` and which takes the width,
-//! 32 or 128. A map is walked at the width at which it was checked, and at no other; groups and picks are by an [`AsMap`].
+//! 32 or 128. A map is walked at the width at which it was checked, and at no other; groups, picks and pages are by an [`AsMap`].
 //!
 //! Nothing here panics or allocates more than a fixed multiple of what it is given. Every call answers, or refuses with a [`Refusal`]
 //! and has written nothing.
@@ -42,6 +42,7 @@ mod map;
 mod netaddr;
 mod netgroup;
 mod open;
+mod page;
 mod prefixes;
 mod records;
 mod refusal;
@@ -56,6 +57,7 @@ pub use map::{Check, End, Stop, Walk};
 pub use netaddr::{addrv2_skip_relay, clearnet_unroutable};
 pub use netgroup::{netgroup, pick, prefix_group, scan_occupied, select_diverse, Candidate, Pick, Scan};
 pub use open::OpenError;
+pub use page::{page, Page, Share};
 pub use prefixes::{list, list_bits, list_bytes, list_bytes_bits, list_into, list_into_bits, prefixes, Prefix, PREFIX_BYTES};
 pub use records::{instructions, pack, pack_into, unpack, unpack_bits, unpack_into, unpack_into_bits, Instruction, RECORD_BYTES};
 pub use refusal::Refusal;
@@ -63,7 +65,7 @@ pub use refusal::Refusal;
 /// The most bytes of a map; one more is refused, 1.
 pub const MAX_MAP_BYTES: usize = 16_777_216;
 
-/// The most candidates of a pick, and the most occupied groups; one more is refused, 12.
+/// The most candidates of a pick or a page, and the most occupied groups; one more is refused, 12.
 pub const MAX_CANDIDATES: usize = 4_096;
 
 /// The page's code, as a test.

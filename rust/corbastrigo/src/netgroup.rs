@@ -20,8 +20,13 @@ fn candidate(addr: &SocketAddr) -> Candidate {
     bytes
 }
 
+/// A list as the calls take it. One past the limit is enough for the refusal.
+pub(crate) fn packed(list: &[SocketAddr]) -> Vec<Candidate> {
+    list.iter().take(MAX_CANDIDATES + 1).map(candidate).collect()
+}
+
 /// The map as the calls take it: whether there is one, and its bytes.
-fn map_or_none(asmap: Option<&AsMap>) -> (u8, &[u8]) {
+pub(crate) fn map_or_none(asmap: Option<&AsMap>) -> (u8, &[u8]) {
     match asmap {
         Some(map) => (1, map.as_bytes()),
         None => (0, &[]),
@@ -146,8 +151,7 @@ impl Pick {
 /// # Ok::<(), Refusal>(())
 /// ```
 pub fn pick(ranked: &[SocketAddr], max: usize, occupied_groups: &HashSet<u64>, asmap: Option<&AsMap>) -> Result<Pick, Refusal> {
-    // One past the limit is enough for the refusal.
-    let packed: Vec<Candidate> = ranked.iter().take(MAX_CANDIDATES + 1).map(candidate).collect();
+    let packed = packed(ranked);
     let candidates = packed.as_flattened();
     let occupied: Vec<u64> = occupied_groups.iter().copied().take(MAX_CANDIDATES + 1).collect();
     let (has_map, map) = map_or_none(asmap);

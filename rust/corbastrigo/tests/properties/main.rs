@@ -10,6 +10,7 @@ mod codes;
 mod maps;
 mod order;
 mod packed;
+mod pages;
 mod picks;
 mod prefixes;
 mod programs;

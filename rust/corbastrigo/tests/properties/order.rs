@@ -1,6 +1,6 @@
 //! Of several faults a call names the one that document 01 puts first ("Order"), and a refused call leaves everything that was lent.
 //! Codes are in `codes`, the reasons of the check in `check`, unpack and pack in `packed`, the list of prefixes in `prefixes`, the
-//! comparison of two maps in `changes`, the scan of the occupied groups in `scans`, widths that are none in `widths`.
+//! comparison of two maps in `changes`, the scan of the occupied groups in `scans`, widths that are none in `widths`, the page in `pages`.
 use crate::calls::{self, Asked, BEFORE, BEFORE16, BEFORE32, BEFORE64, BEFORE_SIZE};
 use crate::programs::programs;
 use crate::{holds, too_long};
@@ -28,18 +28,18 @@ pub fn any_maps() -> impl Strategy<Value = Cow<'static, [u8]>> {
 }
 
 /// The number that a call answers which checks the map, and one which does not.
-fn refusals_of(map: &[u8]) -> (u8, u8) {
+pub fn refusals_of(map: &[u8]) -> (u8, u8) {
     let checked = sanity_check(map).err().map_or(0, Refusal::number);
     (checked, if checked == 1 { 1 } else { 0 })
 }
 
 /// The first fault that is there.
-fn first(faults: &[u8]) -> u8 {
+pub fn first(faults: &[u8]) -> u8 {
     faults.iter().copied().find(|&fault| fault != 0).unwrap_or(0)
 }
 
 /// A number where something is so, else 0.
-fn fault(is: bool, number: u8) -> u8 {
+pub fn fault(is: bool, number: u8) -> u8 {
     if is {
         number
     } else {
@@ -48,7 +48,7 @@ fn fault(is: bool, number: u8) -> u8 {
 }
 
 /// Candidates, most of them well formed.
-fn candidates() -> impl Strategy<Value = Vec<u8>> {
+pub fn candidates() -> impl Strategy<Value = Vec<u8>> {
     let well = any::<(IpAddr, u16)>().prop_map(|(ip, port)| {
         let mut bytes = vec![if ip.is_ipv4() { 4 } else { 6 }, 0];
         bytes.extend(ip16_for_lookup(ip));
@@ -68,7 +68,7 @@ fn candidates() -> impl Strategy<Value = Vec<u8>> {
     prop_oneof![12 => well, 1 => other]
 }
 
-fn well_formed(candidate: &[u8]) -> bool {
+pub fn well_formed(candidate: &[u8]) -> bool {
     let mapped = candidate[2..12] == [0; 10] && candidate[12..14] == [0xff; 2];
     candidate[1] == 0 && (candidate[0] == 6 || candidate[0] == 4 && mapped)
 }
