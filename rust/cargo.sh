@@ -7,7 +7,7 @@
 # Cargo.lock with Debian's versions is in nobody's way. CORBASTRIGO_CRATES=registry takes the usual registry in any case.
 cd "$(dirname "$0")" || exit 2
 folder=/usr/share/cargo/registry
-packages="librust-assert-cmd-dev librust-clap-complete-dev librust-clap-dev librust-indicatif-dev
+packages="librust-assert-cmd-dev librust-clap-complete-dev librust-clap-dev librust-console-dev librust-indicatif-dev
 librust-proptest-dev librust-quick-error-dev librust-serde-json-dev librust-sha2-dev librust-tempfile-dev"
 
 # The packages that are not installed.

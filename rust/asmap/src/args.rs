@@ -113,6 +113,15 @@ pub enum Command {
     /// The exit status is 0 for occupied groups and for free ones alike.
     #[command(after_help = "Example:\n  asmap scan --occupied groups.txt 258 772")]
     Scan(Scan),
+    /// Print how a list of candidates spreads over groups: each group with its candidates and their per cent
+    ///
+    /// One group a line, rising, 25 bytes each: the group right-aligned in 10 columns, a space, its candidates in 6, a space, their per cent
+    /// of all in 6, a line feed. Per cents are rounded to a tenth, halves up, so that they need not add up to 100.0. On a terminal each line
+    /// has a bar behind it. In the file blank lines and what is behind `#` are left out. At most 4,096 candidates are taken.
+    ///
+    /// Group 0 is not "unmapped": on a terminal, and with --json, stands what it comes from.
+    #[command(after_help = "Examples:\n  asmap page candidates.txt\n  asmap page --map node.asmap candidates.txt | lpr")]
+    Page(Page),
     /// Say which addresses can be no peer on the open Internet, and by which range
     ///
     /// The exit status is 0 for routable and unroutable addresses alike.
@@ -284,6 +293,15 @@ pub struct Scan {
     /// Groups that are occupied, one a line, in decimal; `-` reads standard input
     #[arg(long, value_name = "FILE")]
     pub occupied: PathBuf,
+}
+
+#[derive(Args, Debug)]
+pub struct Page {
+    /// Candidates, one a line: 1.2.3.4:8333 or [2001:db8::1]:8333; `-` reads standard input
+    pub candidates: PathBuf,
+    /// Group by this map; without one the prefix of the address is its group
+    #[arg(short, long, value_name = "MAP")]
+    pub map: Option<PathBuf>,
 }
 
 #[derive(Args, Debug)]

@@ -48,11 +48,20 @@ impl Grouped {
 
     /// The fields of an object that say the group.
     pub fn object(&self) -> Value {
-        let (by, end, prefix) = match &self.by {
-            By::Map(walk) => ("map", Some(walk::end(walk)), None),
-            By::Prefix(prefix) => ("prefix", None, Some(prefix)),
+        let (end, prefix) = match &self.by {
+            By::Map(walk) => (Some(walk::end(walk)), None),
+            By::Prefix(prefix) => (None, Some(prefix)),
         };
-        json!({ "group": self.group, "by": by, "end": end, "prefix": prefix, "why_zero": self.why_zero })
+        json!({ "group": self.group, "by": by(end.is_some()), "end": end, "prefix": prefix, "why_zero": self.why_zero })
+    }
+}
+
+/// What groups are made by, as the objects say it.
+pub fn by(map: bool) -> &'static str {
+    if map {
+        "map"
+    } else {
+        "prefix"
     }
 }
 

@@ -1,7 +1,8 @@
 //! Lists in files, an entry a line: candidates and occupied groups.
 use crate::failure::Failure;
 use crate::files::{self, input_name};
-use corbastrigo::Refusal;
+use corbastrigo::{Refusal, MAX_CANDIDATES};
+use std::net::SocketAddr;
 use std::path::Path;
 
 /// What the lines of a file hold. Blank lines, and what stands behind `#`, are left out.
@@ -20,6 +21,20 @@ pub fn entries<T>(
             return Some(parse(entry).map_err(|failure| lines.at_line(failure)));
         }
     }))
+}
+
+/// The candidates of a file. One past the limit is enough for the library to refuse them.
+pub fn candidates(path: &Path) -> Result<Vec<SocketAddr>, Failure> {
+    entries(path, candidate)?.take(MAX_CANDIDATES + 1).collect()
+}
+
+/// A candidate as text.
+fn candidate(word: &str) -> Result<SocketAddr, Failure> {
+    if word.contains('%') {
+        return Err(Failure::new(format!("{word:?} has a zone behind %, which holds on one machine only; leave it out")));
+    }
+    word.parse()
+        .map_err(|_| Failure::new(format!("{word:?} is no candidate; write 1.2.3.4:8333 or [2001:db8::1]:8333, with the port")))
 }
 
 /// A group as text.

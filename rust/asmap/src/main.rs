@@ -20,6 +20,7 @@ mod man;
 mod network;
 mod out;
 mod pack;
+mod page;
 mod pick;
 mod ranges;
 mod replay;
@@ -54,6 +55,7 @@ fn run(command: Command, out: &mut Out) -> Outcome {
         Command::Group(asked) => group::run(&asked, out),
         Command::Pick(asked) => pick::run(&asked, out),
         Command::Scan(asked) => scan::run(&asked, out),
+        Command::Page(asked) => page::run(&asked, out),
         Command::Filter(asked) => filter::run(&asked, out),
         Command::Man => man::run(out),
         Command::Completions(asked) => man::completions(&asked, out),

@@ -1,5 +1,6 @@
 //! What goes to standard output: aligned text for people, or with `--json` one object a line for scripts.
 use crate::failure::Failure;
+use console::Term;
 use indicatif::{ProgressBar, ProgressStyle};
 use serde_json::Value;
 use std::fmt;
@@ -45,6 +46,11 @@ impl Out {
     /// Whether the caller asked for JSON.
     pub fn is_json(&self) -> bool {
         self.json
+    }
+
+    /// How wide the terminal is that text goes to, where it goes to one.
+    pub fn columns(&self) -> Option<usize> {
+        (io::stdout().is_terminal() && !self.json).then(|| usize::from(Term::stdout().size().1))
     }
 
     /// The text in a style, where there is colour.

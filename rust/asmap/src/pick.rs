@@ -2,8 +2,8 @@
 use crate::args::Pick as Asked;
 use crate::failure::{Failure, Outcome, Status};
 use crate::files::checked_map;
-use crate::grouping::Grouped;
-use crate::lists::{self, entries, group, SO_MANY_GROUPS};
+use crate::grouping::{by, Grouped};
+use crate::lists::{self, candidates, entries, group, SO_MANY_GROUPS};
 use crate::out::{Out, Style};
 use crate::words::{counted, grouped};
 use corbastrigo::{pick, AsMap, Pick, Refusal, MAX_CANDIDATES};
@@ -31,20 +31,7 @@ pub fn run(asked: &Asked, out: &mut Out) -> Outcome {
     Ok(Status::Done)
 }
 
-/// The candidates of a file. One past the limit is enough for the library to refuse them.
-fn candidates(path: &Path) -> Result<Vec<SocketAddr>, Failure> {
-    entries(path, candidate)?.take(MAX_CANDIDATES + 1).collect()
-}
-
-fn candidate(word: &str) -> Result<SocketAddr, Failure> {
-    if word.contains('%') {
-        return Err(Failure::new(format!("{word:?} has a zone behind %, which holds on one machine only; leave it out")));
-    }
-    word.parse()
-        .map_err(|_| Failure::new(format!("{word:?} is no candidate; write 1.2.3.4:8333 or [2001:db8::1]:8333, with the port")))
-}
-
-/// The groups of a file, likewise.
+/// The groups of a file. One past the limit is enough for the library to refuse them.
 fn occupied_groups(path: &Path) -> Result<HashSet<u64>, Failure> {
     let mut groups = HashSet::new();
     for group in entries(path, group)? {
@@ -169,7 +156,7 @@ fn objects(asked: &Asked, picked: &Pick, rows: &[Row], candidates: usize, out: &
         out.object(&object)?;
     }
     out.object(&json!({
-        "kind": "summary", "by": if asked.map.is_some() { "map" } else { "prefix" }, "max": asked.max, "picked": picked.places.len(),
+        "kind": "summary", "by": by(asked.map.is_some()), "max": asked.max, "picked": picked.places.len(),
         "first_pass": picked.groups.len(), "candidates": candidates, "examined": picked.examined, "instructions": picked.instructions,
     }))
 }

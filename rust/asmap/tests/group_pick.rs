@@ -1,10 +1,10 @@
 //! `asmap group` and `asmap pick`: their outputs, their refusals, and that they say what the library says.
 mod common;
-use common::{asmap, stored, text, Draws, Folder, TWO_PREFIXES};
+use common::{asmap, drawn, stored, text, Draws, Folder, TWO_PREFIXES};
 use corbastrigo::{netgroup, pick, AsMap};
 use serde_json::Value;
 use std::collections::HashSet;
-use std::net::{Ipv4Addr, Ipv6Addr, SocketAddr};
+use std::net::{Ipv4Addr, SocketAddr};
 use std::process::Output;
 
 const CANDIDATES: &str = "\
@@ -54,18 +54,6 @@ fn groups_that_are_refused() {
     stored("group_port", &folder.output(&["group", "1.2.3.4:8333"]));
     stored("group_zone", &folder.output(&["group", "fe80::1%1"]));
     stored("group_none", &folder.output(&["group"]));
-}
-
-/// An address that is drawn: half of them near those that the map knows.
-fn drawn(draws: &mut Draws) -> SocketAddr {
-    let bytes: [u8; 4] = std::array::from_fn(|_| draws.below(256) as u8);
-    let port = 1 + draws.below(3) as u16;
-    match draws.below(4) {
-        0 => (Ipv4Addr::from(bytes), port).into(),
-        1 => (Ipv4Addr::new(1 + 2 * (bytes[0] & 1), 2 + 2 * (bytes[1] & 1), 0, bytes[3] & 3), port).into(),
-        2 => (Ipv6Addr::new(0x2001, u16::from(bytes[0] & 3), 0, 0, 0, 0, 0, 1), port).into(),
-        _ => (Ipv4Addr::from(bytes).to_ipv6_mapped(), port).into(),
-    }
 }
 
 #[test]
@@ -168,7 +156,9 @@ fn wrong_candidates_name_their_line() {
     let folder = Folder::new();
     for (name, list) in WRONG_CANDIDATES {
         folder.write("candidates.txt", list);
-        stored(&format!("pick_wrong_{name}"), &folder.output(&["pick", "--max", "8", "candidates.txt"]));
+        let output = folder.output(&["pick", "--max", "8", "candidates.txt"]);
+        stored(&format!("pick_wrong_{name}"), &output);
+        assert_eq!(folder.output(&["page", "candidates.txt"]), output, "{name}: a page takes what a pick takes");
     }
 }
 

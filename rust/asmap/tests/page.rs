@@ -97,7 +97,7 @@ fn fields(object: &Value) -> Vec<&String> {
 }
 
 /// The sections of the page that name the fields, and a command line that prints them.
-const OBJECTS: [(&[&str], &[&str]); 13] = [
+const OBJECTS: [(&[&str], &[&str]); 14] = [
     (&["check"], &["check", "two.asmap", "cut.asmap"]),
     (&["walk"], &["walk", "two.asmap", "1.2.3.4"]),
     (&["walk", "trace"], &["trace", "two.asmap", "1.2.3.4"]),
@@ -110,6 +110,7 @@ const OBJECTS: [(&[&str], &[&str]); 13] = [
     (&["group"], &["group", "1.2.3.4"]),
     (&["pick"], &["pick", "--max", "4", "candidates.txt"]),
     (&["scan"], &["scan", "--occupied", "occupied.txt", "772"]),
+    (&["page"], &["page", "candidates.txt"]),
     (&["filter"], &["filter", "2002:a00:1::"]),
 ];
 

@@ -1,7 +1,7 @@
 //! The command as a whole: version, help, misuse, manual page, completions.
 mod common;
-use common::{asmap, stored, text, Folder};
-use std::process::{Command, Stdio};
+use common::{asmap, is_there, on_a_terminal, stored, text, Folder};
+use std::process::Command;
 
 fn answer(arguments: &[&str]) -> std::process::Output {
     asmap().args(arguments).output().expect("the command runs")
@@ -30,6 +30,9 @@ fn misuse_ends_with_2_and_says_what_to_do() {
 /// The subcommands that take a width.
 const WITH_WIDTH: [&str; 8] = ["check", "walk", "trace", "list", "diff", "undo-check", "unpack", "pack"];
 
+/// Those that take none.
+const WITHOUT_WIDTH: [&str; 6] = ["group", "pick", "scan", "page", "filter", "completions"];
+
 /// Every word of a help that names a subcommand's argument or option.
 fn options(help: &str) -> impl Iterator<Item = &str> {
     help.split_whitespace()
@@ -42,9 +45,7 @@ fn the_manual_page_has_what_the_help_has() {
     let page = answer(&["man"]);
     assert_eq!(page.status.code(), Some(0));
     let page = text(&page.stdout).replace("\\-", "-");
-    for subcommand in
-        ["check", "walk", "trace", "list", "diff", "undo-check", "unpack", "pack", "group", "pick", "scan", "filter", "completions"]
-    {
+    for subcommand in WITH_WIDTH.into_iter().chain(WITHOUT_WIDTH) {
         let help = answer(&[subcommand, "--help"]);
         let help = text(&help.stdout);
         assert!(page.contains(&format!(".SS \"asmap {subcommand} ")), "{subcommand} is missing");
@@ -57,16 +58,6 @@ fn the_manual_page_has_what_the_help_has() {
         assert_eq!(section.contains("--width <BITS>") && section.contains("[default: 128]"), WITH_WIDTH.contains(&subcommand));
         assert_eq!(help.contains("--width <BITS>"), WITH_WIDTH.contains(&subcommand), "{subcommand}");
     }
-}
-
-/// Whether a program is there. What needs one that is missing is named, and fails where CI is set.
-fn is_there(program: &str) -> bool {
-    let found = Command::new(program).arg("--version").stdout(Stdio::null()).stderr(Stdio::null()).status().is_ok();
-    assert!(found || std::env::var_os("CI").is_none(), "{program} is missing");
-    if !found {
-        eprintln!("skipped: {program} is missing");
-    }
-    found
 }
 
 #[test]
@@ -93,22 +84,13 @@ fn completions_are_taken_by_their_shell() {
     let wanted = "source asmap.bash; COMP_WORDS=(asmap tr); COMP_CWORD=1; _asmap asmap tr asmap; echo \"${COMPREPLY[@]}\"";
     let bash = Command::new("bash").args(["-c", wanted]).current_dir(folder.path(".")).output().expect("bash runs");
     assert_eq!((text(&bash.stdout), text(&bash.stderr)), ("trace\n", ""));
-    for subcommand in ["check", "walk", "trace", "list", "diff", "undo-check", "unpack", "pack", "group", "pick", "scan", "filter"]
-    {
+    for subcommand in WITH_WIDTH.into_iter().chain(WITHOUT_WIDTH) {
         let words = format!("COMP_WORDS=(asmap {subcommand} --wi); COMP_CWORD=2; _asmap asmap --wi {subcommand}");
         let line = format!("source asmap.bash; {words}; echo \"${{COMPREPLY[@]}}\"");
         let bash = Command::new("bash").args(["-c", &line]).current_dir(folder.path(".")).output().expect("bash runs");
         let wanted = if WITH_WIDTH.contains(&subcommand) { "--width\n" } else { "\n" };
         assert_eq!((text(&bash.stdout), text(&bash.stderr)), (wanted, ""), "{subcommand}");
     }
-}
-
-/// What the command prints on a terminal, which `script` makes.
-fn on_a_terminal(folder: &Folder, command: &str, no_color: Option<&str>) -> String {
-    let mut script = Command::new("script");
-    script.args(["-qec", &format!("{} {command}", env!("CARGO_BIN_EXE_asmap")), "/dev/null"]).current_dir(folder.path("."));
-    script.env_remove("NO_COLOR").envs(no_color.map(|value| ("NO_COLOR", value))).stdin(Stdio::null());
-    String::from_utf8(script.output().expect("script runs").stdout).expect("UTF-8")
 }
 
 #[test]

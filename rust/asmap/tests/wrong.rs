@@ -1,5 +1,5 @@
-//! Wrong input for `asmap check`, `walk` and `trace`, and cut maps for `list`: files that are none, too large or cut, and addresses
-//! that are none.
+//! Wrong input for `asmap check`, `walk` and `trace`, and cut maps for `list` and `page`: files that are none, too large or cut, and
+//! addresses that are none.
 mod common;
 use common::{large_map, stored, text, Folder};
 use std::ffi::OsStr;
@@ -118,12 +118,14 @@ fn met_at(words: &str) -> Option<usize> {
 }
 
 #[test]
-fn a_map_cut_at_any_page_is_refused_and_never_walked_or_listed_quietly() {
+fn a_map_cut_at_any_page_is_refused_and_never_used_quietly() {
     let folder = Folder::new();
     let map = large_map(15, 1);
     assert!(map.len() > 100_000);
     folder.write("whole.asmap", &map);
+    folder.write("candidates.txt", "1.2.3.4:8333\n");
     assert_eq!(folder.output(&["walk", "whole.asmap", "1.2.3.4"]).status.code(), Some(0));
+    assert_eq!(folder.output(&["page", "--map", "whole.asmap", "candidates.txt"]).status.code(), Some(0));
     for cut in (0..map.len()).step_by(4_096) {
         folder.write("page.asmap", &map[..cut]);
         let check = folder.output(&["check", "page.asmap"]);
@@ -132,7 +134,12 @@ fn a_map_cut_at_any_page_is_refused_and_never_walked_or_listed_quietly() {
         let named = ["page.asmap: refused 2: the map ends where", "page.asmap: refused 4: a code is cut by"];
         assert!(named.iter().any(|reason| words.starts_with(reason)) && words.contains("\n  usually  "), "{cut}: {words}");
         assert!(met_at(words).is_some_and(|bit| bit <= 8 * cut && bit + 57 > 8 * cut), "{cut}: {words}");
-        for subcommand in [&["walk", "page.asmap", "1.2.3.4"][..], &["trace", "page.asmap", "1.2.3.4"], &["list", "page.asmap"]] {
+        for subcommand in [
+            &["walk", "page.asmap", "1.2.3.4"][..],
+            &["trace", "page.asmap", "1.2.3.4"],
+            &["list", "page.asmap"],
+            &["page", "--map", "page.asmap", "candidates.txt"],
+        ] {
             let output = folder.output(subcommand);
             assert_eq!((output.status.code(), text(&output.stdout)), (Some(1), ""), "{cut}");
             assert!(text(&output.stderr).starts_with("asmap: page.asmap is refused, "), "{cut}");

@@ -5,8 +5,9 @@
 use assert_cmd::Command;
 use corbastrigo::codes;
 use std::fs::{self, File};
+use std::net::{Ipv4Addr, Ipv6Addr, SocketAddr};
 use std::path::{Path, PathBuf};
-use std::process::Output;
+use std::process::{self, Output, Stdio};
 use tempfile::TempDir;
 
 /// 1.2.0.0/16 is sent to 1, 3.4.0.0/16 to 2. It has no DEFAULT (document 01: TWO_PREFIX_ASMAP).
@@ -115,6 +116,33 @@ pub fn stored(name: &str, output: &Output) {
     assert!(found == wanted, "{name} differs from its stored output\n--- found\n{found}\n--- stored\n{wanted}");
 }
 
+/// Whether a program is there. What needs one that is missing is named, and fails where CI is set.
+pub fn is_there(program: &str) -> bool {
+    let found = process::Command::new(program).arg("--version").stdout(Stdio::null()).stderr(Stdio::null()).status().is_ok();
+    assert!(found || std::env::var_os("CI").is_none(), "{program} is missing");
+    if !found {
+        eprintln!("skipped: {program} is missing");
+    }
+    found
+}
+
+/// What the command prints on a terminal, which `script` makes.
+pub fn on_a_terminal(folder: &Folder, command: &str, no_color: Option<&str>) -> String {
+    scripted(folder, &format!("{} {command}", env!("CARGO_BIN_EXE_asmap")), no_color)
+}
+
+/// The same on a terminal of so many columns.
+pub fn on_a_terminal_of(columns: usize, folder: &Folder, command: &str, no_color: Option<&str>) -> String {
+    scripted(folder, &format!("stty rows 24 cols {columns} && {} {command}", env!("CARGO_BIN_EXE_asmap")), no_color)
+}
+
+fn scripted(folder: &Folder, line: &str, no_color: Option<&str>) -> String {
+    let mut script = process::Command::new("script");
+    script.args(["-qec", line, "/dev/null"]).current_dir(folder.path("."));
+    script.env_remove("NO_COLOR").envs(no_color.map(|value| ("NO_COLOR", value))).stdin(Stdio::null());
+    String::from_utf8(script.output().expect("script runs").stdout).expect("UTF-8")
+}
+
 /// Draws that are the same in every run (splitmix).
 pub struct Draws(pub u64);
 
@@ -125,6 +153,18 @@ impl Draws {
         let mixed = (self.0 ^ self.0 >> 30).wrapping_mul(0xbf58_476d_1ce4_e5b9);
         let mixed = (mixed ^ mixed >> 27).wrapping_mul(0x94d0_49bb_1331_11eb);
         ((mixed ^ mixed >> 31) % u64::from(most)) as u32
+    }
+}
+
+/// An address that is drawn: half of them near those that the map of two prefixes knows.
+pub fn drawn(draws: &mut Draws) -> SocketAddr {
+    let bytes: [u8; 4] = std::array::from_fn(|_| draws.below(256) as u8);
+    let port = 1 + draws.below(3) as u16;
+    match draws.below(4) {
+        0 => (Ipv4Addr::from(bytes), port).into(),
+        1 => (Ipv4Addr::new(1 + 2 * (bytes[0] & 1), 2 + 2 * (bytes[1] & 1), 0, bytes[3] & 3), port).into(),
+        2 => (Ipv6Addr::new(0x2001, u16::from(bytes[0] & 3), 0, 0, 0, 0, 0, 1), port).into(),
+        _ => (Ipv4Addr::from(bytes).to_ipv6_mapped(), port).into(),
     }
 }
 
