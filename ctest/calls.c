@@ -606,6 +606,97 @@ static void pick(selection *call, uint8_t of_a_refused_map) {
 #undef PICK
 }
 
+/* Six peers: by the map three of group 2, two of group 1, one of group 0; by their prefixes all but two are alone. */
+static void make_six(uint8_t *peers) {
+    candidate(peers, 3, 4, 0, 1);
+    candidate(peers + 20, 8, 8, 8, 8);
+    candidate(peers + 40, 1, 2, 0, 1);
+    candidate(peers + 60, 3, 4, 0, 2);
+    candidate(peers + 80, 0, 9, 0, 1);
+    candidate(peers + 100, 2, 255, 0, 1);
+}
+
+/* What a page refuses, in its order, and that it has written nothing then. */
+static void refused_page(printing *call, uint8_t checked) {
+    static uint8_t many[20 * (CORBASTRIGO_MAX_CANDIDATES + 1)];
+    uint8_t peers[120], out[150];
+    size_t written = BEFORE(2);
+    make_six(peers);
+    memset(out, BEFORE(1), sizeof out);
+    IS(call(peers, 119, 1, too_long, sizeof too_long, out, 0, &written), CORBASTRIGO_CANDIDATE);
+    IS(call(many, sizeof many, 1, too_long, sizeof too_long, out, 0, &written), CORBASTRIGO_TOO_MANY);
+    peers[100] = 5;
+    IS(call(peers, 120, 1, too_long, sizeof too_long, out, 0, &written), CORBASTRIGO_CANDIDATE);
+    peers[100] = 4;
+    IS(call(peers, 120, 1, too_long, sizeof too_long, out, 0, &written), CORBASTRIGO_MAP_TOO_LONG);
+    for (size_t i = 0; i < sizeof refused / sizeof *refused; i++)
+        IS(call(peers, 120, 1, refused[i].map, refused[i].len, out, 0, &written),
+           checked ? refused[i].reason : CORBASTRIGO_OUTPUT_TOO_SHORT);
+    IS(call(peers, 120, 1, two_prefixes, 35, out, 74, &written), CORBASTRIGO_OUTPUT_TOO_SHORT);
+    IS(call(peers, 120, 0, two_prefixes, 35, out, 124, &written), CORBASTRIGO_OUTPUT_TOO_SHORT);
+    IS(untouched(out, sizeof out), sizeof out);
+    IS(written, BEFORE(2));
+}
+
+/* The same peers with a map and without, and none; then one of 16, an exact half. */
+static void page(printing *call) {
+    static const char by_map[] = "         0      1   16.7\n         1      2   33.3\n         2      3   50.0\n";
+    static const char by_prefix[] = "         9      1   16.7\n       258      1   16.7\n       767      1   16.7\n"
+                                    "       772      2   33.3\n      2056      1   16.7\n";
+    uint8_t peers[320], out[150];
+    size_t written = BEFORE(2);
+    make_six(peers);
+    memset(out, BEFORE(1), sizeof out);
+    IS(call(peers, 0, 1, two_prefixes, 35, out, sizeof out, &written), 0);
+    IS(written, 0);
+    IS(untouched(out, sizeof out), sizeof out);
+    IS(call(peers, 120, 1, two_prefixes, 35, out, 75, &written), 0);
+    IS(written, 3 * CORBASTRIGO_PAGE_LINE_BYTES);
+    IS(memcmp(out, by_map, 75), 0);
+    IS(untouched(out + 75, 75), 75);
+    IS(call(peers, 120, 0, two_prefixes, 35, out, sizeof out, &written), 0);
+    IS(written, 5 * CORBASTRIGO_PAGE_LINE_BYTES);
+    IS(memcmp(out, by_prefix, 125), 0);
+    IS(untouched(out + 125, 25), 25);
+    for (uint8_t i = 0; i < 16; i++)
+        candidate(peers + 20 * i, i == 9, 4, 0, i);
+    IS(call(peers, 320, 0, none, 0, out, 50, &written), 0);
+    IS(written, 50);
+    IS(memcmp(out, "         4     15   93.8\n       260      1    6.3\n", 50), 0);
+}
+
+/* As many candidates as there may be, each in a group of its own and then all in one, of an IPv6 prefix that fills its columns. */
+static void full_page(printing *call) {
+    static uint8_t peers[20 * CORBASTRIGO_MAX_CANDIDATES], out[CORBASTRIGO_PAGE_LINE_BYTES * CORBASTRIGO_MAX_CANDIDATES];
+    size_t written = BEFORE(2);
+    for (size_t i = 0; i < CORBASTRIGO_MAX_CANDIDATES; i++)
+        candidate(peers + 20 * i, (uint8_t)(i >> 8), (uint8_t)~i, 0, 1);
+    IS(call(peers, sizeof peers, 0, none, 0, out, sizeof out, &written), 0);
+    IS(written, sizeof out);
+    IS(memcmp(out, "         0      1    0.0\n         1      1    0.0\n", 50), 0);
+    IS(memcmp(out + sizeof out - 25, "      4095      1    0.0\n", 25), 0);
+    memset(peers, 0xff, sizeof peers);
+    for (size_t i = 0; i < sizeof peers; i += 20) {
+        peers[i] = 6;
+        peers[i + 1] = 0;
+    }
+    IS(call(peers, sizeof peers, 0, none, 0, out, 25, &written), 0);
+    IS(written, 25);
+    IS(memcmp(out, "4294967295   4096  100.0\n", 25), 0);
+}
+
+/* A page of a map that only the check refuses: every walk of a lone JUMP aborts. */
+static void aborted_page(void) {
+    uint8_t peers[120], out[26];
+    size_t written = BEFORE(2);
+    make_six(peers);
+    memset(out, BEFORE(1), sizeof out);
+    IS(corbastrigo_page_unchecked(peers, 120, 255, lone_jump, 1, out, sizeof out, &written), 0);
+    IS(written, 25);
+    IS(memcmp(out, "         0      6  100.0\n", 25), 0);
+    IS(out[25], BEFORE(1));
+}
+
 static void filters(void) {
     uint8_t address[16], answer = BEFORE(1);
     mapped(address, 10, 0, 0, 1);
@@ -642,6 +733,13 @@ int main(void) {
     scan();
     pick(corbastrigo_select_diverse, CORBASTRIGO_MAP_ENDS);
     pick(corbastrigo_select_diverse_unchecked, 0);
+    refused_page(corbastrigo_page, 1);
+    refused_page(corbastrigo_page_unchecked, 0);
+    page(corbastrigo_page);
+    page(corbastrigo_page_unchecked);
+    full_page(corbastrigo_page);
+    full_page(corbastrigo_page_unchecked);
+    aborted_page();
     filters();
     printf("calls from C: %d answers, %d wrong\n", checks, failures);
     return failures != 0;

@@ -40,7 +40,8 @@ static void candidate(uint8_t *bytes, uint8_t a, uint8_t b, uint8_t c, uint8_t d
     bytes[19] = 0x8d;
 }
 
-/* The calls that read a code, and the two picks. */
+/* The calls that read a code, the two picks, and the two pages. */
 typedef uint8_t decode(const uint8_t *, size_t, size_t, uint32_t *, size_t *);
 typedef uint8_t selection(const uint8_t *, size_t, const uint64_t *, size_t, size_t, uint8_t, const uint8_t *, size_t, uint16_t *,
                           size_t, uint64_t *, size_t, size_t *, size_t *, size_t *, uint64_t *);
+typedef uint8_t printing(const uint8_t *, size_t, uint8_t, const uint8_t *, size_t, uint8_t *, size_t, size_t *);

@@ -13,9 +13,10 @@ static uint64_t *end_of_lent;
 
 static decode *const decoders[] = {corbastrigo_decode_type, corbastrigo_decode_asn, corbastrigo_decode_match, corbastrigo_decode_jump};
 static selection *const selections[] = {corbastrigo_select_diverse, corbastrigo_select_diverse_unchecked};
+static printing *const printings[] = {corbastrigo_page, corbastrigo_page_unchecked};
 
 /* Where calls leave what they found. */
-static uint8_t small, other;
+static uint8_t small, other, lines[4 * CORBASTRIGO_PAGE_LINE_BYTES];
 static uint16_t places[64];
 static uint32_t number, count, operand;
 static uint64_t group, taken[64], instructions;
@@ -64,9 +65,11 @@ static void long_map(size_t len) {
         long_map_at(len, width);
     IS(corbastrigo_netgroup(peer, 20, 1, barred, len, &group), CORBASTRIGO_MAP_TOO_LONG);
     IS(corbastrigo_netgroup_unchecked(peer, 20, 1, barred, len, &group), CORBASTRIGO_MAP_TOO_LONG);
-    for (size_t i = 0; i < 2; i++)
+    for (size_t i = 0; i < 2; i++) {
         IS(selections[i](peers, 80, NULL, 0, 4, 1, barred, len, barred, 4, barred, 4, &total, &first, &examined, &instructions),
            CORBASTRIGO_MAP_TOO_LONG);
+        IS(printings[i](peers, 80, 1, barred, len, barred, 100, &size), CORBASTRIGO_MAP_TOO_LONG);
+    }
 }
 
 /* Barred memory as an address, a candidate or records of a length that is refused. */
@@ -96,6 +99,19 @@ static void wrong_lists(selection *call) {
     IS(PICK(peers, 80, 1, 3, 4), CORBASTRIGO_OUTPUT_TOO_SHORT);
     IS(PICK(peers, 80, 1, 4, 3), CORBASTRIGO_OUTPUT_TOO_SHORT);
 #undef PICK
+}
+
+/* A page with barred memory for the list, the map and the lines. The peers have three prefixes. */
+static void wrong_page(printing *call) {
+    size = BEFORE(1);
+    IS(call(barred, 81, 1, barred, 3, barred, 100, &size), CORBASTRIGO_CANDIDATE);
+    IS(call(barred, SIZE_MAX, 1, barred, 3, barred, 100, &size), CORBASTRIGO_CANDIDATE);
+    IS(call(barred, 20 * (CORBASTRIGO_MAX_CANDIDATES + 1), 1, barred, 3, barred, 100, &size), CORBASTRIGO_TOO_MANY);
+    IS(call(barred, SIZE_MAX - SIZE_MAX % 20, 1, barred, 3, barred, 100, &size), CORBASTRIGO_TOO_MANY);
+    IS(call(peers, 80, 0, barred, 3, barred, 3 * CORBASTRIGO_PAGE_LINE_BYTES - 1, &size), CORBASTRIGO_OUTPUT_TOO_SHORT);
+    IS(call(peers, 80, 0, barred, 3, barred, 0, &size), CORBASTRIGO_OUTPUT_TOO_SHORT);
+    IS(call(peers, 80, 1, two_prefixes, 35, barred, 3 * CORBASTRIGO_PAGE_LINE_BYTES - 1, &size), CORBASTRIGO_OUTPUT_TOO_SHORT);
+    IS(size, BEFORE(1));
 }
 
 /* Barred memory as more groups than may be occupied. */
@@ -142,6 +158,8 @@ static void refused_lengths(void) {
     wrong_length(SIZE_MAX);
     wrong_lists(corbastrigo_select_diverse);
     wrong_lists(corbastrigo_select_diverse_unchecked);
+    wrong_page(corbastrigo_page);
+    wrong_page(corbastrigo_page_unchecked);
     too_many_groups(CORBASTRIGO_MAX_CANDIDATES + 1);
     too_many_groups(SIZE_MAX);
     no_width(0);
@@ -170,6 +188,8 @@ static void no_map(uint8_t *map, size_t len) {
     for (size_t i = 0; i < 2; i++) {
         IS(selections[i](peers, 80, NULL, 0, 4, 0, map, len, places, 4, taken, 4, &total, &first, &examined, &instructions), 0);
         IS(first, 3);
+        IS(printings[i](peers, 80, 0, map, len, lines, sizeof lines, &size), 0);
+        IS(size, 3 * CORBASTRIGO_PAGE_LINE_BYTES);
     }
 }
 
@@ -217,6 +237,23 @@ static void empty_scan(void) {
     IS(total, 0);
 }
 
+/* No candidates have no lines; by an empty map every walk aborts, and all candidates have group 0. */
+static void empty_pages(void) {
+    for (size_t i = 0; i < 2; i++) {
+        size = BEFORE(1);
+        IS(printings[i](NULL, 0, 0, NULL, 0, NULL, 0, &size), 0);
+        IS(size, 0);
+        size = BEFORE(1);
+        IS(printings[i](NULL, 0, 1, lone_return, 3, NULL, 0, &size), 0);
+        IS(size, 0);
+        IS(printings[i](peers, 80, 0, NULL, 0, NULL, 0, &size), CORBASTRIGO_OUTPUT_TOO_SHORT);
+    }
+    IS(corbastrigo_page(NULL, 0, 1, NULL, 0, NULL, 0, &size), CORBASTRIGO_MAP_ENDS);
+    IS(corbastrigo_page_unchecked(NULL, 0, 1, NULL, 0, NULL, 0, &size), 0);
+    IS(corbastrigo_page_unchecked(peers, 80, 1, NULL, 0, lines, CORBASTRIGO_PAGE_LINE_BYTES, &size), 0);
+    IS(memcmp(lines, "         0      4  100.0\n", CORBASTRIGO_PAGE_LINE_BYTES), 0);
+}
+
 static void empty_lists(void) {
     for (size_t i = 0; i < 4; i++)
         IS(decoders[i](NULL, 0, 0, &number, &size), CORBASTRIGO_CUT);
@@ -248,6 +285,7 @@ static void empty_lists(void) {
         IS(selections[i](peers, 80, NULL, 0, 0, 0, NULL, 0, NULL, 0, NULL, 0, &total, &first, &examined, &instructions), 0);
         IS(total, 0);
     }
+    empty_pages();
     IS(corbastrigo_clearnet_unroutable(NULL, 0, &small), CORBASTRIGO_ADDRESS_LENGTH);
     IS(corbastrigo_addrv2_skip_relay(7, NULL, 0, 8333, &small), 0);
     IS(small, 0);
@@ -279,6 +317,21 @@ static void picks(void) {
     group = BEFORE(1);
     IS(corbastrigo_netgroup_unchecked(peer, 20, 1, lone_jump, 1, &group), 0);
     IS(group, 0);
+}
+
+/* Three lines that end where memory can be written no further; then with room behind them, which remains, of candidates that end where
+ * memory can be read no further. */
+static void lines_at_the_end(printing *call) {
+    const size_t len = 3 * CORBASTRIGO_PAGE_LINE_BYTES;
+    uint8_t *const last = (uint8_t *)end_of_lent - len, *const list = (uint8_t *)end_of_lent - sizeof peers;
+    IS(call(peers, 80, 1, two_prefixes, 35, last, len, &size), 0);
+    IS(size, len);
+    memset(lines, BEFORE(1), sizeof lines);
+    memcpy(list, peers, sizeof peers);
+    IS(call(list, 80, 1, two_prefixes, 35, lines, sizeof lines, &size), 0);
+    IS(size, len);
+    for (size_t i = 0; i < sizeof lines; i++)
+        IS(lines[i] == BEFORE(1), size <= i);
 }
 
 /* A scan of groups that end where memory can be read no further, the last of them the first hit. The length tells of more: the header does
@@ -320,6 +373,8 @@ int main(void) {
     no_map(NULL, 0);
     empty_lists();
     picks();
+    lines_at_the_end(corbastrigo_page);
+    lines_at_the_end(corbastrigo_page_unchecked);
     groups_behind_a_hit();
     printf("memory lent to calls: %d answers, %d wrong\n", checks, failures);
     return failures != 0;

@@ -1,19 +1,22 @@
 /* How much stack each call takes: it is made on a stack of its own that was painted before, and the paint that is gone is counted, the few
  * words of the function that makes the call with it. Exits with 1 where that is as much as the header's bound, or where a call was
- * refused and so did not do its work. Linked so that memset is looked up before (-z now): the header's numbers are without that. */
+ * refused and so did not do its work. Linked so that memset and memcpy are looked up before (-z now): the header's numbers are without
+ * that. */
 #define _DEFAULT_SOURCE
 #include "cases.h"
 #include <sys/mman.h>
 #include <ucontext.h>
 
 #define PAGE 4096
-#define STACK (16 * PAGE)
+#define STACK (32 * PAGE)
 #define PAINT 0xa5
 #define OF_OTHERS CORBASTRIGO_STACK_BYTES
 #define OF_TWO_MAPS CORBASTRIGO_COMPARE_STACK_BYTES
 #define OF_A_PICK CORBASTRIGO_PICK_STACK_BYTES
+#define OF_LINES CORBASTRIGO_PAGE_STACK_BYTES
 
 static uint8_t peers[20 * CORBASTRIGO_MAX_CANDIDATES], records[256], bytes[35], prefixes[2496], changes[2884], small, other, answer;
+static uint8_t lines[CORBASTRIGO_PAGE_LINE_BYTES * CORBASTRIGO_MAX_CANDIDATES];
 static uint64_t occupied[CORBASTRIGO_MAX_CANDIDATES], taken[CORBASTRIGO_MAX_CANDIDATES], wide;
 static uint16_t places[CORBASTRIGO_MAX_CANDIDATES];
 static uint32_t number, count;
@@ -26,6 +29,7 @@ static const uint8_t embedded[16] = {0, 0x64, 0xff, 0x9b, 0, 1, 0, 0, 0, 0, 0, 0
 #define MAPS MAP, lone_return, sizeof lone_return
 #define PICK (peers, sizeof peers, occupied, CORBASTRIGO_MAX_CANDIDATES, CORBASTRIGO_MAX_CANDIDATES, 1, MAP, places,                    \
               CORBASTRIGO_MAX_CANDIDATES, taken, CORBASTRIGO_MAX_CANDIDATES, &total, &first, &examined, &wide)
+#define LINES (peers, sizeof peers, 1, MAP, lines, sizeof lines, &size)
 
 /* The calls, each with its bound and its arguments. */
 #define CALLS(call)                                                                                                                    \
@@ -62,6 +66,8 @@ static const uint8_t embedded[16] = {0, 0x64, 0xff, 0x9b, 0, 1, 0, 0, 0, 0, 0, 0
     call(scan_occupied, OF_OTHERS, (UINT64_MAX, occupied, CORBASTRIGO_MAX_CANDIDATES, &small, &size, &total))                          \
     call(select_diverse, OF_A_PICK, PICK)                                                                                              \
     call(select_diverse_unchecked, OF_A_PICK, PICK)                                                                                    \
+    call(page, OF_LINES, LINES)                                                                                                        \
+    call(page_unchecked, OF_LINES, LINES)                                                                                              \
     call(clearnet_unroutable, OF_OTHERS, (embedded, 16, &small))                                                                       \
     call(addrv2_skip_relay, OF_OTHERS, (2, embedded, 16, 8333, &small))
 
@@ -95,7 +101,7 @@ static size_t used(uint8_t *stack, void (*make)(void)) {
 }
 
 int main(void) {
-    size_t most[3] = {0, 0, 0}, floor;
+    size_t most[4] = {0, 0, 0, 0}, floor;
     uint8_t *stack = mmap(NULL, STACK, PROT_READ | PROT_WRITE, MAP_PRIVATE | MAP_ANONYMOUS, -1, 0);
     if (stack == MAP_FAILED || mprotect(stack, PAGE, PROT_NONE) != 0)
         return 2;
@@ -106,12 +112,14 @@ int main(void) {
     floor = used(stack, nothing);
     for (size_t i = 0; i < sizeof calls / sizeof *calls; i++) {
         const size_t bytes_used = used(stack, calls[i].make) - floor;
-        size_t *const of_kind = &most[(calls[i].bound > OF_OTHERS) + (calls[i].bound > OF_TWO_MAPS)];
+        const size_t bound = calls[i].bound;
+        size_t *const of_kind = &most[(bound > OF_OTHERS) + (bound > OF_TWO_MAPS) + (bound > OF_A_PICK)];
         expect(answer, 0, calls[i].name, __FILE__, __LINE__);
-        expect(bytes_used / calls[i].bound, 0, calls[i].name, __FILE__, __LINE__);
+        expect(bytes_used / bound, 0, calls[i].name, __FILE__, __LINE__);
         if (*of_kind < bytes_used)
             *of_kind = bytes_used;
     }
-    printf("stack: a pick took %zu bytes, a comparison %zu, every other call at most %zu\n", most[2], most[1], most[0]);
+    printf("stack: a page took %zu bytes, a pick %zu, a comparison %zu, every other call at most %zu\n", most[3], most[2], most[1],
+           most[0]);
     return failures != 0;
 }

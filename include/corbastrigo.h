@@ -19,11 +19,12 @@
  * one of them writes to is its own until it returns.
  *
  * Stack. A call takes less than CORBASTRIGO_STACK_BYTES, a comparison of two maps less than CORBASTRIGO_COMPARE_STACK_BYTES, a pick less
- * than CORBASTRIGO_PICK_STACK_BYTES. Not counted are memset's own, and the dynamic linker's where it looks memset up at its first call. No
- * call recurses.
+ * than CORBASTRIGO_PICK_STACK_BYTES, a page less than CORBASTRIGO_PAGE_STACK_BYTES. Not counted are memset's and memcpy's own, and the
+ * dynamic linker's where it looks one of them up at its first call. No call recurses.
  *
  * Platform. x86-64 Linux: ELF, the System V calling convention, any x86-64 processor. The code is position-independent: the archive
- * links into a program, position-independent or not, and into a shared object. Of the C library it wants memset and nothing else.
+ * links into a program, position-independent or not, and into a shared object. Of the C library it wants memset and
+ * memcpy and nothing else.
  *
  * Each call is proved to meet its contract for every input (docs/PROMISES.md). The promises stand on what this page asks of pointers.
  * What it says of refused lengths, groups behind a hit, NULL, threads, stack and platform is not proved; it is tested (ctest/).
@@ -117,11 +118,13 @@ CORBASTRIGO_INLINE const char *corbastrigo_reason(uint8_t answer) {
 #define CORBASTRIGO_RECORD_BYTES 16
 #define CORBASTRIGO_PREFIX_RECORD_BYTES 24
 #define CORBASTRIGO_CHANGE_RECORD_BYTES 28
+#define CORBASTRIGO_PAGE_LINE_BYTES 25
 
-/* More stack than a call takes, than a comparison of two maps takes, and than a pick takes. */
+/* More stack than a call takes, than a comparison of two maps takes, than a pick takes, and than a page takes. */
 #define CORBASTRIGO_STACK_BYTES 2048
 #define CORBASTRIGO_COMPARE_STACK_BYTES 4096
 #define CORBASTRIGO_PICK_STACK_BYTES 26624
+#define CORBASTRIGO_PAGE_STACK_BYTES 67584
 
 /* Opcodes. */
 #define CORBASTRIGO_RETURN 0
@@ -218,7 +221,8 @@ uint8_t corbastrigo_compare_bytes(const uint8_t *old_map, size_t old_map_len, co
  * address bytes carry the address, the other 12 are zeros, and a prefix's length is 0 to 32.
  *
  * A map is for one width: what was checked at one is to be walked, listed and compared at that one. A map that is accepted at 32 is accepted
- * at 128 too, but a walk there asks the first bits of the mapped form, not those of the IPv4 address. Groups and picks keep 128. */
+ * at 128 too, but a walk there asks the first bits of the mapped form, not those of the IPv4 address. Groups, picks and pages keep
+ * 128. */
 
 /* The check over `width` bits. Refusals 18, then 1 to 10. No map that is accepted here can abort a walk at the same width, and no such walk
  * reads more than 2 * width + 1 instructions. */
@@ -251,8 +255,8 @@ uint8_t corbastrigo_compare_bits(const uint8_t *old_map, size_t old_map_len, con
 uint8_t corbastrigo_compare_bytes_bits(const uint8_t *old_map, size_t old_map_len, const uint8_t *new_map, size_t new_map_len,
                                        uint32_t width, uint8_t *first, size_t first_len, size_t *bytes);
 
-/* ---- Groups and picks. A candidate is 20 bytes: family 4 or 6, a zero, 16 address bytes (family 4: in the mapped form), the port
- * big-endian. `has_map` 0 is without a map: then `map` is not looked at (hand over NULL and 0), and a group is the prefix of the
+/* ---- Groups, picks and pages. A candidate is 20 bytes: family 4 or 6, a zero, 16 address bytes (family 4: in the mapped form), the
+ * port big-endian. `has_map` 0 is without a map: then `map` is not looked at (hand over NULL and 0), and a group is the prefix of the
  * address. Any other number is with it. */
 
 /* The group without a map: 256 * a + b of an IPv4 address a.b.c.d, the first four bytes of an IPv6 address. Refusal 13. */
@@ -290,6 +294,20 @@ uint8_t corbastrigo_select_diverse_unchecked(const uint8_t *candidates, size_t c
                                              size_t map_len, uint16_t *picks, size_t picks_len, uint64_t *groups,
                                              size_t groups_len, size_t *total, size_t *first, size_t *examined,
                                              uint64_t *instructions);
+
+/* Writes how candidates spread over groups, as lines of text to print. Groups rise; a line has the group right-aligned in 10 columns, a
+ * space, its candidates right-aligned in 6, a space, their per cent of all with one decimal right-aligned in 6, and a line feed: 25 bytes.
+ * No zero ends the text, and an empty list has none. The per cent is 100 * candidates of the group / all, rounded to a tenth, halves
+ * up: 1 of 16 is 6.3, 1 of 2,000 is 0.1, and 1 of more is 0.0. Each line is rounded by itself, so the lines need not sum up to 100.0.
+ * `candidates_len` is in bytes. `out` needs 25 bytes for each group; with 25 for each candidate it is always long enough. Writes the bytes
+ * written; those behind them remain. Refusals 13 for the length, 12, 13, with a map the check's, 14. */
+uint8_t corbastrigo_page(const uint8_t *candidates, size_t candidates_len, uint8_t has_map, const uint8_t *map, size_t map_len,
+                         uint8_t *out, size_t out_len, size_t *written);
+
+/* The same for a map that was checked before: it is walked as it is, and with a map 1 stands in the place of the check's refusals. Of a
+ * map that the check refuses a walk may abort; its candidate has group 0 then. */
+uint8_t corbastrigo_page_unchecked(const uint8_t *candidates, size_t candidates_len, uint8_t has_map, const uint8_t *map, size_t map_len,
+                                   uint8_t *out, size_t out_len, size_t *written);
 
 /* ---- Filters */
 
