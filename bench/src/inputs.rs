@@ -1,5 +1,5 @@
 //! Maps, addresses and lists of candidates, the same in every run.
-use maps::{rewrite, shapes, Random};
+use maps::{rewrite, shapes, Node, Random, Tree};
 use std::collections::{BTreeSet, HashSet};
 use std::net::{IpAddr, Ipv4Addr, Ipv6Addr, SocketAddr};
 
@@ -186,6 +186,48 @@ pub fn of_eight_groups(count: usize, group_of: impl Fn(SocketAddr) -> u64) -> (V
         }
     }
     (groups, candidates)
+}
+
+/// Candidates of which no two have the same group, in the order in which they were drawn.
+pub fn of_each_group(count: usize, group_of: impl Fn(SocketAddr) -> u64) -> Vec<SocketAddr> {
+    let random = &mut Random(SEED + 6);
+    let (mut met, mut candidates) = (BTreeSet::new(), Vec::new());
+    while candidates.len() < count {
+        let peer = SocketAddr::new(IpAddr::from(ipv4(random)), 8333);
+        if met.insert(group_of(peer)) {
+            candidates.push(peer);
+        }
+    }
+    candidates
+}
+
+/// Candidates that differ in their ports alone.
+pub fn of_one_group(count: u16) -> Vec<SocketAddr> {
+    let ip = IpAddr::from(ipv4(&mut Random(SEED + 6)));
+    (1..=count).map(|port| SocketAddr::new(ip, port)).collect()
+}
+
+/// What is drawn without putting back, until nothing is left.
+fn mixed<T>(mut all: Vec<T>, random: &mut Random) -> Vec<T> {
+    for left in (1..all.len()).rev() {
+        all.swap(left, random.below(left as u64 + 1) as usize);
+    }
+    all
+}
+
+/// The shortest walks that tell 4,096 groups apart: a map of JUMPs alone over the first 12 address bits, and a candidate for each of its leaves.
+/// Their numbers are spread over all that a map can have, 1 to 33,521,664. No order is that of another: of leaves, numbers, candidates.
+pub fn of_each_leaf() -> (Vec<u8>, Vec<SocketAddr>) {
+    let random = &mut Random(SEED + 7);
+    let numbers = (0..4_096).map(|part| 1 + 8_184 * part + random.below(8_184) as u32).collect();
+    let mut tree = Tree::default();
+    let mut row: Vec<usize> = mixed(numbers, random).into_iter().map(|number| tree.push(Node::Return(number))).collect();
+    while row.len() > 1 {
+        row = row.chunks(2).map(|pair| tree.push(Node::Jump(pair[0], pair[1]))).collect();
+    }
+    let address = |leaf: u128| Ipv6Addr::from(leaf << 116 | 1 << 115);
+    let candidates = (0..4_096).map(|leaf| SocketAddr::new(IpAddr::from(address(leaf)), 8333)).collect();
+    (tree.bytes(row[0]), mixed(candidates, random))
 }
 
 /// Groups that are not among those given, in the order in which they were drawn: those of other candidates.

@@ -1,7 +1,7 @@
 //! The parts of the benchmark.
 use crate::asmap::{self, AsMap};
 use crate::measure::{alone, best, both, head, row};
-use crate::{compare, inputs, netaddr, netgroup, occupied};
+use crate::{compare, inputs, netaddr, netgroup, occupied, page};
 use corbastrigo_sys as sys;
 use maps::Random;
 use std::collections::HashSet;
@@ -177,7 +177,7 @@ pub fn codes() {
     }
 }
 
-fn ours_group(candidate: &[u8], map: Option<&[u8]>) -> u64 {
+pub fn ours_group(candidate: &[u8], map: Option<&[u8]>) -> u64 {
     let bytes = map.unwrap_or(&[]);
     let mut group = 0;
     let has_map = u8::from(map.is_some());
@@ -346,6 +346,7 @@ pub fn growth() {
     }
     compare::growth();
     pick_growth();
+    page::growth();
 }
 
 /// The most that a pick can cost by its groups: all are the same modulo 4,096, so that marks and links do not tell them apart, and none is met
