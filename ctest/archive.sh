@@ -1,7 +1,7 @@
 #!/bin/sh
-# What the header says of the archive, read off it and tried: it wants memset, memcpy and nothing else, defines the header's calls and no
-# other name, has no section that can be written to, so no variables, takes less stack on any path than the header says, and has none of
-# the instructions that only some x86-64 processors know. Then the calls from C are linked with it into a program that is
+# What the header says of the archive, read off it and tried: it wants memset and nothing else, defines the header's calls and no other
+# name, has no section that can be written to, so no variables, takes less stack on any path than the header says, and has none of the
+# instructions that only some x86-64 processors know. Then the calls from C are linked with it into a program that is
 # position-independent, into one that is not, and into a shared object, with no relocation left in the code.
 cd "$(dirname "$0")" || exit 2
 archive=$(./library.sh) || exit 1
@@ -15,7 +15,7 @@ complain() {
 
 names() {
     wanted=$(nm -u "$archive" | awk '$1 == "U" { print $2 }' | tr '\n' ' ')
-    [ "$wanted" = "memcpy memset " ] || complain "it wants ${wanted:-nothing}, not memcpy and memset alone"
+    [ "$wanted" = "memset " ] || complain "it wants ${wanted:-nothing}, not memset alone"
     nm -g --defined-only "$archive" | awk 'NF == 3 { print $3 }' | sort > "$work/defined"
     awk -f declared.awk ../include/corbastrigo.h | sed 's/.* \(corbastrigo_[a-z0-9_]*\)(.*/\1/' | sort > "$work/declared"
     diff "$work/declared" "$work/defined" || complain "it defines (>) other names than the header declares (<)"
@@ -63,4 +63,4 @@ cc -std=c11 -O1 -fPIC -shared -Dmain=calls calls.c "$archive" -Wl,-z,text,-z,def
 echo 'int calls(void); int main(void) { return calls(); }' > "$work/main.c"
 linked "a shared object" "$work/main.c" "$work/libcalls.so" -Wl,-rpath,"$work"
 [ "$failed" = 0 ] || exit 1
-echo "archive: $(wc -l < "$work/defined") calls; wants memset and memcpy, has no variables, takes at most $most bytes of stack on any path"
+echo "archive: $(wc -l < "$work/defined") calls; wants memset, has no variables, takes at most $most bytes of stack on any path"

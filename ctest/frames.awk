@@ -1,8 +1,8 @@
 # From `objdump -dr --no-show-raw-insn` of the archive: the most stack that each exported call can take on any path, a line NAME BYTES for
 # each. A function's frame is counted whole: every push in it and every step down of the stack pointer, a return address, and below the
-# last function of a chain the 128 bytes that the calling convention lets it use. The own frames of memset and memcpy are not counted. A
-# frame of many pages is stepped down page by page in a loop, which ends at %r11: so far below the stack pointer as is written in front of
-# the loop, and that is counted. What would make the sum wrong has the line "unread": another change of the stack pointer, a step down in
+# last function of a chain the 128 bytes that the calling convention lets it use. memset's own frame is not counted. A frame of many
+# pages is stepped down page by page in a loop, which ends at %r11: so far below the stack pointer as is written in front of the loop,
+# and that is counted. What would make the sum wrong has the line "unread": another change of the stack pointer, a step down in
 # another loop, a call through a pointer or without a name, a cycle of calls.
 
 function hexadecimal(digits,    i, value) {
@@ -25,7 +25,7 @@ function deepest(caller, chain,    i, deep, most, callees, count) {
     most = 128
     count = split(calls[caller], callees, " ")
     for (i = 1; i <= count; i++) {
-        deep = callees[i] ~ /^mem(set|cpy)$/ ? 8 : deepest(callees[i], chain + 1)
+        deep = callees[i] == "memset" ? 8 : deepest(callees[i], chain + 1)
         most = deep > most ? deep : most
     }
     return 8 + frame[caller] + most

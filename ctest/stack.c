@@ -1,7 +1,6 @@
 /* How much stack each call takes: it is made on a stack of its own that was painted before, and the paint that is gone is counted, the few
  * words of the function that makes the call with it. Exits with 1 where that is as much as the header's bound, or where a call was
- * refused and so did not do its work. Linked so that memset and memcpy are looked up before (-z now): the header's numbers are without
- * that. */
+ * refused and so did not do its work. Linked so that memset is looked up before (-z now): the header's numbers are without that. */
 #define _DEFAULT_SOURCE
 #include "cases.h"
 #include <sys/mman.h>

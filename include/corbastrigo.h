@@ -19,12 +19,11 @@
  * one of them writes to is its own until it returns.
  *
  * Stack. A call takes less than CORBASTRIGO_STACK_BYTES, a comparison of two maps less than CORBASTRIGO_COMPARE_STACK_BYTES, a pick less
- * than CORBASTRIGO_PICK_STACK_BYTES, a page less than CORBASTRIGO_PAGE_STACK_BYTES. Not counted are memset's and memcpy's own, and the
- * dynamic linker's where it looks one of them up at its first call. No call recurses.
+ * than CORBASTRIGO_PICK_STACK_BYTES, a page less than CORBASTRIGO_PAGE_STACK_BYTES. Not counted are memset's own, and the dynamic
+ * linker's where it looks memset up at its first call. No call recurses.
  *
  * Platform. x86-64 Linux: ELF, the System V calling convention, any x86-64 processor. The code is position-independent: the archive
- * links into a program, position-independent or not, and into a shared object. Of the C library it wants memset and
- * memcpy and nothing else.
+ * links into a program, position-independent or not, and into a shared object. Of the C library it wants memset and nothing else.
  *
  * Each call is proved to meet its contract for every input (docs/PROMISES.md). The promises stand on what this page asks of pointers.
  * What it says of refused lengths, groups behind a hit, NULL, threads, stack and platform is not proved; it is tested (ctest/).
