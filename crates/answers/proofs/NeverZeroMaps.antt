@@ -25,7 +25,8 @@ use Rattle.asmap_records.specs.Unpack.{unpackAs, unpackOf, unpackAt}
 use Rattle.asmap_records.specs.Pack.{fieldBits, recordBits, recordsBits, packBits, packOf}
 use Rattle.asmap_list.specs.List.{listAs, listOf, listAt, bytesOf, neededOf, neededAt}
 use Rattle.prefix_changes.specs.Change.{Change}
-use Rattle.asmap_compare.specs.Compare.{Comparison, Told, Refuses as Named, changesOf, comparedAs, comparison, comparisonAt, recordsMade, compareOf, compareAt, firstMade, neededWith}
+use Rattle.asmap_changes.specs.Changes.{changesOf}
+use Rattle.asmap_compare.specs.Compare.{Comparison, Told, Refuses as Named, comparedAs, comparison, comparisonAt, recordsMade, compareOf, compareAt, firstMade, neededWith}
 use Rattle.answers.specs.Maps.{mapChecked, checkStopped, walkMade, bytesWritten, bytesNeeded}
 use Rattle.answers.proofs.Handing.{Counted, Refuses, counted, counted-at}
 

@@ -37,9 +37,10 @@ use Rattle.asmap_program.specs.Map.{addressBit}
 use Rattle.asmap_list.specs.declared.Needed.{Needed}
 use Rattle.asmap_list.specs.declared.Needed.the-variants as needed
 use Rattle.asmap_list.proofs.CallLaws.{counts, covered}
-use Rattle.asmap_compare.specs.Compare.{Comparison, Told, Refuses, changesOf, comparedAs, comparison, recordsMade, neededWith, Finds}
+use Rattle.asmap_changes.specs.Changes.{changesOf}
+use Rattle.asmap_compare.specs.Compare.{Comparison, Told, Refuses, comparedAs, comparison, recordsMade, neededWith, Finds}
 use Rattle.asmap_compare.specs.Promise.{endsAt, Compares}
-use Rattle.asmap_compare.specs.models.Side.{Ready}
+use Rattle.asmap_changes.specs.models.Side.{Ready}
 
 -- ---- what a count tells
 

@@ -1,4 +1,1 @@
-pub mod NoteLaws
-pub mod PairLaws
-pub mod MergeLaws
 pub mod CallLaws

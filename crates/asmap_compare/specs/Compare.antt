@@ -8,12 +8,11 @@ use lib.ListN.{length}
 use Rattle.asmap_program.specs.declared.Verdict.{Verdict}
 use Rattle.asmap_program.specs.declared.Verdict.the-variants.{Accepted, Refused}
 use Rattle.asmap_program.specs.Widths.{atWidth}
-use Rattle.asmap_codes.specs.Instruction.{mapOf}
 use Rattle.asmap_check.specs.Check.{checkOf}
 use Rattle.asmap_records.specs.Output.{Result, Made, No, within, leaves}
-use Rattle.prefix_changes.specs.Change.{Change, changes}
+use Rattle.prefix_changes.specs.Change.{Change}
 use Rattle.prefix_changes.specs.Record.{changeRecordsOf, firstChanged}
-use Rattle.asmap_listing.specs.Listing.{listing}
+use Rattle.asmap_changes.specs.Changes.{changesOf}
 use Rattle.asmap_list.specs.declared.Needed.{Needed}
 use Rattle.asmap_list.specs.declared.Needed.the-variants as needed
 use Rattle.asmap_list.specs.List.{bytesOf}
@@ -22,10 +21,6 @@ use Rattle.asmap_list.specs.List.{bytesOf}
 pub data Comparison : Type 0 where
   Told : List Change → Comparison
   Refuses : ℕ → Comparison
-
--- The changes from one map to another, over w address bits.
-abbrev pub changesOf : List ℕ → List ℕ → ℕ → List Change
-changesOf old new w = changes w (listing (mapOf old)) (listing (mapOf new))
 
 -- By the verdicts of both: a refusal of the old map has the check's number, one of the new map has 100 more.
 abbrev pub comparedAs : List Change → Verdict → Verdict → Comparison

@@ -1,3 +1,2 @@
 pub mod Compare
 pub mod Promise
-pub mod models

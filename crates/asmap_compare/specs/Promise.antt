@@ -11,7 +11,7 @@ use Rattle.asmap_codes.specs.Instruction.{mapOf}
 use Rattle.asmap_check.specs.Check.{checkOf}
 use Rattle.prefix_records.specs.Tiling.{numberOf}
 use Rattle.prefix_changes.specs.Change.{Change, Tells, Rises, backs}
-use Rattle.asmap_compare.specs.Compare.{changesOf}
+use Rattle.asmap_changes.specs.Changes.{changesOf}
 
 -- The number at which an address, given by its bytes, ends in a map.
 abbrev pub endsAt : List ℕ → List ℕ → ℕ → ℕ

@@ -16,7 +16,8 @@ use Rattle.asmap_check.specs.Check.{checkOf}
 use Rattle.asmap_records.specs.Output.{Made, refuse, within, answerOf, leaves}
 use Rattle.prefix_changes.specs.Change.{Change}
 use Rattle.prefix_changes.specs.Record.{changeRecordsOf, firstChanged}
-use Rattle.asmap_compare.specs.Compare.{Comparison, Told, Refuses, changesOf, comparison, recordsMade, compareOf, firstMade, neededWith}
+use Rattle.asmap_changes.specs.Changes.{changesOf}
+use Rattle.asmap_compare.specs.Compare.{Comparison, Told, Refuses, comparison, recordsMade, compareOf, firstMade, neededWith}
 use Rattle.asmap_compare.specs.Promise.{Compares}
 use Rattle.asmap_walk.specs.Interpret.{interpretOver}
 use Rattle.prefix_changes.proofs.RecordLaws.{length-changes}

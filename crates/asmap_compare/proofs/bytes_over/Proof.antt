@@ -4,7 +4,8 @@ use borrow.Author.Needs.{needs}
 use native.Mathlib.Omega.{arith}
 use mathlib.Core.Path.{sym, subst, _∙_}
 use Rattle.asmap_check.specs.models.Counted.{Few}
-use Rattle.asmap_compare.specs.Compare.{Told, changesOf, comparison}
+use Rattle.asmap_changes.specs.Changes.{changesOf}
+use Rattle.asmap_compare.specs.Compare.{Told, comparison}
 use Rattle.asmap_compare.proofs.CallLaws.{ready, accepts, refuses, small-reason, told-wide, old-refused, new-refused, finds-refused, finds-same}
 use Rattle.asmap_compare.proofs.bytes_over.Statement.{statement}
 use Rattle.asmap_compare.proofs.bytes_over.Tie as tie

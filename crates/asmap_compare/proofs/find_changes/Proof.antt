@@ -3,8 +3,8 @@
 use borrow.Author.Needs.{needs}
 use native.Mathlib.Omega.{arith}
 use mathlib.Core.Path.{refl}
-use Rattle.asmap_compare.specs.Compare.{changesOf}
-use Rattle.asmap_compare.proofs.MergeLaws.{few-changes}
+use Rattle.asmap_changes.specs.Changes.{changesOf}
+use Rattle.asmap_changes.proofs.MergeLaws.{few-changes}
 use Rattle.asmap_compare.proofs.CallLaws.{finds-short, finds-first}
 use Rattle.asmap_compare.proofs.find_changes.Statement.{statement}
 use Rattle.asmap_compare.proofs.find_changes.Tie as tie

@@ -7,7 +7,7 @@ use mathlib.Core.Path.{refl}
 use Rattle.prefix_changes.specs.Record.{changeRecordsOf}
 use Rattle.prefix_changes.proofs.RecordLaws.{length-changes}
 use Rattle.asmap_records.specs.Output.{Made}
-use Rattle.asmap_compare.specs.Compare.{changesOf}
+use Rattle.asmap_changes.specs.Changes.{changesOf}
 use Rattle.asmap_compare.proofs.write_changes.Statement.{statement}
 use Rattle.asmap_compare.proofs.write_changes.Tie as tie
 

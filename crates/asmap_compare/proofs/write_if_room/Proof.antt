@@ -9,7 +9,7 @@ use Rattle.asmap_records.specs.Output.{Made, Hands}
 use Rattle.asmap_records.proofs.OutputLaws.{hands-short}
 use Rattle.prefix_changes.specs.Record.{changeRecordsOf}
 use Rattle.prefix_changes.proofs.RecordLaws.{length-changes}
-use Rattle.asmap_compare.specs.Compare.{changesOf}
+use Rattle.asmap_changes.specs.Changes.{changesOf}
 use Rattle.asmap_compare.proofs.CallLaws.{hands-left}
 use Rattle.asmap_compare.proofs.write_if_room.Statement.{statement}
 use Rattle.asmap_compare.proofs.write_if_room.Tie as tie

@@ -12,10 +12,10 @@ use borrow.Author.Tests.{lt-ltb, le-ltb, ltb-true, ltb-false, eq-eqb, ne-eqb, eq
 use Rattle.byte_numbers.specs.Numbers.{bytes4}
 use Rattle.prefix_records.specs.declared.Address.{Address}
 use Rattle.prefix_records.specs.models.Cursor.{valueOf, recordAt}
-use Rattle.asmap_compare.specs.declared.Front.{Front}
-use Rattle.asmap_compare.specs.declared.Found.{Found}
-use Rattle.asmap_compare.specs.declared.Place.{Place}
-use Rattle.asmap_compare.specs.models.Side.{placeIf, placeOf, putIf, firstIf, added, NotedIf, Noted, Roomy}
+use Rattle.asmap_changes.specs.declared.Front.{Front}
+use Rattle.asmap_changes.specs.declared.Found.{Found}
+use Rattle.asmap_changes.specs.declared.Place.{Place}
+use Rattle.asmap_changes.specs.models.Side.{placeIf, placeOf, putIf, firstIf, added, NotedIf, Noted, Roomy}
 
 pub added-first : (f : Found) (a : Address) → f .pieces ≡ 0 → record { pieces = 1; first = a } ≡ added f a
 added-first f a e = ap (λ (k : ℕ). record { pieces = k + 1; first = firstIf k a (f .first) }) (sym e)

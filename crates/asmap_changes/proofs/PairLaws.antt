@@ -30,11 +30,11 @@ use Rattle.asmap_list_step.specs.declared.Spot.{Spot}
 use Rattle.asmap_list_step.specs.models.Step.{rest, weight, Sane, Onward}
 use Rattle.asmap_list_step.proofs.StepLaws.{startSpot, start-sane, start-rest}
 use Rattle.asmap_list.proofs.PutLaws.{first-piece, no-piece, past-size, below-top, room-left}
-use Rattle.asmap_compare.specs.Compare.{changesOf}
-use Rattle.asmap_compare.specs.declared.Front.{Front}
-use Rattle.asmap_compare.specs.declared.Found.{Found}
-use Rattle.asmap_compare.specs.declared.Place.{Place}
-use Rattle.asmap_compare.specs.models.Side.{Ready, mostChanges, Stands, Fore, Coming, Comes, Split, First, placeIf, placeOf, putIf, firstIf, added, NotedIf, Noted, Roomy, RoomFor, Whole}
+use Rattle.asmap_changes.specs.Changes.{changesOf}
+use Rattle.asmap_changes.specs.declared.Front.{Front}
+use Rattle.asmap_changes.specs.declared.Found.{Found}
+use Rattle.asmap_changes.specs.declared.Place.{Place}
+use Rattle.asmap_changes.specs.models.Side.{Ready, mostChanges, Stands, Fore, Coming, Comes, Split, First, placeIf, placeOf, putIf, firstIf, added, NotedIf, Noted, Roomy, RoomFor, Whole}
 
 -- ---- the next piece of one listing
 

@@ -1,9 +1,9 @@
--- `asmap_compare::same` meets its contract.
+-- `asmap_changes::same` meets its contract.
 -- Assumes nothing.
 use native.Mathlib.Omega.{arith}
-use Rattle.asmap_compare.proofs.NoteLaws.{same-high, apart-high}
-use Rattle.asmap_compare.proofs.same.Statement.{statement}
-use Rattle.asmap_compare.proofs.same.Tie as tie
+use Rattle.asmap_changes.proofs.NoteLaws.{same-high, apart-high}
+use Rattle.asmap_changes.proofs.same.Statement.{statement}
+use Rattle.asmap_changes.proofs.same.Tie as tie
 
 returns : tie.Need-returns
 returns c = same-high (c .before .before .before .before .before .args .a) (c .before .before .before .before .before .args .b) (c .before .before .if1 .taken)

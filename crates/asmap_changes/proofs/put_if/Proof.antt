@@ -1,10 +1,10 @@
--- `asmap_compare::put_if` meets its contract.
+-- `asmap_changes::put_if` meets its contract.
 -- Assumes nothing.
 use borrow.Author.Needs.{needs}
 use native.Mathlib.Omega.{arith}
-use Rattle.asmap_compare.proofs.NoteLaws.{roomy, put-it}
-use Rattle.asmap_compare.proofs.put_if.Statement.{statement}
-use Rattle.asmap_compare.proofs.put_if.Tie as tie
+use Rattle.asmap_changes.proofs.NoteLaws.{roomy, put-it}
+use Rattle.asmap_changes.proofs.put_if.Statement.{statement}
+use Rattle.asmap_changes.proofs.put_if.Tie as tie
 
 mul-put-change : tie.Need-mul-put-change
 mul-put-change c = omega (arith, roomy _ _ _ (c .before .before .before .before .pre) (c .before .before .if1 .taken), c .before .before .before .before .good)

@@ -16,11 +16,11 @@ use Rattle.asmap_codes.specs.Instruction.{mapOf}
 use Rattle.asmap_listing.specs.Listing.{listing}
 use Rattle.asmap_list_step.specs.declared.Spot.{Spot}
 use Rattle.asmap_list_step.proofs.StepLaws.{startSpot}
-use Rattle.asmap_compare.specs.Compare.{changesOf}
-use Rattle.asmap_compare.specs.declared.Front.{Front}
-use Rattle.asmap_compare.specs.declared.Found.{Found}
-use Rattle.asmap_compare.specs.models.Side.{Ready, mostChanges, Coming, Fore, Split, First, Paired, Noted, Roomy, RoomFor, Whole}
-use Rattle.asmap_compare.proofs.PairLaws.{start-coming, Tally, tally-start, tally-whole, Pair, tested, noted}
+use Rattle.asmap_changes.specs.Changes.{changesOf}
+use Rattle.asmap_changes.specs.declared.Front.{Front}
+use Rattle.asmap_changes.specs.declared.Found.{Found}
+use Rattle.asmap_changes.specs.models.Side.{Ready, mostChanges, Coming, Fore, Split, First, Paired, Noted, Roomy, RoomFor, Whole}
+use Rattle.asmap_changes.proofs.PairLaws.{start-coming, Tally, tally-start, tally-whole, Pair, tested, noted}
 
 -- ---- how it stands
 

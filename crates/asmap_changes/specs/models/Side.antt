@@ -21,11 +21,11 @@ use Rattle.asmap_listing.specs.Listing.{listing}
 use Rattle.asmap_listing.specs.models.Scan.{leaves, scanStart, scanned}
 use Rattle.asmap_list_step.specs.declared.Spot.{Spot}
 use Rattle.asmap_list_step.specs.models.Step.{rest, weight, Sane}
-use Rattle.asmap_compare.specs.declared.Front.{Front}
-use Rattle.asmap_compare.specs.declared.Ahead.{Ahead}
-use Rattle.asmap_compare.specs.declared.Ahead.the-variants.{At, Over}
-use Rattle.asmap_compare.specs.declared.Found.{Found}
-use Rattle.asmap_compare.specs.declared.Place.{Place}
+use Rattle.asmap_changes.specs.declared.Front.{Front}
+use Rattle.asmap_changes.specs.declared.Ahead.{Ahead}
+use Rattle.asmap_changes.specs.declared.Ahead.the-variants.{At, Over}
+use Rattle.asmap_changes.specs.declared.Found.{Found}
+use Rattle.asmap_changes.specs.declared.Place.{Place}
 
 -- what the loop is told of a map: it is within the limit, its listing comes out of one pass, tiles, and can be counted
 pub record Ready (m : List ℕ) : Type 0 where

@@ -1,8 +1,8 @@
--- `asmap_compare::shared` meets its contract.
+-- `asmap_changes::shared` meets its contract.
 -- Assumes nothing.
-use Rattle.asmap_compare.proofs.NoteLaws.{place-new, place-old}
-use Rattle.asmap_compare.proofs.shared.Statement.{statement}
-use Rattle.asmap_compare.proofs.shared.Tie as tie
+use Rattle.asmap_changes.proofs.NoteLaws.{place-new, place-old}
+use Rattle.asmap_changes.proofs.shared.Statement.{statement}
+use Rattle.asmap_changes.proofs.shared.Tie as tie
 
 returns : tie.Need-returns
 returns c = place-new (c .before .before .before .before .args .o) (c .before .before .before .before .args .n) (c .before .if1 .taken)

@@ -1,12 +1,12 @@
--- `asmap_compare::next_front` meets its contract: the next piece of the pass is the foremost of those to come.
+-- `asmap_changes::next_front` meets its contract: the next piece of the pass is the foremost of those to come.
 -- Assumes nothing.
 use borrow.Author.Needs.{needs}
 use mathlib.Core.Path.{_≡_, subst}
 use Rattle.asmap_list_step.specs.models.Step.{Passed}
 use Rattle.asmap_list_step.specs.declared.Next.{Next}
-use Rattle.asmap_compare.proofs.PairLaws.{coming-length, coming-front, coming-over}
-use Rattle.asmap_compare.proofs.next_front.Statement.{statement}
-use Rattle.asmap_compare.proofs.next_front.Tie as tie
+use Rattle.asmap_changes.proofs.PairLaws.{coming-length, coming-front, coming-over}
+use Rattle.asmap_changes.proofs.next_front.Statement.{statement}
+use Rattle.asmap_changes.proofs.next_front.Tie as tie
 
 -- what the next piece came to, as r: after `next_piece`
 passed : (k : tie.After-next-piece) (r : Next) → k .next-piece .result ≡ r

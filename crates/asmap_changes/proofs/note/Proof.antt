@@ -1,9 +1,9 @@
--- `asmap_compare::note` meets its contract.
+-- `asmap_changes::note` meets its contract.
 -- Assumes nothing.
 use borrow.Author.Needs.{needs}
-use Rattle.asmap_compare.proofs.NoteLaws.{noted-same, noted-other}
-use Rattle.asmap_compare.proofs.note.Statement.{statement}
-use Rattle.asmap_compare.proofs.note.Tie as tie
+use Rattle.asmap_changes.proofs.NoteLaws.{noted-same, noted-other}
+use Rattle.asmap_changes.proofs.note.Statement.{statement}
+use Rattle.asmap_changes.proofs.note.Tie as tie
 
 returns : tie.Need-returns
 returns c = noted-same (c .before .before .before .before .args .writes) (c .before .before .before .before .args .o) (c .before .before .before .before .args .n) (c .before .before .before .before .args .found) _ (c .if1 .taken)

@@ -1,9 +1,9 @@
--- `asmap_compare::add` meets its contract.
+-- `asmap_changes::add` meets its contract.
 -- Assumes nothing.
 use borrow.Author.Needs.{needs}
-use Rattle.asmap_compare.proofs.NoteLaws.{added-first, added-more}
-use Rattle.asmap_compare.proofs.add.Statement.{statement}
-use Rattle.asmap_compare.proofs.add.Tie as tie
+use Rattle.asmap_changes.proofs.NoteLaws.{added-first, added-more}
+use Rattle.asmap_changes.proofs.add.Statement.{statement}
+use Rattle.asmap_changes.proofs.add.Tie as tie
 
 returns : tie.Need-returns
 returns c = added-first (c .before .args .found) _ (c .if1 .taken)

@@ -1,4 +1,4 @@
--- `asmap_compare::merge` meets its contract: each turn notes what the foremost pieces share, and passes the one that ends first, or both.
+-- `asmap_changes::merge` meets its contract: each turn notes what the foremost pieces share, and passes the one that ends first, or both.
 -- Assumes nothing.
 use borrow.Author.Needs.{needs}
 use native.Mathlib.Omega.{arith}
@@ -7,12 +7,12 @@ use mathlib.Core.Path.{_≡_, sym, subst, _∙_}
 use mathlib.Core.List.{List}
 use Rattle.prefix_records.specs.Tiling.{Piece}
 use Rattle.asmap_list_step.specs.models.Step.{weight}
-use Rattle.asmap_compare.specs.declared.Ahead.{Ahead}
-use Rattle.asmap_compare.specs.models.Side.{Coming, Fronted}
-use Rattle.asmap_compare.proofs.PairLaws.{behind-fore}
-use Rattle.asmap_compare.proofs.MergeLaws.{Standing, start-standing, few-changes, room-here, count-here, on-both, on-old, on-new, end-both-old, end-both-new, end-old, end-new}
-use Rattle.asmap_compare.proofs.merge.Statement.{statement}
-use Rattle.asmap_compare.proofs.merge.Tie as tie
+use Rattle.asmap_changes.specs.declared.Ahead.{Ahead}
+use Rattle.asmap_changes.specs.models.Side.{Coming, Fronted}
+use Rattle.asmap_changes.proofs.PairLaws.{behind-fore}
+use Rattle.asmap_changes.proofs.MergeLaws.{Standing, start-standing, few-changes, room-here, count-here, on-both, on-old, on-new, end-both-old, end-both-new, end-old, end-new}
+use Rattle.asmap_changes.proofs.merge.Statement.{statement}
+use Rattle.asmap_changes.proofs.merge.Tie as tie
 
 abbrev Inv-loop : tie.InvT-loop
 Inv-loop old new writes out₀ old-bits₀ old-numbers₀ new-bits₀ new-numbers₀ found₀ o₀ n₀ out old-bits old-numbers new-bits new-numbers found o n =

@@ -1,15 +1,15 @@
--- `asmap_compare::put_changes` meets its contract: the foremost pieces of both listings, and from there the loop.
+-- `asmap_changes::put_changes` meets its contract: the foremost pieces of both listings, and from there the loop.
 -- Assumes nothing.
 use borrow.Author.Needs.{needs}
 use Prim.Native.Nat.{ℕ}
 use mathlib.Core.Path.{_≡_, subst}
 use mathlib.Core.List.{List}
 use Rattle.prefix_records.specs.Tiling.{Piece}
-use Rattle.asmap_compare.specs.declared.Ahead.{Ahead}
-use Rattle.asmap_compare.specs.models.Side.{Coming, Fronted}
-use Rattle.asmap_compare.proofs.MergeLaws.{start-at, first-of, no-old, no-new}
-use Rattle.asmap_compare.proofs.put_changes.Statement.{statement}
-use Rattle.asmap_compare.proofs.put_changes.Tie as tie
+use Rattle.asmap_changes.specs.declared.Ahead.{Ahead}
+use Rattle.asmap_changes.specs.models.Side.{Coming, Fronted}
+use Rattle.asmap_changes.proofs.MergeLaws.{start-at, first-of, no-old, no-new}
+use Rattle.asmap_changes.proofs.put_changes.Statement.{statement}
+use Rattle.asmap_changes.proofs.put_changes.Tie as tie
 
 -- what each call for the first piece came to, as r
 fronted-1 : (k : tie.After-next-front) (r : Ahead) → k .next-front .result ≡ r → (lo : ℕ) (ps : List Piece) → Coming (k .before .before .before .before .before .before .before .before .before .before .before .args .old .now) (k .before .before .before .start .result) (record { high = 0; low = 0 }) (k .before .before .before .before .before .before .before .stack-bits .result) (k .before .before .before .before .before .before .stack-numbers .result) lo ps → Fronted (k .before .before .before .before .before .before .before .before .before .before .before .args .old .now) (k .before .before .before .start .result) ps (k .next-front .last .1 .1 .1 .0) (k .next-front .last .1 .1 .1 .1 .0) r

@@ -1,0 +1,3 @@
+pub mod NoteLaws
+pub mod PairLaws
+pub mod MergeLaws
