@@ -16,10 +16,11 @@ use Rattle.asmap_check.specs.Check.{checkOf, checkAt, reasonOf, stopsUnlessLong
 use Rattle.asmap_check.proofs.Reasons.{Judged, check-judged, map-judged}
 use Rattle.asmap_check.specs.declared.Stopped.the-variants.{At}
 use Rattle.asmap_check.specs.declared.Stopped.the-variants as stopped
-use Rattle.asmap_walk.specs.declared.Ending.{Ending}
+use Rattle.asmap_walk_bits.specs.declared.Ending.{Ending}
 use Rattle.asmap_walk.specs.declared.Interpreted.the-variants.{Ended}
 use Rattle.asmap_walk.specs.declared.Interpreted.the-variants as walk
-use Rattle.asmap_walk.specs.Interpret.{refusedIf, summary, walkOf, interpretOver, interpretOf, interpretAt}
+use Rattle.asmap_walk.specs.Interpret.{refusedIf, interpretOver, interpretOf, interpretAt}
+use Rattle.asmap_walk_bits.specs.Walk.{summary, walkOf}
 use Rattle.asmap_records.specs.Output.{Result, Made, No, refuse, on, within, answerOf}
 use Rattle.asmap_records.specs.Unpack.{unpackAs, unpackOf, unpackAt}
 use Rattle.asmap_records.specs.Pack.{fieldBits, recordBits, recordsBits, packBits, packOf}

@@ -19,10 +19,10 @@ use Rattle.asmap_codes.specs.declared.Decoded.{Decoded}
 use Rattle.asmap_codes.specs.declared.Decoded.the-variants as code
 use Rattle.asmap_codes.specs.Core.{CoreReads, fileOf}
 use Rattle.asmap_check.specs.Check.{LikeCore, LikeCoreAt}
-use Rattle.asmap_walk.specs.declared.Ending.{Ending}
+use Rattle.asmap_walk_bits.specs.declared.Ending.{Ending}
 use Rattle.asmap_walk.specs.declared.Interpreted.{Interpreted}
 use Rattle.asmap_walk.specs.declared.Interpreted.the-variants.{Ended}
-use Rattle.asmap_walk.specs.Interpret.{walkOf, summary}
+use Rattle.asmap_walk_bits.specs.Walk.{walkOf, summary}
 use Rattle.asmap_walk.specs.Promise as walk
 use Rattle.asmap_records.specs.declared.Answer.{Answer}
 use Rattle.asmap_records.specs.declared.Answer.the-variants as records

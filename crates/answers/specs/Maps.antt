@@ -10,7 +10,7 @@ use Rattle.asmap_program.specs.declared.Kind.{Kind}
 use Rattle.asmap_program.specs.declared.Kind.the-variants.{Returned, Differed, Aborted}
 use Rattle.asmap_check.specs.declared.Stopped.{Stopped}
 use Rattle.asmap_check.specs.declared.Stopped.the-variants as stopped
-use Rattle.asmap_walk.specs.declared.Ending.{Ending}
+use Rattle.asmap_walk_bits.specs.declared.Ending.{Ending}
 use Rattle.asmap_walk.specs.declared.Interpreted.{Interpreted}
 use Rattle.asmap_walk.specs.declared.Interpreted.the-variants as walk
 use Rattle.asmap_records.specs.declared.Answer.{Answer}

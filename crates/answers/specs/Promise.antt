@@ -14,7 +14,7 @@ use Rattle.asmap_program.specs.Core.{Read, INVALID, coreCheck, Number, coreInte
 use Rattle.asmap_program.specs.Demand.{NoDefault}
 use Rattle.asmap_codes.specs.Core.{fileOf}
 use Rattle.asmap_check.specs.Check.{checkOf}
-use Rattle.asmap_walk.specs.Interpret.{walkOf, summary}
+use Rattle.asmap_walk_bits.specs.Walk.{walkOf, summary}
 use Rattle.asmap_walk.specs.Promise.{Kept}
 use Rattle.answers.specs.Maps.{endNumbers}
 

@@ -22,9 +22,10 @@ use Rattle.asmap_codes.proofs.CoreLaws.{number-of-bytes}
 use Rattle.asmap_codes.proofs.MapLaws.{laws}
 use Rattle.asmap_check.specs.Check.{checkOf}
 use Rattle.asmap_check.proofs.Standing.{accepted-within}
-use Rattle.asmap_walk.specs.Interpret.{walkOf, summary, interpretOver, interpretOf, interpretAt}
+use Rattle.asmap_walk_bits.specs.Walk.{walkOf, summary}
+use Rattle.asmap_walk.specs.Interpret.{interpretOver, interpretOf, interpretAt}
 use Rattle.asmap_walk.specs.Promise.{Kept, Demand3, Demand3At, CoreNumber, CoreNumberAt}
-use Rattle.asmap_walk.specs.declared.Ending.{Ending}
+use Rattle.asmap_walk_bits.specs.declared.Ending.{Ending}
 use Rattle.asmap_walk.specs.declared.Interpreted.{Interpreted}
 use Rattle.asmap_walk.specs.declared.Interpreted.the-variants.{Ended, Refused}
 

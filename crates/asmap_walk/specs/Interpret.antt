@@ -1,25 +1,15 @@
--- The walk of a map's bytes by an address's bytes, and what the call hands back of it (document 01, Walk and "What a call hands back").
+-- What the call hands back of a walk (document 01, Walk and "What a call hands back").
 -- Assumes nothing.
 use Prim.Native.Nat.{ℕ, _*_}
 use mathlib.Core.Bool.{Bool, true, false, not}
 use mathlib.Core.List.{List}
 use lib.Dec.{ltb, eqb}
 use lib.ListN.{length}
-use Rattle.asmap_program.specs.Map.{limit, addressBit}
+use Rattle.asmap_program.specs.Map.{limit}
 use Rattle.asmap_program.specs.Widths.{atWidth}
-use Rattle.asmap_program.specs.Walk.{Walked, walk}
-use Rattle.asmap_codes.specs.Instruction.{mapOf}
-use Rattle.asmap_walk.specs.declared.Ending.{Ending}
+use Rattle.asmap_walk_bits.specs.Walk.{walkOf, summary}
 use Rattle.asmap_walk.specs.declared.Interpreted.{Interpreted}
 use Rattle.asmap_walk.specs.declared.Interpreted.the-variants.{Ended, Refused}
-
--- the defined walk of the map m by the first w bits of the address a
-unfoldable pub walkOf : List ℕ → List ℕ → ℕ → Walked
-walkOf m a w = walk (addressBit a) (mapOf m) w
-
--- how a walk ended: its count is the number of instructions that it read whole
-abbrev pub summary : Walked → Ending
-summary r = record { kind = r .kind; number = r .number; count = length (r .read); bits = r .bits }
 
 -- where the test holds, refused with n
 abbrev pub refusedIf : Bool → ℕ → Interpreted → Interpreted

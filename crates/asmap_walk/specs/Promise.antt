@@ -16,8 +16,8 @@ use Rattle.asmap_program.specs.Demand.{NoDefault, Answers, Walks}
 use Rattle.asmap_codes.specs.Core.{fileOf}
 use Rattle.asmap_codes.specs.Instruction.{mapOf}
 use Rattle.asmap_check.specs.Check.{checkOf}
-use Rattle.asmap_walk.specs.Interpret.{walkOf, summary}
-use Rattle.asmap_walk.specs.declared.Ending.{Ending}
+use Rattle.asmap_walk_bits.specs.Walk.{walkOf, summary}
+use Rattle.asmap_walk_bits.specs.declared.Ending.{Ending}
 use Rattle.asmap_walk.specs.declared.Interpreted.{Interpreted}
 use Rattle.asmap_walk.specs.declared.Interpreted.the-variants.{Ended}
 

@@ -14,7 +14,8 @@ use Rattle.asmap_program.specs.Walk.{walk}
 use Rattle.asmap_codes.specs.Instruction.{mapOf}
 use Rattle.asmap_codes.proofs.MapLaws.{map-fetch}
 use Rattle.asmap_check.specs.Check.{checkOf}
-use Rattle.asmap_walk.specs.Interpret.{walkOf, interpretOver}
+use Rattle.asmap_walk_bits.specs.Walk.{walkOf}
+use Rattle.asmap_walk.specs.Interpret.{interpretOver}
 use Rattle.asmap_records.specs.Output.{Result, Made, No}
 use Rattle.asmap_records.proofs.OutputLaws.{made-same}
 use Rattle.asmap_records.proofs.Reading.{stands}

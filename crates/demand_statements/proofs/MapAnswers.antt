@@ -21,10 +21,11 @@ use Rattle.asmap_codes.proofs.MapLaws.{laws, map-bits}
 use Rattle.asmap_check.specs.declared.Stopped.the-variants.{At}
 use Rattle.asmap_check.specs.Check.{unlessLong, checkOf, reasonOf, stopsUnlessLong, stoppedOf}
 use Rattle.asmap_check.proofs.Standing.{checked}
-use Rattle.asmap_walk.specs.declared.Ending.{Ending}
+use Rattle.asmap_walk_bits.specs.declared.Ending.{Ending}
 use Rattle.asmap_walk.specs.declared.Interpreted.{Interpreted}
 use Rattle.asmap_walk.specs.declared.Interpreted.the-variants.{Ended}
-use Rattle.asmap_walk.specs.Interpret.{walkOf, summary, interpretOver, interpretOf, refusedIf}
+use Rattle.asmap_walk_bits.specs.Walk.{walkOf, summary}
+use Rattle.asmap_walk.specs.Interpret.{interpretOver, interpretOf, refusedIf}
 use Rattle.asmap_walk.proofs.Promised.{as-128}
 use Rattle.asmap_records.specs.Output.{Result, No, refuse, within, answerOf}
 use Rattle.asmap_records.specs.Unpack.{unpackOf}

@@ -9,7 +9,7 @@ use native.Mathlib.Omega.{arith}
 use borrow.Author.Tests.{eq-eqb, ne-eqb, lt-ltb, le-ltb}
 use lib.ListN.{length, take, drop}
 use Rattle.asmap_check.specs.Check.{checkOf}
-use Rattle.asmap_walk.specs.Interpret.{walkOf}
+use Rattle.asmap_walk_bits.specs.Walk.{walkOf}
 use Rattle.peer_lists.specs.declared.Refusal.{Refusal}
 use Rattle.peer_lists.specs.declared.Refusal.the-variants.{None, Number}
 use Rattle.peer_lists.specs.Refusal.{orElse, listRefusal}

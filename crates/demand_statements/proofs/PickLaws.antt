@@ -7,7 +7,7 @@ use native.Mathlib.Omega.{arith}
 use lib.ListN.{length, take, drop}
 use lib.Seq.{take-nil}
 use Rattle.asmap_check.specs.Check.{checkOf}
-use Rattle.asmap_walk.specs.Interpret.{walkOf}
+use Rattle.asmap_walk_bits.specs.Walk.{walkOf}
 use Rattle.peer_lists.specs.declared.Refusal.{Refusal}
 use Rattle.peer_lists.specs.declared.Refusal.the-variants.{None, Number}
 use Rattle.netgroup.specs.declared.GroupAnswer.the-variants as group

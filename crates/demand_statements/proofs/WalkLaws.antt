@@ -19,7 +19,8 @@ use Rattle.asmap_program.specs.Map.{addressBit}
 use Rattle.asmap_codes.specs.Core.{fileOf}
 use Rattle.asmap_check.specs.Check.{checkOf}
 use Rattle.asmap_walk.specs.declared.Interpreted.{Interpreted}
-use Rattle.asmap_walk.specs.Interpret.{walkOf, refusedIf, interpretOver}
+use Rattle.asmap_walk_bits.specs.Walk.{walkOf}
+use Rattle.asmap_walk.specs.Interpret.{refusedIf, interpretOver}
 use Rattle.answers.specs.Outcome.{IsDone, Hands}
 use Rattle.answers.specs.Maps.{mapChecked, kindNumber, walkMade}
 use Rattle.answers.specs.Promise.{Finished, Demand3, CoreNumber}

@@ -12,7 +12,7 @@ use Rattle.asmap_program.specs.Check.{StopsAt, stopOf}
 use Rattle.asmap_program.specs.Walk.{Walked}
 use Rattle.asmap_codes.specs.Instruction.{mapOf}
 use Rattle.asmap_check.specs.Check.{checkOf}
-use Rattle.asmap_walk.specs.Interpret.{walkOf}
+use Rattle.asmap_walk_bits.specs.Walk.{walkOf}
 
 -- refused, it leaves all as it was
 abbrev pub Untouched : ℕ → List ℕ → List ℕ → Type 0

@@ -11,7 +11,7 @@ use lib.ListN.{length, take, drop, getD}
 use Rattle.asmap_program.specs.declared.Instruction.{Instruction}
 use Rattle.asmap_program.specs.declared.Kind.the-variants.{Returned, Differed}
 use Rattle.asmap_program.specs.Walk.{Walked}
-use Rattle.asmap_walk.specs.Interpret.{walkOf}
+use Rattle.asmap_walk_bits.specs.Walk.{walkOf}
 use Rattle.pick_passes.specs.First.{Pass, firstPass}
 use Rattle.pick_passes.specs.Ranked.{sum}
 

@@ -11,7 +11,7 @@ use Rattle.asmap_program.specs.declared.Verdict.the-variants.{Accepted}
 use Rattle.asmap_program.specs.Check.{unpacked}
 use Rattle.asmap_codes.specs.Instruction.{mapOf}
 use Rattle.asmap_check.specs.Check.{checkOf}
-use Rattle.asmap_walk.specs.Interpret.{walkOf}
+use Rattle.asmap_walk_bits.specs.Walk.{walkOf}
 
 -- The last instruction read is a RETURN, 0, whose operand is the number, where the kind is 1; it is a MATCH, 2, where the kind is 2.
 pub record EndsAt (read : List Instruction) (kind number : ℕ) : Type 0 where

@@ -7,7 +7,7 @@ use lib.Dec.{eqb}
 use lib.ListN.{length, getD}
 use Rattle.peer_lists.specs.Candidate.{family, address}
 use Rattle.asmap_program.specs.Walk.{Walked}
-use Rattle.asmap_walk.specs.Interpret.{walkOf}
+use Rattle.asmap_walk_bits.specs.Walk.{walkOf}
 use Rattle.netgroup.specs.declared.Grouping.{Grouping}
 use Rattle.netgroup.specs.declared.Grouping.the-variants.{Prefixes, Map}
 use Rattle.netgroup.specs.declared.Grouped.{Grouped}

@@ -15,7 +15,7 @@ use Rattle.asmap_program.specs.declared.Walker.{Walker}
 use Rattle.asmap_program.specs.Map.{Map, Fetched, Whole, CutOpcode, CutOperand, lengthOf, addressBit}
 use Rattle.asmap_program.specs.Walk.{Walked, Turn, Goes, Stops, Compared, Equal, Different, enough, meeting, compared, goOn, turnWhole, turnOn, walkFrom, walk}
 use Rattle.asmap_codes.specs.Instruction.{mapOf}
-use Rattle.asmap_walk.specs.Interpret.{walkOf}
+use Rattle.asmap_walk_bits.specs.Walk.{walkOf}
 use Rattle.asmap_records.proofs.Reading.{stands}
 use Rattle.peer_lists.specs.Candidate.{family, address}
 use Rattle.peer_lists.specs.Candidates.{cut, candidatesOf}

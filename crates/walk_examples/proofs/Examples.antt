@@ -11,7 +11,7 @@ use Rattle.asmap_codes.specs.Instruction.{fetchAt, mapOf}
 use Rattle.asmap_check.specs.Check.{checkOf}
 use Rattle.asmap_check.specs.Examples.{examples}
 use Rattle.asmap_check.proofs.Examples.{examples-hold}
-use Rattle.asmap_walk.specs.Interpret.{walkOf}
+use Rattle.asmap_walk_bits.specs.Walk.{walkOf}
 use Rattle.walk_examples.specs.Walks.{pairs, walks, computed, expected}
 
 all-walks : map computed walks ≡ map expected walks

@@ -5,8 +5,8 @@ use native.Mathlib.Omega.{arith}
 use Prim.Native.Nat.{ℕ}
 use lib.ListN.{length-take, length-drop}
 use Rattle.peer_lists.specs.Candidate.{address}
-use Rattle.asmap_walk.specs.declared.Ending.{Ending}
-use Rattle.asmap_walk.specs.Interpret.{summary}
+use Rattle.asmap_walk_bits.specs.declared.Ending.{Ending}
+use Rattle.asmap_walk_bits.specs.Walk.{summary}
 use Rattle.netgroup.specs.Group.{walkFor}
 use Rattle.netgroup.proofs.Walked.{walk-ends}
 use borrow.Author.Needs.{needs}

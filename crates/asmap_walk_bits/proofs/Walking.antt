@@ -24,8 +24,8 @@ use Rattle.asmap_codes.specs.Code.{codeAt}
 use Rattle.asmap_codes.specs.Instruction.{mapOf}
 use Rattle.asmap_codes.proofs.Inside.{value-at, long-operand, past-end}
 use Rattle.asmap_codes.proofs.MapLaws.{laws, fetch-cut, fetch-operand}
-use Rattle.asmap_walk.specs.Interpret.{walkOf, summary}
-use Rattle.asmap_walk.specs.declared.Ending.{Ending}
+use Rattle.asmap_walk_bits.specs.Walk.{walkOf, summary}
+use Rattle.asmap_walk_bits.specs.declared.Ending.{Ending}
 
 -- m: the map, a: the address, w: the number of its bits that the walk may use
 module _ (m a : List ℕ) (w : ℕ) where

@@ -12,9 +12,9 @@ use Rattle.asmap_codes.specs.Row.{typeRow, operandRow}
 use Rattle.asmap_codes.specs.Code.{codeAt}
 use Rattle.asmap_codes.proofs.Inside.{long-operand}
 use Rattle.asmap_row_decoder.proofs.WindowLaws.{row-window, window-holds}
-use Rattle.asmap_walk.proofs.Walking.{Walking, Taken, Comparing, walking-start, opcode-read, cut-opcode, cut-operand, read, returns-ends, jump-ends, jump-onward, jump-goes, jump-past, match-some, match-most, match-ends, match-differs, match-goes, default-goes, comparing-start, bit-left, equal-goes, different-ends, all-equal, comparing-from, front-goes}
-use Rattle.asmap_walk.proofs.walk_bits.Statement.{statement}
-use Rattle.asmap_walk.proofs.walk_bits.Tie as tie
+use Rattle.asmap_walk_bits.proofs.Walking.{Walking, Taken, Comparing, walking-start, opcode-read, cut-opcode, cut-operand, read, returns-ends, jump-ends, jump-onward, jump-goes, jump-past, match-some, match-most, match-ends, match-differs, match-goes, default-goes, comparing-start, bit-left, equal-goes, different-ends, all-equal, comparing-from, front-goes}
+use Rattle.asmap_walk_bits.proofs.walk_bits.Statement.{statement}
+use Rattle.asmap_walk_bits.proofs.walk_bits.Tie as tie
 
 abbrev Inv-loop : tie.InvT-loop
 Inv-loop map address width end walker₀ count pos w opcode at rest operand next length front left₀ walker left =
