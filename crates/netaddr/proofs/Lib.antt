@@ -1,3 +1,1 @@
-mod Begins
 mod Lengths
-mod Octets

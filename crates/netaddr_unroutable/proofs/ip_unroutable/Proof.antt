@@ -10,9 +10,9 @@ use lib.Dec.{eqb}
 use Rattle.netaddr_ranges.specs.Prefix.{byte, Range, within, ipv6}
 use Rattle.netaddr_ranges.specs.Unroutable.{unroutable4, unroutable16, held, decided}
 use Rattle.netaddr_ranges.proofs.Truth.{taken, passed}
-use Rattle.netaddr.proofs.Begins.{apart, ordinary-routable}
-use Rattle.netaddr.proofs.ip_unroutable.Statement.{statement}
-use Rattle.netaddr.proofs.ip_unroutable.Tie as tie
+use Rattle.netaddr_unroutable.proofs.Begins.{apart, ordinary-routable}
+use Rattle.netaddr_unroutable.proofs.ip_unroutable.Statement.{statement}
+use Rattle.netaddr_unroutable.proofs.ip_unroutable.Tie as tie
 
 abbrev mapped : Range
 mapped = ipv6 (0 ∷ 0 ∷ 0 ∷ 0 ∷ 0 ∷ 0xffff ∷ []) 96

@@ -10,8 +10,8 @@ use Rattle.netaddr_ranges.specs.Ranges.{scopeRows, specialRows, embeddedRows}
 use Rattle.netaddr_ranges.specs.Unroutable.{unroutable16, decided}
 use Rattle.netaddr_ranges.proofs.Order.{plain-then}
 use Rattle.netaddr_ranges.proofs.Truth.{taken, passed}
-use Rattle.netaddr.proofs.ipv6_unroutable.Statement.{statement}
-use Rattle.netaddr.proofs.ipv6_unroutable.Tie as tie
+use Rattle.netaddr_unroutable.proofs.ipv6_unroutable.Statement.{statement}
+use Rattle.netaddr_unroutable.proofs.ipv6_unroutable.Tie as tie
 
 groups-in-turn : (a : List ℕ) → decided (scopeRows ++ (specialRows ++ embeddedRows)) a ≡ (decided scopeRows a || decided specialRows a || decided embeddedRows a)
 groups-in-turn a =

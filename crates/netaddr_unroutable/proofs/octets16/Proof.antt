@@ -1,9 +1,9 @@
 -- The array is the slice's bytes, each at its place.
 -- Assumes nothing.
-use Rattle.netaddr.proofs.Octets.{all-bytes}
+use Rattle.netaddr_unroutable.proofs.Octets.{all-bytes}
 use borrow.Author.Needs.{needs}
-use Rattle.netaddr.proofs.octets16.Statement.{statement}
-use Rattle.netaddr.proofs.octets16.Tie as tie
+use Rattle.netaddr_unroutable.proofs.octets16.Statement.{statement}
+use Rattle.netaddr_unroutable.proofs.octets16.Tie as tie
 
 shared-slice-read-t3 : tie.Need-shared-slice-read-t3
 shared-slice-read-t3 c = search needs
