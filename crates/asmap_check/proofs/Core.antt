@@ -9,7 +9,7 @@ use Rattle.asmap_program.specs.Check.{accepted}
 use Rattle.asmap_program.proofs.Widths.{at-width}
 use Rattle.asmap_codes.proofs.CoreLaws.{verdict-of-bytes}
 use Rattle.asmap_check.specs.Check.{checkOf, checkAt, LikeCore, LikeCoreAt}
-use Rattle.asmap_check.proofs.Standing.{checked}
+use Rattle.asmap_check.proofs.Limit.{checked}
 
 pub like-core : (m : List ℕ) (w : ℕ) (r : Verdict) → r ≡ checkOf m w → LikeCore m w r
 like-core m w r e h = verdict-of-bytes m w ∙ ap accepted (checked m w h ∙ sym e)

@@ -1,7 +1,4 @@
-pub mod StateLaws
-pub mod ActLaws
-pub mod Standing
-pub mod Turn
+pub mod Limit
 pub mod Core
 pub mod Examples
 pub mod Reasons

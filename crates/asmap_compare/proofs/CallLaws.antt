@@ -18,7 +18,8 @@ use Rattle.asmap_program.specs.models.Pieces.{countPieces}
 use Rattle.asmap_codes.specs.Instruction.{mapOf}
 use Rattle.asmap_check.specs.Check.{checkOf}
 use Rattle.asmap_check.specs.declared.Counted.the-variants.{Pieces, Refused}
-use Rattle.asmap_check.specs.models.Counted.{countedAs, countedOf, most}
+use Rattle.asmap_check.specs.models.Counted.{countedAs, countedOf}
+use Rattle.asmap_check_run.specs.models.State.{most}
 use Rattle.asmap_check.proofs.Reasons.{Judged, map-judged}
 use Rattle.asmap_records.specs.Output.{Result, Made, No, refuse, within, leaves, Hands}
 use Rattle.asmap_records.proofs.RecordLaws.{sets-front}

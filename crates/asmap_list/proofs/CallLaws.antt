@@ -14,7 +14,7 @@ use Rattle.asmap_codes.proofs.MapLaws.{laws}
 use Rattle.asmap_check.specs.Check.{checkOf}
 use Rattle.asmap_check.specs.declared.Counted.the-variants.{Pieces, Refused}
 use Rattle.asmap_check.specs.models.Counted.{countedAs, countedOf}
-use Rattle.asmap_check.proofs.Standing.{accepted-within}
+use Rattle.asmap_check.proofs.Limit.{accepted-within}
 use Rattle.asmap_records.specs.Output.{Made, No}
 use Rattle.prefix_records.specs.Record.{recordsOf}
 use Rattle.prefix_records.proofs.TilingLaws.{tiles-all}

@@ -32,7 +32,7 @@ use Rattle.asmap_records.proofs.OutputLaws.{passed, made-same}
 use Rattle.asmap_records.proofs.PackLaws.{all-right, field-made, record-right, Split, records-split, pack-whole}
 use Rattle.asmap_bit_writer.proofs.InstructionBits.{bits-append, bits-instruction}
 use Rattle.asmap_records.proofs.Listing.{Listing, none, then, Stop, one-listing, accepted-lists}
-use Rattle.asmap_check.proofs.Standing.{accepted-within}
+use Rattle.asmap_check.proofs.Limit.{accepted-within}
 use Rattle.asmap_records.proofs.UnpackLaws.{unpack-as}
 use Rattle.asmap_records.proofs.Reading.{instruction, Stands, stands, fetched, padding}
 

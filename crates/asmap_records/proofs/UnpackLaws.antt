@@ -10,7 +10,7 @@ use Rattle.asmap_program.specs.Check.{check, unpacked}
 use Rattle.asmap_program.proofs.Depth.{carries}
 use Rattle.asmap_codes.specs.Instruction.{mapOf}
 use Rattle.asmap_check.specs.Check.{checkOf}
-use Rattle.asmap_check.proofs.Standing.{accepted-within}
+use Rattle.asmap_check.proofs.Limit.{accepted-within}
 use Rattle.asmap_records.specs.Record.{recordsOf}
 use Rattle.asmap_records.specs.Output.{Made}
 use Rattle.asmap_records.specs.Unpack.{unpackAs, unpackOf}

@@ -21,7 +21,7 @@ use Rattle.asmap_codes.specs.Instruction.{mapOf}
 use Rattle.asmap_codes.proofs.CoreLaws.{number-of-bytes}
 use Rattle.asmap_codes.proofs.MapLaws.{laws}
 use Rattle.asmap_check.specs.Check.{checkOf}
-use Rattle.asmap_check.proofs.Standing.{accepted-within}
+use Rattle.asmap_check.proofs.Limit.{accepted-within}
 use Rattle.asmap_walk_bits.specs.Walk.{walkOf, summary}
 use Rattle.asmap_walk.specs.Interpret.{interpretOver, interpretOf, interpretAt}
 use Rattle.asmap_walk.specs.Promise.{Kept, Demand3, Demand3At, CoreNumber, CoreNumberAt}

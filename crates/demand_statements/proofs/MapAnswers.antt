@@ -20,7 +20,7 @@ use Rattle.asmap_codes.specs.Instruction.{mapOf}
 use Rattle.asmap_codes.proofs.MapLaws.{laws, map-bits}
 use Rattle.asmap_check.specs.declared.Stopped.the-variants.{At}
 use Rattle.asmap_check.specs.Check.{unlessLong, checkOf, reasonOf, stopsUnlessLong, stoppedOf}
-use Rattle.asmap_check.proofs.Standing.{checked}
+use Rattle.asmap_check.proofs.Limit.{checked}
 use Rattle.asmap_walk_bits.specs.declared.Ending.{Ending}
 use Rattle.asmap_walk.specs.declared.Interpreted.{Interpreted}
 use Rattle.asmap_walk.specs.declared.Interpreted.the-variants.{Ended}

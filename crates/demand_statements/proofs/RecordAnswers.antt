@@ -10,7 +10,7 @@ use lib.Seq.{getD-take, getD-drop}
 use Rattle.asmap_program.specs.declared.Instruction.{Instruction}
 use Rattle.asmap_program.specs.Check.{unpacked}
 use Rattle.asmap_codes.specs.Instruction.{mapOf}
-use Rattle.asmap_check.proofs.Standing.{accepted-within}
+use Rattle.asmap_check.proofs.Limit.{accepted-within}
 use Rattle.asmap_walk.specs.Interpret.{interpretOver}
 use Rattle.asmap_records.specs.Record.{recordOf, recordsOf}
 use Rattle.asmap_records.specs.Unpack.{unpackOf}

@@ -18,7 +18,7 @@ use Rattle.asmap_records.specs.Record.{recordsOf}
 use Rattle.asmap_records.specs.Output.{Result, Made, No, refuse, on, within, leaves, answerOf}
 use Rattle.asmap_records.specs.Unpack.{unpackAs, unpackOf}
 use Rattle.asmap_records.specs.Pack.{packOf}
-use Rattle.asmap_check.proofs.Standing.{accepted-within}
+use Rattle.asmap_check.proofs.Limit.{accepted-within}
 use Rattle.byte_numbers.proofs.NumberLaws.{AllBytes}
 use Rattle.asmap_records.proofs.UnpackLaws.{unpack-length}
 use Rattle.asmap_records.proofs.OutputLaws.{made-same}

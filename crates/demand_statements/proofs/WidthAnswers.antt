@@ -10,7 +10,7 @@ use Rattle.asmap_program.specs.declared.Verdict.the-variants as verdict
 use Rattle.asmap_program.proofs.Widths.{a-width, narrow, whole-bytes}
 use Rattle.asmap_check.specs.declared.Stopped.the-variants as stopped
 use Rattle.asmap_check.specs.Check.{checkOf, checkAt, stoppedOf, stoppedAt}
-use Rattle.asmap_check.proofs.Standing.{accepted-at-more}
+use Rattle.asmap_check.proofs.Limit.{accepted-at-more}
 use Rattle.asmap_walk.specs.declared.Interpreted.the-variants as walk
 use Rattle.asmap_walk.specs.Interpret.{interpretOver, interpretAt}
 use Rattle.asmap_records.specs.Output.{Result, No}

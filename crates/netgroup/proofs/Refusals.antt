@@ -9,7 +9,7 @@ use lib.ListN.{length}
 use Rattle.asmap_program.specs.declared.Verdict.{Verdict}
 use Rattle.asmap_program.specs.declared.Verdict.the-variants.{Accepted, Refused}
 use Rattle.asmap_check.specs.Check.{checkOf}
-use Rattle.asmap_check.proofs.Standing.{accepted-within}
+use Rattle.asmap_check.proofs.Limit.{accepted-within}
 use Rattle.peer_lists.specs.declared.Refusal.the-variants.{None}
 use Rattle.peer_lists.proofs.Refusals.{number-not-none, none-more}
 use Rattle.netgroup.specs.declared.Grouping.{Grouping}

@@ -11,7 +11,7 @@ use lib.Seq.{sets}
 use Rattle.byte_numbers.specs.Numbers.{big8, bytes4}
 use Rattle.asmap_program.specs.Map.{limit}
 use Rattle.asmap_codes.specs.Instruction.{mapOf}
-use Rattle.asmap_check.specs.models.Counted.{most}
+use Rattle.asmap_check_run.specs.models.State.{most}
 use Rattle.prefix_records.specs.Tiling.{Piece, firstOf, pastOf, Tiles}
 use Rattle.prefix_records.specs.declared.Address.{Address}
 use Rattle.prefix_records.specs.models.Cursor.{valueOf, recordAt}

@@ -5,8 +5,8 @@ use native.Mathlib.Omega.{arith}
 use borrow.Author.Needs.{needs}
 use borrow.Author.Tests.{ltb-true, ltb-false}
 use Rattle.asmap_program.specs.Map.{limit}
-use Rattle.asmap_check.specs.declared.Judged.{Judged}
-use Rattle.asmap_check.proofs.Standing.{checked, checked-long}
+use Rattle.asmap_check_run.specs.declared.Judged.{Judged}
+use Rattle.asmap_check.proofs.Limit.{checked, checked-long}
 use Rattle.asmap_check.proofs.Core.{like-core}
 use Rattle.asmap_check.proofs.check_over.Statement.{statement}
 use Rattle.asmap_check.proofs.check_over.Tie as tie

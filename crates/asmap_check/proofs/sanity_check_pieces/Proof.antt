@@ -9,8 +9,9 @@ use Rattle.asmap_program.specs.Map.{limit}
 use Rattle.asmap_program.specs.declared.Verdict.{Verdict}
 use Rattle.asmap_program.specs.declared.Verdict.the-variants.{Accepted, Refused}
 use Rattle.asmap_check.specs.declared.Counted.{Counted}
-use Rattle.asmap_check.specs.models.Counted.{countedAs, most, Few}
-use Rattle.asmap_check.proofs.Standing.{counted-long, counted-at}
+use Rattle.asmap_check.specs.models.Counted.{countedAs, Few}
+use Rattle.asmap_check_run.specs.models.State.{most}
+use Rattle.asmap_check.proofs.Limit.{counted-long, counted-at}
 use Rattle.asmap_check.proofs.sanity_check_pieces.Statement.{statement}
 use Rattle.asmap_check.proofs.sanity_check_pieces.Tie as tie
 

@@ -7,7 +7,7 @@ use borrow.Author.Needs.{needs}
 use borrow.Author.Tests.{ltb-true, ltb-false}
 use Rattle.asmap_program.specs.Map.{limit}
 use Rattle.asmap_check.specs.declared.Stopped.the-variants.{At}
-use Rattle.asmap_check.proofs.Standing.{stopped-long, stopped-at}
+use Rattle.asmap_check.proofs.Limit.{stopped-long, stopped-at}
 use Rattle.asmap_check.proofs.stop_over.Statement.{statement}
 use Rattle.asmap_check.proofs.stop_over.Tie as tie
 

@@ -8,6 +8,7 @@ use Rattle.asmap_program.specs.declared.Verdict.the-variants as verdict
 use Rattle.asmap_program.specs.Check.{unpacked}
 use Rattle.asmap_program.specs.models.Pieces.{countPieces}
 use Rattle.asmap_codes.specs.Instruction.{mapOf}
+use Rattle.asmap_check_run.specs.models.State.{most}
 use Rattle.asmap_check.specs.Check.{checkOf}
 use Rattle.asmap_check.specs.declared.Counted.{Counted}
 use Rattle.asmap_check.specs.declared.Counted.the-variants.{Pieces, Refused}
@@ -20,10 +21,6 @@ countedAs n (verdict.Refused r) = Refused r
 -- the pieces of the instructions that the check over w address bits passes, where it accepts the map
 abbrev pub countedOf : List ℕ → ℕ → Counted
 countedOf m w = countedAs (countPieces (unpacked (mapOf m) w)) (checkOf m w)
-
--- no map has more pieces than so many: 128 for each bit of the longest, and the last one
-abbrev pub most : ℕ
-most = 17179869185
 
 -- pieces are few enough for their records' bytes to be counted
 abbrev pub Few : Counted → Type 0

@@ -10,7 +10,7 @@ use Rattle.asmap_check.specs.Check.{checkOf}
 use Rattle.asmap_records.specs.Record.{recordsOf}
 use Rattle.asmap_records.specs.Unpack.{unpackOf}
 use Rattle.asmap_records.proofs.OutputLaws.{hands-no, hands-short, hands-made}
-use Rattle.asmap_check.proofs.Standing.{accepted-within}
+use Rattle.asmap_check.proofs.Limit.{accepted-within}
 use Rattle.asmap_records.proofs.UnpackLaws.{unpack-as, unpack-length}
 use Rattle.asmap_unpack.proofs.unpack_over.Statement.{statement}
 use Rattle.asmap_unpack.proofs.unpack_over.Tie as tie

@@ -2,8 +2,8 @@
 -- Assumes nothing.
 use borrow.Author.Tests.{lt-ltb, le-ltb}
 use native.Mathlib.Omega.{arith}
-use Rattle.asmap_check.proofs.after_match.Statement.{statement}
-use Rattle.asmap_check.proofs.after_match.Tie as tie
+use Rattle.asmap_check_run.proofs.after_match.Statement.{statement}
+use Rattle.asmap_check_run.proofs.after_match.Tie as tie
 
 returns : tie.Need-returns
 returns c = rw (lt-ltb (c .before .args .n) 8 (omega arith))

@@ -5,8 +5,8 @@ use mathlib.Core.Path.{ap}
 use Prim.Native.Nat.{ℕ, _-_}
 use lib.ListN.{getD}
 use borrow.Author.Needs.{needs}
-use Rattle.asmap_check.proofs.innermost.Statement.{statement}
-use Rattle.asmap_check.proofs.innermost.Tie as tie
+use Rattle.asmap_check_run.proofs.innermost.Statement.{statement}
+use Rattle.asmap_check_run.proofs.innermost.Tie as tie
 
 element-copy-out-result : tie.Need-element-copy-out-result
 element-copy-out-result c = search needs

@@ -21,12 +21,12 @@ use Rattle.asmap_codes.specs.Row.{typeRow, operandRow}
 use Rattle.asmap_codes.specs.Code.{codeAt}
 use Rattle.asmap_codes.specs.Instruction.{withOperand, withOpcode, fetchAt, paddedFrom, mapOf}
 use Rattle.asmap_codes.proofs.Inside.{value-at, long-operand}
-use Rattle.asmap_check.specs.models.State.{opensOf, top}
+use Rattle.asmap_check_run.specs.models.State.{opensOf, top}
 use Rattle.asmap_check_act.specs.models.Act.{pastTop}
 use Rattle.asmap_check_act.specs.models.Act.{refusing, returned, kept, onOperand, onOpcode, acts}
 use Rattle.asmap_check_act.specs.declared.Act.{Act}
 use Rattle.asmap_check_act.specs.declared.Act.the-variants.{Opens, Closes, Uses, Keeps, Accepts, Refuses}
-use Rattle.asmap_check.proofs.StateLaws.{past-top}
+use Rattle.asmap_check_run.proofs.StateLaws.{past-top}
 
 -- the instruction at a place, by what was read of it; where a code is cut, no outcome names it
 abbrev instruction : ℕ → ℕ → Code → Instruction

@@ -8,8 +8,8 @@ use Rattle.asmap_program.specs.declared.Previous.{Previous}
 use Rattle.asmap_program.specs.Check.{Open, State, check, stopOf, unpacked}
 use Rattle.asmap_program.specs.models.Pieces.{countPieces}
 use Rattle.asmap_codes.specs.Instruction.{mapOf}
-use Rattle.asmap_check.specs.declared.CheckState.{CheckState}
-use Rattle.asmap_check.specs.declared.Judged.{Judged}
+use Rattle.asmap_check_run.specs.declared.CheckState.{CheckState}
+use Rattle.asmap_check_run.specs.declared.Judged.{Judged}
 
 -- both arrays have 128 places, as their types say
 abbrev pub Arrays : CheckState → Type 0
@@ -34,3 +34,7 @@ stateOf s at before count deepest = record { at = at; left = s .bits; before = b
 -- what the loop comes to over w address bits: the check's verdict, the place at which it stops, and the pieces of what it passes up to there
 abbrev pub judged : List ℕ → ℕ → Judged
 judged m w = record { verdict = check (mapOf m) w; place = stopOf (mapOf m) w; pieces = countPieces (unpacked (mapOf m) w) }
+
+-- no map has more pieces than so many: 128 for each bit of the longest, and the last one
+abbrev pub most : ℕ
+most = 17179869185

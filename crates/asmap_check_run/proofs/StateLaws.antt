@@ -8,7 +8,7 @@ use borrow.Author.Tests.{lt-ltb}
 use lib.ListN.{length, getD, set}
 use lib.Seq.{getD-set-same, getD-set-other}
 use Rattle.asmap_program.specs.Check.{past}
-use Rattle.asmap_check.specs.models.State.{opensOf, top}
+use Rattle.asmap_check_run.specs.models.State.{opensOf, top}
 use Rattle.asmap_check_act.specs.models.Act.{pastTop}
 
 pub length-opens : (ts ss : List ℕ) (d : ℕ) → length (opensOf ts ss d) ≡ d

@@ -3,11 +3,8 @@
 -- Assumes nothing.
 use Prim.Native.Nat.{ℕ, suc, _+_, _-_, _*_, _≤_, _<_}
 use mathlib.Core.Path.{_≡_, refl, sym, ap, subst, _∙_}
-use mathlib.Core.Bool.{Bool, true, false}
 use mathlib.Core.List.{List}
 use native.Mathlib.Omega.{arith}
-use borrow.Author.Tests.{lt-ltb, le-ltb, ltb-false}
-use lib.Dec.{ltb}
 use lib.ListN.{length}
 use Rattle.asmap_program.specs.declared.Instruction.{Instruction}
 use Rattle.asmap_program.specs.declared.Verdict.the-variants.{Accepted, Refused}
@@ -16,14 +13,8 @@ use Rattle.asmap_program.specs.models.Pieces.{piecesOf, countPieces}
 use Rattle.asmap_program.proofs.Tree.{View, view}
 use Rattle.asmap_program.proofs.Depth.{one-more, Room, Reached, begins, goes, room}
 use Rattle.asmap_program.proofs.Loop.{moved, result, result-step, result-start, stop, stop-step, stop-start, passing, passing-step, passing-start}
-use Rattle.asmap_program.proofs.Wider.{accepted-wider}
 use Rattle.asmap_codes.specs.Instruction.{mapOf}
-use Rattle.asmap_check.specs.declared.Judged.{Judged}
-use Rattle.asmap_check.specs.declared.Stopped.the-variants as stopped
-use Rattle.asmap_check.specs.Check.{unlessLong, checkOf, reasonOf, stoppedOf}
-use Rattle.asmap_check.specs.declared.Counted.the-variants as counted
-use Rattle.asmap_check.specs.models.State.{judged}
-use Rattle.asmap_check.specs.models.Counted.{countedAs, countedOf}
+use Rattle.asmap_check_run.specs.models.State.{judged}
 use Rattle.asmap_codes.proofs.MapLaws.{laws, map-bits}
 
 module _ (m : List ℕ) (w : ℕ) where
@@ -111,36 +102,3 @@ module _ (m : List ℕ) (w : ℕ) where
   -- open jumps and bits left are at most w
   pub standing-room : (s : State) → Standing s → Room w s
   standing-room s h = room (mapOf m) w (h .reached)
-
-  -- the limit comes first
-  pub checked-long : 16777216 < length m → Refused 1 ≡ checkOf m w
-  checked-long h = rw (lt-ltb 16777216 (length m) h)
-
-  pub checked : length m ≤ 16777216 → check (mapOf m) w ≡ checkOf m w
-  checked h = rw (le-ltb 16777216 (length m) h)
-
-  pub stopped-long : 16777216 < length m → stopped.Refused 1 ≡ stoppedOf m w
-  stopped-long h = rw (lt-ltb 16777216 (length m) h)
-
-  pub stopped-at : length m ≤ 16777216 → (j : Judged) → j ≡ judged m w → stopped.At (reasonOf (j .verdict)) (j .place) ≡ stoppedOf m w
-  stopped-at h j e = rw (e, le-ltb 16777216 (length m) h)
-
-  pub counted-long : 16777216 < length m → counted.Refused 1 ≡ countedOf m w
-  counted-long h = rw (lt-ltb 16777216 (length m) h)
-
-  pub counted-at : length m ≤ 16777216 → (j : Judged) → j ≡ judged m w → countedAs (j .pieces) (j .verdict) ≡ countedOf m w
-  counted-at h j e = rw (e, le-ltb 16777216 (length m) h)
-
-  -- an accepted map is within the limit
-  pub accepted-within : (c d : ℕ) → checkOf m w ≡ Accepted c d → (length m ≤ 16777216) × (check (mapOf m) w ≡ Accepted c d)
-  accepted-within c d e = go (ltb 16777216 (length m)) refl e
-    where
-      go : (b : Bool) → ltb 16777216 (length m) ≡ b → unlessLong b (check (mapOf m) w) ≡ Accepted c d → (length m ≤ 16777216) × (check (mapOf m) w ≡ Accepted c d)
-      go true h q = let z : _≡_ {A = ℕ} 0 1 = cc in absurd (omega arith)
-      go false h q = (ltb-false 16777216 (length m) h, q)
-
--- what is accepted at a width is accepted at every greater one, alike
-pub accepted-at-more : (m : List ℕ) (w v c d : ℕ) → w ≤ v → checkOf m w ≡ Accepted c d → checkOf m v ≡ Accepted c d
-accepted-at-more m w v c d h e =
-    let s = accepted-within m w c d e in
-    sym (checked m v (s .0)) ∙ accepted-wider (mapOf m) w v c d h (s .1) .0

@@ -12,14 +12,14 @@ use Rattle.asmap_program.specs.declared.Verdict.the-variants.{Accepted, Refused
 use Rattle.asmap_program.specs.Check.{Open, State, afterMatch, Next, step}
 use Rattle.asmap_program.specs.models.Pieces.{piecesOf}
 use Rattle.asmap_codes.specs.Instruction.{mapOf}
-use Rattle.asmap_check.specs.declared.CheckState.{CheckState}
-use Rattle.asmap_check.specs.models.State.{opensOf, opens, top, stateOf, judged}
+use Rattle.asmap_check_run.specs.declared.CheckState.{CheckState}
+use Rattle.asmap_check_run.specs.models.State.{opensOf, opens, top, stateOf, judged}
 use Rattle.asmap_check_act.specs.models.Act.{acts}
 use Rattle.asmap_check_act.specs.declared.Act.{Act}
 use Rattle.asmap_check_act.specs.declared.Act.the-variants.{Opens, Closes, Uses, Keeps, Accepts, Refuses}
-use Rattle.asmap_check.proofs.StateLaws.{length-opens, opens-push, opens-pop}
-use Rattle.asmap_check.proofs.ActLaws.{here, closed, applied, act-is, end-is, Sure, sure, Tells, tells}
-use Rattle.asmap_check.proofs.Standing.{Standing, standing-on, Counting, counting-on, standing-done, standing-refused, onward, standing-room}
+use Rattle.asmap_check_run.proofs.StateLaws.{length-opens, opens-push, opens-pop}
+use Rattle.asmap_check_run.proofs.ActLaws.{here, closed, applied, act-is, end-is, Sure, sure, Tells, tells}
+use Rattle.asmap_check_run.proofs.Standing.{Standing, standing-on, Counting, counting-on, standing-done, standing-refused, onward, standing-room}
 
 same-state : {a b : State} → a .at ≡ b .at → a .left ≡ b .left → a .before ≡ b .before → a .opens ≡ b .opens → a .count ≡ b .count → a .deepest ≡ b .deepest → a ≡ b
 same-state p q r s t u = λ i. record { at = p i; left = q i; before = r i; opens = s i; count = t i; deepest = u i }

@@ -6,16 +6,16 @@ use mathlib.Core.Path.{_∙_, sym, ap}
 use Prim.Native.Nat.{ℕ, _+_, _-_, _*_, _≤_, _<_, max}
 use lib.ListN.{length, set}
 use Rattle.asmap_program.specs.declared.Previous.the-variants.{Other}
-use Rattle.asmap_check.specs.declared.CheckState.{CheckState}
-use Rattle.asmap_check.specs.declared.Judged.{Judged}
+use Rattle.asmap_check_run.specs.declared.CheckState.{CheckState}
+use Rattle.asmap_check_run.specs.declared.Judged.{Judged}
 use Rattle.asmap_check_act.specs.declared.Act.the-variants.{Opens, Closes, Uses}
-use Rattle.asmap_check.specs.models.State.{stateOf}
+use Rattle.asmap_check_run.specs.models.State.{stateOf}
 use Rattle.asmap_check_act.specs.models.Act.{acts}
-use Rattle.asmap_check.proofs.Standing.{Standing, standing-start, Counting, counting-start, count-few, pieces-few, standing-room}
-use Rattle.asmap_check.proofs.StateLaws.{length-opens}
-use Rattle.asmap_check.proofs.Turn.{Turn, Turned, turn-end, less, certain, room-opens, turn-opens, turn-closes, turn-uses, turn-keeps, turn-accepts, turn-refuses}
-use Rattle.asmap_check.proofs.run_check.Statement.{statement}
-use Rattle.asmap_check.proofs.run_check.Tie as tie
+use Rattle.asmap_check_run.proofs.Standing.{Standing, standing-start, Counting, counting-start, count-few, pieces-few, standing-room}
+use Rattle.asmap_check_run.proofs.StateLaws.{length-opens}
+use Rattle.asmap_check_run.proofs.Turn.{Turn, Turned, turn-end, less, certain, room-opens, turn-opens, turn-closes, turn-uses, turn-keeps, turn-accepts, turn-refuses}
+use Rattle.asmap_check_run.proofs.run_check.Statement.{statement}
+use Rattle.asmap_check_run.proofs.run_check.Tie as tie
 
 abbrev Inv-loop : tie.InvT-loop
 Inv-loop map bits end state₀ pos₀ previous₀ count₀ deepest₀ pieces₀ state pos previous count deepest pieces =

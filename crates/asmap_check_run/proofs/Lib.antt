@@ -1,0 +1,4 @@
+pub mod StateLaws
+pub mod ActLaws
+pub mod Standing
+pub mod Turn
