@@ -1,3 +1,2 @@
 mod ByHand
 mod Held
-mod Places

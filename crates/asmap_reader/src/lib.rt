@@ -1,19 +1,14 @@
 // The bit reader (document 01, Forms): a small struct that borrows a map and carries the index of the bit that comes next. Each
-// function over it is proved by hand, so they are few and thin: they take the reader apart and leave the work to functions on
-// a plain slice and a number. A caller that holds no reader uses `read_at`.
+// function over it is proved by hand, so they are few and thin: they take the reader apart and leave the work to `asmap_items`, whose
+// functions take a plain slice and a number. A caller that holds no reader uses `read_at`.
 ghost use mathlib.Core.Path.{_≡_};
-ghost use Rattle.asmap_reader.specs.Reader.{readBit, readItem, placeAfter, bitsLeft, movedTo, readBy, stepAt};
+ghost use Rattle.asmap_items.specs.Items.{bitsLeft};
+ghost use Rattle.asmap_reader.specs.Reader.{movedTo, readBy, stepAt};
 use asmap_codes::Decoded;
-use asmap_program::MAX_MAP_BYTES;
-
-// What a reader can be asked for: one bit, or a code of one of the four rows.
-pub enum Item {
-    Bit,
-    Opcode,
-    Asn,
-    Match,
-    Jump,
-}
+use asmap_items::Item;
+use asmap_items::bits_left;
+use asmap_items::decode_item;
+use asmap_items::place_after;
 
 // A reader: the map, and the index of its next bit, which may lie past the map's end.
 pub struct BitReader<'a> {
@@ -32,60 +27,6 @@ pub struct Step {
     pub got: Decoded,
     pub place: usize,
     pub left: usize,
-}
-
-// ---- the work, on a slice and a number
-
-// Reads one bit (`consume_bit_le`). Refusals 1, and 4 at or past the map's end; nothing is asked of the caller.
-pub fn decode_bit(map: &[u8], at: usize) -> Decoded
-    ensures { λ r. ⌜ r ≡ readBit (now (map .entry)) at ⌝ }
-{
-    let bytes = map.len();
-    if MAX_MAP_BYTES < bytes {
-        return Decoded::Refused(1);
-    }
-    if 8 * bytes <= at {
-        return Decoded::Refused(4);
-    }
-    let bit = asmap_window::bit_at(map, at);
-    let next = at + 1;
-    Decoded::Found(bit, next)
-}
-
-// Reads what is asked for. Refusals 1 and 4; nothing is asked of the caller.
-pub fn decode_item(map: &[u8], at: usize, item: Item) -> Decoded
-    ensures { λ r. ⌜ r ≡ readItem (now (map .entry)) at item ⌝ }
-{
-    match item {
-        Item::Bit => decode_bit(map, at),
-        Item::Opcode => asmap_decode::decode_type(map, at),
-        Item::Asn => asmap_decode::decode_asn(map, at),
-        Item::Match => asmap_decode::decode_match(map, at),
-        Item::Jump => asmap_decode::decode_jump(map, at),
-    }
-}
-
-// The place after a read: the bit after what was read, or where the reader stood when it was refused.
-fn place_after(at: usize, got: Decoded) -> usize
-    ensures { λ r. ⌜ r ≡ placeAfter at got ⌝ }
-{
-    match got {
-        Decoded::Found(_, next) => next,
-        Decoded::Refused(_) => at,
-    }
-}
-
-// How many bits a reader at a place can still read: none of a map over the limit.
-fn bits_left(map: &[u8], at: usize) -> usize
-    ensures { λ r. ⌜ r ≡ bitsLeft (now (map .entry)) at ⌝ }
-{
-    if MAX_MAP_BYTES < map.len() {
-        return 0;
-    }
-    if 8 * map.len() <= at {
-        return 0;
-    }
-    8 * map.len() - at
 }
 
 // ---- the reader

@@ -2,8 +2,8 @@
 use asmap_codes::Decoded;
 use asmap_codes::DecodedInstruction;
 use asmap_encode::Written;
+use asmap_items::Item;
 use asmap_program::Instruction;
-use asmap_reader::Item;
 use replay_lines::outcome::Out;
 use replay_lines::outcome::Seen;
 use replay_lines::outcome::compared;

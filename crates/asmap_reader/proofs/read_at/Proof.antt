@@ -36,13 +36,14 @@ use denote.Triple.Statement.{Triple}
 use denote.Triple.Table.{cited}
 use Rattle.asmap_codes.proofs.Decoded as D
 use Rattle.asmap_codes.proofs.Decoded.Laws as D′
-use Rattle.asmap_reader.specs.Reader.{bitsLeft, movedTo, readBy, stepAt}
-use Rattle.asmap_reader.specs.declared.Item.{Item}
+use Rattle.asmap_items.specs.Items.{bitsLeft}
+use Rattle.asmap_reader.specs.Reader.{movedTo, readBy, stepAt}
+use Rattle.asmap_items.specs.declared.Item.{Item}
 use Rattle.asmap_reader.specs.declared.BitReader.{BitReader}
 use Rattle.asmap_reader.specs.declared.Read.{Read}
 use Rattle.asmap_reader.specs.declared.Step.{Step}
-use Rattle.asmap_reader.proofs.Item as I
-use Rattle.asmap_reader.proofs.Item.Laws as I′
+use Rattle.asmap_items.proofs.Item as I
+use Rattle.asmap_items.proofs.Item.Laws as I′
 use Rattle.asmap_reader.proofs.BitReader as T
 use Rattle.asmap_reader.proofs.BitReader.Laws as T′
 use Rattle.asmap_reader.proofs.Read as R

@@ -28,13 +28,13 @@ use denote.Triple.Entry.{alive, onEntry}
 use denote.Triple.Spec.{tripleOf}
 use denote.Triple.Statement.{Triple}
 use denote.Triple.Table.{cited}
-use Rattle.asmap_reader.specs.Reader.{bitsLeft}
+use Rattle.asmap_items.specs.Items.{bitsLeft}
 use Rattle.asmap_reader.specs.declared.BitReader.{BitReader}
 use Rattle.asmap_reader.proofs.ByHand.{Ends, leaves, asks, finish}
 use Rattle.asmap_reader.proofs.Held.{lft, Reader, bytes, machine, reader-vals, reader-tells, reader-typed, Map, map-of}
-use Rattle.asmap_reader.proofs.bits_left as bits-left
-use Rattle.asmap_reader.proofs.bits_left.Symbol as bits-left-def
-use Rattle.asmap_reader.proofs.bits_left.Met as bits-left-thm
+use Rattle.asmap_items.proofs.bits_left as bits-left
+use Rattle.asmap_items.proofs.bits_left.Symbol as bits-left-def
+use Rattle.asmap_items.proofs.bits_left.Met as bits-left-thm
 use Rattle.asmap_reader.proofs.BitReader.left.Key as key
 use Rattle.asmap_reader.proofs.BitReader.left as left
 use Rattle.asmap_reader.proofs.BitReader.left.Statement as stated
@@ -67,5 +67,5 @@ left-spec 𝓤 H 𝓜 𝓖 𝓡 =
     finish 𝓤 H 𝓜 𝓖 𝓡 left.ended (left.clauses 𝓤 H (𝓖 .A) (𝓜 .mem) (𝓡 .run)) ((λ κs x f. refl), tt) (λ κs. (reader-vals κs, tt)) (λ κs. (reader-tells κs, tt))
     code.env key.name code.function (code.unfolded 𝓤 H 𝓜 𝓡)
     (λ fm κs qs bounds a g are. followed 𝓤 H (𝓖 .A) (givenOf 𝓤 H 𝓜 𝓖) (𝓜 .mem) (𝓡 .run) (tables 𝓤 H 𝓜 𝓡 code.env .C) (tables 𝓤 H 𝓜 𝓡 code.env .Λ) fm
-    (cited 𝓤 H (tripleOf 𝓤 H (𝓖 .A) bits-left.signature (bits-left.spec 𝓤 H (𝓖 .A) (𝓜 .mem) (𝓡 .run))) 𝓜 𝓡 code.env bits-left-def.name bits-left-def.routine code.calls-asmap-reader·bits-left (bits-left-thm.met 𝓤 H 𝓜 𝓖 𝓡))
+    (cited 𝓤 H (tripleOf 𝓤 H (𝓖 .A) bits-left.signature (bits-left.spec 𝓤 H (𝓖 .A) (𝓜 .mem) (𝓡 .run))) 𝓜 𝓡 code.env bits-left-def.name bits-left-def.routine code.calls-asmap-items·bits-left (bits-left-thm.met 𝓤 H 𝓜 𝓖 𝓡))
     κs qs (a .0) (are .0))

@@ -38,22 +38,22 @@ use denote.Triple.Table.{cited}
 use Rattle.asmap_codes.specs.declared.Decoded.{Decoded}
 use Rattle.asmap_codes.proofs.Decoded as D
 use Rattle.asmap_codes.proofs.Decoded.Laws as D′
-use Rattle.asmap_reader.specs.Reader.{readItem, placeAfter}
-use Rattle.asmap_reader.specs.declared.Item.{Item}
+use Rattle.asmap_items.specs.Items.{readItem, placeAfter}
+use Rattle.asmap_items.specs.declared.Item.{Item}
 use Rattle.asmap_reader.specs.declared.BitReader.{BitReader}
-use Rattle.asmap_reader.proofs.Item as I
-use Rattle.asmap_reader.proofs.Item.Laws as I′
+use Rattle.asmap_items.proofs.Item as I
+use Rattle.asmap_items.proofs.Item.Laws as I′
 use Rattle.asmap_reader.proofs.BitReader.Laws as T′
 use Rattle.asmap_reader.proofs.Read as R
 use Rattle.asmap_reader.proofs.Read.Laws as R′
 use Rattle.asmap_reader.proofs.ByHand.{Ends, leaves, asks, finish}
 use Rattle.asmap_reader.proofs.Held.{lft, Reader, bytes, machine, reader-vals, reader-tells, reader-at, reader-typed, Map, map-of, reader-of}
-use Rattle.asmap_reader.proofs.decode_item as decode-item
-use Rattle.asmap_reader.proofs.decode_item.Symbol as decode-item-def
-use Rattle.asmap_reader.proofs.decode_item.Met as decode-item-thm
-use Rattle.asmap_reader.proofs.place_after as place-after
-use Rattle.asmap_reader.proofs.place_after.Symbol as place-after-def
-use Rattle.asmap_reader.proofs.place_after.Met as place-after-thm
+use Rattle.asmap_items.proofs.decode_item as decode-item
+use Rattle.asmap_items.proofs.decode_item.Symbol as decode-item-def
+use Rattle.asmap_items.proofs.decode_item.Met as decode-item-thm
+use Rattle.asmap_items.proofs.place_after as place-after
+use Rattle.asmap_items.proofs.place_after.Symbol as place-after-def
+use Rattle.asmap_items.proofs.place_after.Met as place-after-thm
 use Rattle.asmap_reader.proofs.BitReader.read.Key as key
 use Rattle.asmap_reader.proofs.BitReader.read as read
 use Rattle.asmap_reader.proofs.BitReader.read.Statement as stated
@@ -129,6 +129,6 @@ read-spec 𝓤 H 𝓜 𝓖 𝓡 =
     (λ κs. (reader-vals κs, (EL.vals I.the-type I′.the-laws, tt))) (λ κs. (reader-tells κs, (EL.tells I.the-type I′.the-laws, tt)))
     code.env key.name code.function (code.unfolded 𝓤 H 𝓜 𝓡)
     (λ fm κs qs bounds a g are. followed 𝓤 H (𝓖 .A) (givenOf 𝓤 H 𝓜 𝓖) (𝓜 .mem) (𝓡 .run) (tables 𝓤 H 𝓜 𝓡 code.env .C) (tables 𝓤 H 𝓜 𝓡 code.env .Λ) fm
-    (cited 𝓤 H (tripleOf 𝓤 H (𝓖 .A) decode-item.signature (decode-item.spec 𝓤 H (𝓖 .A) (𝓜 .mem) (𝓡 .run))) 𝓜 𝓡 code.env decode-item-def.name decode-item-def.routine code.calls-asmap-reader·decode-item (decode-item-thm.met 𝓤 H 𝓜 𝓖 𝓡))
-    (cited 𝓤 H (tripleOf 𝓤 H (𝓖 .A) place-after.signature (place-after.spec 𝓤 H (𝓖 .A) (𝓜 .mem) (𝓡 .run))) 𝓜 𝓡 code.env place-after-def.name place-after-def.routine code.calls-asmap-reader·place-after (place-after-thm.met 𝓤 H 𝓜 𝓖 𝓡))
+    (cited 𝓤 H (tripleOf 𝓤 H (𝓖 .A) decode-item.signature (decode-item.spec 𝓤 H (𝓖 .A) (𝓜 .mem) (𝓡 .run))) 𝓜 𝓡 code.env decode-item-def.name decode-item-def.routine code.calls-asmap-items·decode-item (decode-item-thm.met 𝓤 H 𝓜 𝓖 𝓡))
+    (cited 𝓤 H (tripleOf 𝓤 H (𝓖 .A) place-after.signature (place-after.spec 𝓤 H (𝓖 .A) (𝓜 .mem) (𝓡 .run))) 𝓜 𝓡 code.env place-after-def.name place-after-def.routine code.calls-asmap-items·place-after (place-after-thm.met 𝓤 H 𝓜 𝓖 𝓡))
     κs qs (a .0) (a .1 .0) (are .0) (are .1 .0))

@@ -2,9 +2,9 @@
 -- Assumes nothing.
 use mathlib.Core.Path.{_∙_, sym, ap}
 use borrow.Author.Needs.{needs}
-use Rattle.asmap_reader.specs.Reader.{readItem}
-use Rattle.asmap_reader.proofs.decode_item.Statement.{statement}
-use Rattle.asmap_reader.proofs.decode_item.Tie as tie
+use Rattle.asmap_items.specs.Items.{readItem}
+use Rattle.asmap_items.proofs.decode_item.Statement.{statement}
+use Rattle.asmap_items.proofs.decode_item.Tie as tie
 
 enum-told : tie.Need-enum-told
 enum-told c = search needs

@@ -3,9 +3,9 @@
 use mathlib.Core.Path.{sym}
 use native.Mathlib.Omega.{arith}
 use borrow.Author.Needs.{needs}
-use Rattle.asmap_reader.proofs.Places.{none-left-long, left-within}
-use Rattle.asmap_reader.proofs.bits_left.Statement.{statement}
-use Rattle.asmap_reader.proofs.bits_left.Tie as tie
+use Rattle.asmap_items.proofs.Places.{none-left-long, left-within}
+use Rattle.asmap_items.proofs.bits_left.Statement.{statement}
+use Rattle.asmap_items.proofs.bits_left.Tie as tie
 
 returns : tie.Need-returns
 returns c = sym (none-left-long (c .before .args .map .now) (c .before .args .at) (c .if1 .taken))

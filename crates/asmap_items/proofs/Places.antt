@@ -7,7 +7,7 @@ use borrow.Author.Tests.{lt-ltb, le-ltb}
 use lib.ListN.{length, getD}
 use Rattle.asmap_codes.specs.Bits.{mapBits}
 use Rattle.asmap_codes.specs.declared.Decoded.the-variants.{Found, Refused}
-use Rattle.asmap_reader.specs.Reader.{bitsLeft, readBit}
+use Rattle.asmap_items.specs.Items.{bitsLeft, readBit}
 
 module _ (m : List ℕ) (at : ℕ) where
   pub none-left-long : 16777216 < length m → bitsLeft m at ≡ 0

@@ -5,9 +5,9 @@ use Prim.Native.Nat.{ℕ, _+_}
 use native.Mathlib.Omega.{arith}
 use borrow.Author.Needs.{needs}
 use Rattle.asmap_codes.specs.declared.Decoded.the-variants.{Found}
-use Rattle.asmap_reader.proofs.Places.{bit-long, bit-past, bit-there}
-use Rattle.asmap_reader.proofs.decode_bit.Statement.{statement}
-use Rattle.asmap_reader.proofs.decode_bit.Tie as tie
+use Rattle.asmap_items.proofs.Places.{bit-long, bit-past, bit-there}
+use Rattle.asmap_items.proofs.decode_bit.Statement.{statement}
+use Rattle.asmap_items.proofs.decode_bit.Tie as tie
 
 returns : tie.Need-returns
 returns c = let a = c .before .before .args in sym (bit-long (a .map .now) (a .at) (c .if1 .taken))
