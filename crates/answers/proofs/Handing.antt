@@ -6,7 +6,7 @@ use mathlib.Core.Path.{_≡_, _∙_, ap}
 use mathlib.Core.List.{List, _∷_}
 use native.Mathlib.Omega.{arith}
 use Rattle.asmap_program.specs.Widths.{isWidth, atWidth}
-use Rattle.answers.specs.Outcome.{Outcome, Done, No, handed, IsDone, Hands}
+use Rattle.answer_outcome.specs.Outcome.{Outcome, Done, No, handed, IsDone, Hands}
 
 -- a refusal has a number from 1 on
 unfoldable pub Counted : Outcome → Type 0

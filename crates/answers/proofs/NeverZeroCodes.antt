@@ -16,7 +16,7 @@ use Rattle.asmap_codes.specs.Instruction.{answeredWhole, fetchAt, readInstructi
 use Rattle.asmap_encode.specs.declared.Word.{Word}
 use Rattle.asmap_encode.specs.declared.Written.the-variants.{Bits, Refused}
 use Rattle.asmap_encode.specs.Write.{puts, none, pickWritten, writeCode, writeInstruction}
-use Rattle.answers.specs.Codes.{codeRead, instructionRead, bitsWritten}
+use Rattle.answer_codes.specs.Codes.{codeRead, instructionRead, bitsWritten}
 use Rattle.answers.proofs.Handing.{Counted}
 
 counted-code : (p : Part) (long : Bool) (c : Code) → Counted (codeRead (answered p long c))

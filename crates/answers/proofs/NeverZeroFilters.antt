@@ -10,7 +10,7 @@ use Rattle.netaddr.specs.Answer.{unlessRefused}
 use Rattle.netaddr_ranges.specs.Unroutable.{unroutable16}
 use Rattle.netaddr.specs.Filter.{filterOf}
 use Rattle.netaddr.specs.Relay.{lengthFits, skips, relayOf}
-use Rattle.answers.specs.Filters.{said}
+use Rattle.answer_filters.specs.Filters.{said}
 use Rattle.answers.proofs.Handing.{Counted}
 
 counted-said : (wrong : Bool) (n : ℕ) (b : Bool) → 0 < n → Counted (said (unlessRefused wrong n b))

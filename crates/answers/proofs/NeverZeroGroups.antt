@@ -25,8 +25,9 @@ use Rattle.netgroup_pick.specs.PickRefusal.{roomRefusal, pickRefusal}
 use Rattle.netgroup_pick.specs.Pick.{pickUnless, pickCall, selectDiverse, selectUnchecked}
 use Rattle.asmap_records.specs.Output.{within, answerOf}
 use Rattle.spread_page.specs.Page.{pageUnless, pageCall, spreadPage, spreadUnchecked}
-use Rattle.answers.specs.Maps.{mapChecked, bytesWritten}
-use Rattle.answers.specs.Groups.{groupFound, scanMade, pickMade}
+use Rattle.answer_maps.specs.Maps.{mapChecked}
+use Rattle.answer_bytes.specs.Bytes.{bytesWritten}
+use Rattle.answer_groups.specs.Groups.{groupFound, scanMade, pickMade}
 use Rattle.answers.proofs.Handing.{Counted, Refuses, counted}
 use Rattle.answers.proofs.NeverZeroMaps.{map-numbers, Makes, bytes-numbers}
 

@@ -28,7 +28,8 @@ use Rattle.asmap_list.specs.List.{listAs, listOf, listAt, bytesOf, neededOf, ne
 use Rattle.prefix_changes.specs.Change.{Change}
 use Rattle.asmap_changes.specs.Changes.{changesOf}
 use Rattle.asmap_compare.specs.Compare.{Comparison, Told, Refuses as Named, comparedAs, comparison, comparisonAt, recordsMade, compareOf, compareAt, firstMade, neededWith}
-use Rattle.answers.specs.Maps.{mapChecked, checkStopped, walkMade, bytesWritten, bytesNeeded}
+use Rattle.answer_maps.specs.Maps.{mapChecked, checkStopped, walkMade}
+use Rattle.answer_bytes.specs.Bytes.{bytesWritten, bytesNeeded}
 use Rattle.answers.proofs.Handing.{Counted, Refuses, counted, counted-at}
 
 -- ---- the check. P: what is shown of its number

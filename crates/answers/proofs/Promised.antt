@@ -32,10 +32,11 @@ use Rattle.netgroup_pick.specs.declared.PickAnswer.{PickAnswer}
 use Rattle.netgroup_pick.specs.declared.PickAnswer.the-variants as pick
 use Rattle.netgroup_pick.specs.Pick.{Handed}
 use Rattle.netgroup_pick.specs.Pick as below
-use Rattle.answers.specs.Outcome.{handed, IsDone, Hands}
-use Rattle.answers.specs.Maps.{mapChecked, kindNumber, endNumbers, walkMade, bytesWritten}
-use Rattle.answers.specs.Codes.{codeRead}
-use Rattle.answers.specs.Groups.{groupFound, totalsOf, pickMade, Picks}
+use Rattle.answer_outcome.specs.Outcome.{handed, IsDone, Hands}
+use Rattle.answer_maps.specs.Maps.{mapChecked, kindNumber, endNumbers, walkMade}
+use Rattle.answer_bytes.specs.Bytes.{bytesWritten}
+use Rattle.answer_codes.specs.Codes.{codeRead}
+use Rattle.answer_groups.specs.Groups.{groupFound, totalsOf, pickMade, Picks}
 use Rattle.answers.specs.Promise.{Finished, Demand3, Demand3At, CoreVerdict, CoreVerdictAt, CoreNumber, CoreNumberAt, CoreCode}
 use Rattle.answers.proofs.Handing.{Counted, hands}
 

@@ -16,7 +16,7 @@ use Rattle.asmap_codes.specs.Core.{fileOf}
 use Rattle.asmap_check.specs.Check.{checkOf}
 use Rattle.asmap_walk_bits.specs.Walk.{walkOf, summary}
 use Rattle.asmap_walk.specs.Promise.{Kept}
-use Rattle.answers.specs.Maps.{endNumbers}
+use Rattle.answer_maps.specs.Maps.{endNumbers}
 
 -- The walk of the map m by w bits of the address a was made, and came to the end of the defined walk: at a RETURN, 1, or at a
 -- difference, 2; within so many instructions. The number 0 is only that of a difference before any DEFAULT was read. `kept` says the rest

@@ -4,13 +4,13 @@ ghost use Rattle.asmap_codes.specs.Row.{typeRow, asnRow, matchRow, jumpRow};
 ghost use Rattle.asmap_codes.specs.Code.{readCode};
 ghost use Rattle.asmap_codes.specs.Instruction.{readInstruction};
 ghost use Rattle.asmap_encode.specs.Write.{writeCode, writeInstruction};
-ghost use Rattle.answers.specs.Outcome.{Hands};
+ghost use Rattle.answer_outcome.specs.Outcome.{Hands};
 ghost use Rattle.asmap_codes.specs.Core.{fileOf};
-ghost use Rattle.answers.specs.Codes.{codeRead, instructionRead, bitsWritten};
+ghost use Rattle.answer_codes.specs.Codes.{codeRead, instructionRead, bitsWritten};
 ghost use Rattle.answers.specs.Promise.{CoreCode};
-use answers::codes::hand_bits;
-use answers::codes::hand_code;
-use answers::codes::hand_instruction;
+use answer_codes::hand_bits;
+use answer_codes::hand_code;
+use answer_codes::hand_instruction;
 
 // ---- reading at any bit of any map. `next` is the bit after what was read. Refusals 1, then 4.
 

@@ -2,10 +2,10 @@
 ghost use mathlib.Core.List.{_∷_, []};
 ghost use Rattle.netaddr.specs.Filter.{filterOf};
 ghost use Rattle.netaddr.specs.Relay.{relayOf};
-ghost use Rattle.answers.specs.Outcome.{Hands};
-ghost use Rattle.answers.specs.Filters.{said};
-use answers::filters::hand_filtered;
-use answers::filters::hand_relay;
+ghost use Rattle.answer_outcome.specs.Outcome.{Hands};
+ghost use Rattle.answer_filters.specs.Filters.{said};
+use answer_filters::hand_filtered;
+use answer_filters::hand_relay;
 
 // Whether an address of 16 bytes, IPv4 in its mapped form, is unroutable. Refusal 11.
 #[no_mangle]

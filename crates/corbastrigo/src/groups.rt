@@ -9,12 +9,12 @@ ghost use Rattle.netgroup.specs.Netgroup.{prefixGroupCall, netgroupOf, netgroup
 ghost use Rattle.netgroup.specs.Refusal.{checkRefusal};
 ghost use Rattle.netgroup_pick.specs.Pick.{selectDiverse, selectUnchecked};
 ghost use Rattle.netgroup_pick.specs.Demand.{Demand3, Unaborted};
-ghost use Rattle.answers.specs.Outcome.{Hands};
-ghost use Rattle.answers.specs.Groups.{groupingOf, groupFound, scanMade, totalsOf, Picks};
-use answers::groups::grouping_of;
-use answers::groups::hand_group;
-use answers::groups::hand_pick;
-use answers::groups::hand_scan;
+ghost use Rattle.answer_outcome.specs.Outcome.{Hands};
+ghost use Rattle.answer_groups.specs.Groups.{groupingOf, groupFound, scanMade, totalsOf, Picks};
+use answer_groups::grouping_of;
+use answer_groups::hand_group;
+use answer_groups::hand_pick;
+use answer_groups::hand_scan;
 use netgroup::GroupAnswer;
 use netgroup_pick::PickAnswer;
 use peer_lists::Refusal;

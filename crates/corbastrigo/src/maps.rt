@@ -8,14 +8,15 @@ ghost use Rattle.asmap_list.specs.List.{listOf, neededOf};
 ghost use Rattle.asmap_list.specs.Promise.{Covers};
 ghost use Rattle.asmap_compare.specs.Compare.{comparison, compareOf};
 ghost use Rattle.asmap_compare.specs.Promise.{Compares};
-ghost use Rattle.answers.specs.Outcome.{Hands};
-ghost use Rattle.answers.specs.Maps.{mapChecked, checkStopped, walkMade, bytesNeeded, Writes, Finds};
+ghost use Rattle.answer_outcome.specs.Outcome.{Hands};
+ghost use Rattle.answer_maps.specs.Maps.{mapChecked, checkStopped, walkMade};
+ghost use Rattle.answer_bytes.specs.Bytes.{bytesNeeded, Writes, Finds};
 ghost use Rattle.answers.specs.Promise.{Demand3, CoreVerdict, CoreNumber};
-use answers::maps::hand_bytes;
-use answers::maps::hand_needed;
-use answers::maps::hand_stop;
-use answers::maps::hand_verdict;
-use answers::maps::hand_walk;
+use answer_bytes::hand_bytes;
+use answer_bytes::hand_needed;
+use answer_maps::hand_stop;
+use answer_maps::hand_verdict;
+use answer_maps::hand_walk;
 
 // Checks a map. 0 says that it is accepted, with its instructions counted and the most jumps open at once. Refusals 1 to 10.
 #[no_mangle]

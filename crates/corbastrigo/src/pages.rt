@@ -6,10 +6,10 @@ ghost use Rattle.netgroup.specs.Group.{numbering};
 ghost use Rattle.netgroup.specs.Refusal.{checkRefusal};
 ghost use Rattle.spread_page.specs.Page.{spreadPage, spreadUnchecked};
 ghost use Rattle.spread_page.specs.Promise.{Told, Unaborted};
-ghost use Rattle.answers.specs.Groups.{groupingOf};
-ghost use Rattle.answers.specs.Maps.{Writes};
-use answers::groups::grouping_of;
-use answers::maps::hand_bytes;
+ghost use Rattle.answer_groups.specs.Groups.{groupingOf};
+ghost use Rattle.answer_bytes.specs.Bytes.{Writes};
+use answer_bytes::hand_bytes;
+use answer_groups::grouping_of;
 use asmap_records::Answer;
 use peer_lists::Refusal;
 

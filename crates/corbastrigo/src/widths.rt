@@ -9,14 +9,15 @@ ghost use Rattle.asmap_list.specs.List.{listAt, neededAt};
 ghost use Rattle.asmap_list.specs.Promise.{Covers};
 ghost use Rattle.asmap_compare.specs.Compare.{comparisonAt, compareAt};
 ghost use Rattle.asmap_compare.specs.Promise.{Compares};
-ghost use Rattle.answers.specs.Outcome.{Hands};
-ghost use Rattle.answers.specs.Maps.{mapChecked, checkStopped, walkMade, bytesNeeded, Writes, Finds};
+ghost use Rattle.answer_outcome.specs.Outcome.{Hands};
+ghost use Rattle.answer_maps.specs.Maps.{mapChecked, checkStopped, walkMade};
+ghost use Rattle.answer_bytes.specs.Bytes.{bytesNeeded, Writes, Finds};
 ghost use Rattle.answers.specs.Promise.{Demand3At, CoreVerdictAt, CoreNumberAt};
-use answers::maps::hand_bytes;
-use answers::maps::hand_needed;
-use answers::maps::hand_stop;
-use answers::maps::hand_verdict;
-use answers::maps::hand_walk;
+use answer_bytes::hand_bytes;
+use answer_bytes::hand_needed;
+use answer_maps::hand_stop;
+use answer_maps::hand_verdict;
+use answer_maps::hand_walk;
 
 // Checks a map over the width's address bits. Refusals 18, then 1 to 10.
 #[no_mangle]

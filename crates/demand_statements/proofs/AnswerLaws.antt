@@ -6,8 +6,8 @@ use mathlib.Core.Logic.{_⊎_, inl, inr}
 use mathlib.Core.List.{List, [], _∷_}
 use Rattle.asmap_program.specs.declared.Verdict.{Verdict}
 use Rattle.asmap_program.specs.declared.Verdict.the-variants.{Accepted, Refused}
-use Rattle.answers.specs.Outcome.{Outcome, Done, No, handed, IsDone, Hands}
-use Rattle.answers.specs.Maps.{mapChecked}
+use Rattle.answer_outcome.specs.Outcome.{Outcome, Done, No, handed, IsDone, Hands}
+use Rattle.answer_maps.specs.Maps.{mapChecked}
 use Rattle.answers.proofs.Handing.{Refuses}
 
 -- ---- any call

@@ -23,8 +23,8 @@ use Rattle.asmap_codes.proofs.Inside.{cut-number}
 use Rattle.asmap_encode.specs.declared.Word.{Word}
 use Rattle.asmap_encode.specs.declared.Written.the-variants.{Bits, Refused}
 use Rattle.asmap_encode.specs.Write.{puts, none, pickWritten, writeCode, writeInstruction}
-use Rattle.answers.specs.Outcome.{Outcome, Done, No, Hands}
-use Rattle.answers.specs.Codes.{codeRead, instructionRead, bitsWritten}
+use Rattle.answer_outcome.specs.Outcome.{Outcome, Done, No, Hands}
+use Rattle.answer_codes.specs.Codes.{codeRead, instructionRead, bitsWritten}
 use Rattle.answers.specs.Promise.{CoreCode}
 use Rattle.demand_statements.specs.Same.{CoreReads}
 use Rattle.demand_statements.specs.AnyInput.{Reads, Writes, WritesInstruction, leastOperand, greatestOperand}

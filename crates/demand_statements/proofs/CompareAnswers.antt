@@ -22,8 +22,9 @@ use Rattle.asmap_compare.specs.Promise.{Compares}
 use Rattle.asmap_walk.specs.Interpret.{interpretOver}
 use Rattle.prefix_changes.proofs.RecordLaws.{length-changes}
 use Rattle.asmap_compare.proofs.CallLaws.{told, old-refused, new-refused, first-length}
-use Rattle.answers.specs.Outcome.{handed, IsDone, Hands}
-use Rattle.answers.specs.Maps.{walkMade, bytesWritten, bytesNeeded, Writes, Finds}
+use Rattle.answer_outcome.specs.Outcome.{handed, IsDone, Hands}
+use Rattle.answer_maps.specs.Maps.{walkMade}
+use Rattle.answer_bytes.specs.Bytes.{bytesWritten, bytesNeeded, Writes, Finds}
 use Rattle.answers.proofs.NeverZeroMaps.{map-numbers, compare-numbers, find-numbers}
 use Rattle.demand_statements.specs.AnyInput.{Changes, FindsFirst}
 use Rattle.demand_statements.specs.Agreed.{AgreedWalks}

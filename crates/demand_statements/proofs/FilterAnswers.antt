@@ -13,8 +13,8 @@ use Rattle.netaddr.specs.Answer.{unlessRefused}
 use Rattle.netaddr_ranges.specs.Unroutable.{unroutable16}
 use Rattle.netaddr.specs.Filter.{filterOf}
 use Rattle.netaddr.specs.Relay.{lengthFits, skips, relayOf}
-use Rattle.answers.specs.Outcome.{handed, IsDone, Hands}
-use Rattle.answers.specs.Filters.{said}
+use Rattle.answer_outcome.specs.Outcome.{handed, IsDone, Hands}
+use Rattle.answer_filters.specs.Filters.{said}
 use Rattle.demand_statements.specs.AnyInput.{Filters, Sized, Relays}
 
 -- what a filter says, by whether it was asked rightly: refused with k, or 0 or 1

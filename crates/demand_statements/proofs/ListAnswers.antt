@@ -30,8 +30,9 @@ use Rattle.asmap_listing.proofs.NumberLaws.{number-below}
 use Rattle.asmap_listing.proofs.AddressLaws.{number-wider}
 use Rattle.asmap_list.specs.List.{listAs, listOf, bytesOf, neededOf}
 use Rattle.asmap_list.specs.Promise.{Covers}
-use Rattle.answers.specs.Outcome.{handed, Hands}
-use Rattle.answers.specs.Maps.{walkMade, bytesNeeded, Writes}
+use Rattle.answer_outcome.specs.Outcome.{handed, Hands}
+use Rattle.answer_maps.specs.Maps.{walkMade}
+use Rattle.answer_bytes.specs.Bytes.{bytesNeeded, Writes}
 use Rattle.answers.specs.Promise.{Finished}
 use Rattle.answers.proofs.NeverZeroMaps.{map-numbers, list-numbers, length-numbers}
 use Rattle.demand_statements.specs.AnyInput.{Lists, Needs}

@@ -31,8 +31,9 @@ use Rattle.asmap_records.specs.Output.{Result, No, refuse, within, answerOf}
 use Rattle.asmap_records.specs.Unpack.{unpackOf}
 use Rattle.asmap_records.specs.Pack.{packBits, packOf}
 use Rattle.asmap_records.proofs.OutputLaws.{made-same}
-use Rattle.answers.specs.Outcome.{handed, IsDone, Hands}
-use Rattle.answers.specs.Maps.{mapChecked, checkStopped, kindNumber, endNumbers, walkMade, bytesWritten, Writes}
+use Rattle.answer_outcome.specs.Outcome.{handed, IsDone, Hands}
+use Rattle.answer_maps.specs.Maps.{mapChecked, checkStopped, kindNumber, endNumbers, walkMade}
+use Rattle.answer_bytes.specs.Bytes.{bytesWritten, Writes}
 use Rattle.answers.proofs.Handing.{Refuses}
 use Rattle.answers.proofs.NeverZeroMaps.{check-numbers, map-numbers, unpack-numbers, pack-numbers}
 use Rattle.demand_statements.specs.AnyInput.{Checks, Stops, Told, Walks, Unpacks, Packs}

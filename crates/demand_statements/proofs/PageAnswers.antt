@@ -31,9 +31,10 @@ use Rattle.page_lines.proofs.LineLaws.{length-lines}
 use Rattle.spread_page.specs.Page.{pageUnless, pageCall, spreadPage, spreadUnchecked}
 use Rattle.spread_page.specs.Promise.{Told, Unaborted}
 use Rattle.spread_page.proofs.PageLaws.{page-made}
-use Rattle.answers.specs.Outcome.{handed, Hands}
-use Rattle.answers.specs.Maps.{mapChecked, bytesWritten, Writes}
-use Rattle.answers.specs.Groups.{groupingOf}
+use Rattle.answer_outcome.specs.Outcome.{handed, Hands}
+use Rattle.answer_maps.specs.Maps.{mapChecked}
+use Rattle.answer_bytes.specs.Bytes.{bytesWritten, Writes}
+use Rattle.answer_groups.specs.Groups.{groupingOf}
 use Rattle.answers.proofs.NeverZeroGroups.{page-numbers, by-limit}
 use Rattle.demand_statements.specs.Picked.{each, walkAt, prefixAt, Ends}
 use Rattle.demand_statements.specs.Printed.{Printed, PrintedByMap, Paged}

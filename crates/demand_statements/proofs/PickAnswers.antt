@@ -24,10 +24,10 @@ use Rattle.netgroup_pick.specs.PickRefusal.{roomRefusal, pickRefusal}
 use Rattle.netgroup_pick.specs.declared.PickAnswer.the-variants as pick
 use Rattle.netgroup_pick.specs.Demand.{Demand3, Unaborted}
 use Rattle.netgroup_pick.specs.Pick.{pickUnless, selectDiverse, selectUnchecked}
-use Rattle.answers.specs.Outcome.{handed, IsDone, Hands}
-use Rattle.answers.specs.Maps.{mapChecked}
-use Rattle.answers.specs.Groups.{groupingOf, groupFound, totalsOf, pickMade}
-use Rattle.answers.specs.Groups as call
+use Rattle.answer_outcome.specs.Outcome.{handed, IsDone, Hands}
+use Rattle.answer_maps.specs.Maps.{mapChecked}
+use Rattle.answer_groups.specs.Groups.{groupingOf, groupFound, totalsOf, pickMade}
+use Rattle.answer_groups.specs.Groups as call
 use Rattle.answers.proofs.NeverZeroGroups.{From, by-check, by-limit, group-numbers, pick-numbers}
 use Rattle.demand_statements.specs.Picked.{prefixAt, Grouped, ByMap, Picked}
 use Rattle.demand_statements.specs.AnyInput.{Usable, Groups, LoadedGroups, Picks, LoadedPicks}

@@ -26,9 +26,9 @@ use Rattle.netgroup_pick.specs.PickRefusal.{pickRefusal}
 use Rattle.netgroup_pick.specs.Demand.{Demand3, Unaborted}
 use Rattle.peer_lists.proofs.Lists.{candidate-at, length-candidates}
 use Rattle.pick_passes.proofs.Lists.{length-groups}
-use Rattle.answers.specs.Outcome.{Hands}
-use Rattle.answers.specs.Maps.{mapChecked}
-use Rattle.answers.specs.Groups.{groupingOf, groupFound, totalsOf, Picks}
+use Rattle.answer_outcome.specs.Outcome.{Hands}
+use Rattle.answer_maps.specs.Maps.{mapChecked}
+use Rattle.answer_groups.specs.Groups.{groupingOf, groupFound, totalsOf, Picks}
 use Rattle.answers.proofs.Promised.{found, picked}
 use Rattle.demand_statements.specs.Picked.{walkAt, prefixAt, Ends, Grouped, Passed, ByMap, ByPrefixes, Picked}
 use Rattle.demand_statements.proofs.AnswerLaws.{accepted}

@@ -19,8 +19,9 @@ use Rattle.byte_numbers.proofs.NumberLaws.{number-of-bytes, number4-drop}
 use Rattle.asmap_records.proofs.OutputLaws.{made-same}
 use Rattle.asmap_records.proofs.Listing.{Listing, none, then, accepted-lists}
 use Rattle.asmap_records.proofs.Reading.{Stands, stands}
-use Rattle.answers.specs.Outcome.{Hands}
-use Rattle.answers.specs.Maps.{walkMade, Writes}
+use Rattle.answer_outcome.specs.Outcome.{Hands}
+use Rattle.answer_maps.specs.Maps.{walkMade}
+use Rattle.answer_bytes.specs.Bytes.{Writes}
 use Rattle.demand_statements.specs.Walked.{little, RecordAt, InRecords}
 use Rattle.demand_statements.proofs.TripLaws.{wrote, unpack-accepts, unpack-made}
 use Rattle.demand_statements.proofs.WalkLaws.{has-bits, Ends}

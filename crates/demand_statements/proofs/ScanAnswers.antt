@@ -10,8 +10,8 @@ use lib.ListN.{length, getD}
 use Rattle.peer_lists.specs.Scan.{inFront, scanOf}
 use Rattle.peer_lists.proofs.Scans.{front-most}
 use Rattle.peer_lists.proofs.ScanLaws.{scan-refused, scan-taken, scanned-hit, scanned-missed, front-at, front-before}
-use Rattle.answers.specs.Outcome.{handed, IsDone, Hands}
-use Rattle.answers.specs.Groups.{scanMade}
+use Rattle.answer_outcome.specs.Outcome.{handed, IsDone, Hands}
+use Rattle.answer_groups.specs.Groups.{scanMade}
 use Rattle.demand_statements.specs.AnyInput.{Scans}
 
 module _ (g : ℕ) (gs : List ℕ) {r found place read : ℕ} {entry : List ℕ} (h : Hands (scanMade (scanOf g gs)) r entry (found ∷ place ∷ read ∷ [])) where

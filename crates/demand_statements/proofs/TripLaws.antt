@@ -23,8 +23,8 @@ use Rattle.byte_numbers.proofs.NumberLaws.{AllBytes}
 use Rattle.asmap_records.proofs.UnpackLaws.{unpack-length}
 use Rattle.asmap_records.proofs.OutputLaws.{made-same}
 use Rattle.asmap_records.proofs.RoundTrip.{unpacked-then-packed, packed-then-unpacked}
-use Rattle.answers.specs.Outcome.{handed, IsDone, Hands}
-use Rattle.answers.specs.Maps.{bytesWritten, Writes}
+use Rattle.answer_outcome.specs.Outcome.{handed, IsDone, Hands}
+use Rattle.answer_bytes.specs.Bytes.{bytesWritten, Writes}
 use Rattle.demand_statements.proofs.AnswerLaws.{kept}
 use Rattle.demand_statements.specs.Same.{Again, UnpackedThenPacked}
 

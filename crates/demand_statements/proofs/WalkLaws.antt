@@ -21,8 +21,8 @@ use Rattle.asmap_check.specs.Check.{checkOf}
 use Rattle.asmap_walk.specs.declared.Interpreted.{Interpreted}
 use Rattle.asmap_walk_bits.specs.Walk.{walkOf}
 use Rattle.asmap_walk.specs.Interpret.{refusedIf, interpretOver}
-use Rattle.answers.specs.Outcome.{IsDone, Hands}
-use Rattle.answers.specs.Maps.{mapChecked, kindNumber, walkMade}
+use Rattle.answer_outcome.specs.Outcome.{IsDone, Hands}
+use Rattle.answer_maps.specs.Maps.{mapChecked, kindNumber, walkMade}
 use Rattle.answers.specs.Promise.{Finished, Demand3, CoreNumber}
 use Rattle.demand_statements.specs.Walked.{EndsAt, Walked, AcceptedWalk}
 use Rattle.demand_statements.proofs.AnswerLaws.{accepted, answered}

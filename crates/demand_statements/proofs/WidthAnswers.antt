@@ -21,8 +21,9 @@ use Rattle.asmap_list.specs.List.{listOf, listAt, bytesOf, neededOf, neededAt}
 use Rattle.asmap_list.specs.Promise.{Covers}
 use Rattle.asmap_compare.specs.Compare.{Refuses, comparison, comparisonAt, recordsMade, compareOf, compareAt}
 use Rattle.asmap_compare.specs.Promise.{Compares}
-use Rattle.answers.specs.Outcome.{Hands}
-use Rattle.answers.specs.Maps.{mapChecked, checkStopped, walkMade, bytesNeeded, Writes, Finds}
+use Rattle.answer_outcome.specs.Outcome.{Hands}
+use Rattle.answer_maps.specs.Maps.{mapChecked, checkStopped, walkMade}
+use Rattle.answer_bytes.specs.Bytes.{bytesNeeded, Writes, Finds}
 use Rattle.answers.specs.Promise.{Demand3At, CoreVerdictAt, CoreNumberAt}
 use Rattle.demand_statements.specs.AnyInput.{AtWidth, AlsoAt128, Checks, Stops, Walks, Unpacks, Lists, Needs, Changes, FindsFirst}
 use Rattle.demand_statements.specs.Walked.{InRecords}

@@ -12,8 +12,8 @@ use Rattle.asmap_program.proofs.Widths.{at-width, no-width, a-width, neither-wi
 use Rattle.asmap_records.specs.Output.{Result, within, leaves, answerOf}
 use Rattle.asmap_records.specs.Output as output
 use Rattle.asmap_compare.specs.Compare.{Comparison, Refuses, firstMade, neededWith}
-use Rattle.answers.specs.Outcome.{Outcome, No, Hands}
-use Rattle.answers.specs.Maps.{bytesWritten, bytesNeeded, Writes, Finds}
+use Rattle.answer_outcome.specs.Outcome.{Outcome, No, Hands}
+use Rattle.answer_bytes.specs.Bytes.{bytesWritten, bytesNeeded, Writes, Finds}
 use Rattle.demand_statements.specs.AnyInput.{AtWidth}
 use Rattle.demand_statements.proofs.AnswerLaws.{kept, refused-as}
 

@@ -1,6 +1,6 @@
 -- What the decoder answered is handed out.
 -- Assumes nothing.
-use Rattle.answers.specs.Codes.{instructionRead}
+use Rattle.answer_codes.specs.Codes.{instructionRead}
 use Rattle.answers.proofs.Handing.{hands}
 use Rattle.answers.proofs.NeverZeroCodes.{instruction-read}
 use borrow.Author.Needs.{needs}

@@ -1,6 +1,6 @@
 -- What the writer answered is handed out.
 -- Assumes nothing.
-use Rattle.answers.specs.Codes.{bitsWritten}
+use Rattle.answer_codes.specs.Codes.{bitsWritten}
 use Rattle.answers.proofs.Handing.{hands}
 use Rattle.answers.proofs.NeverZeroCodes.{instruction-written}
 use borrow.Author.Needs.{needs}

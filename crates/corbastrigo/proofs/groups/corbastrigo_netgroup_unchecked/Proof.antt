@@ -3,7 +3,7 @@
 use mathlib.Core.Path.{_∙_, subst}
 use Rattle.netgroup.specs.Group.{numbering}
 use Rattle.netgroup.specs.Netgroup.{netgroupUnchecked, Whole}
-use Rattle.answers.specs.Groups.{groupFound}
+use Rattle.answer_groups.specs.Groups.{groupFound}
 use Rattle.answers.proofs.Handing.{hands}
 use Rattle.answers.proofs.NeverZeroGroups.{unchecked-found}
 use Rattle.answers.proofs.Promised.{found}

@@ -1,6 +1,6 @@
 -- The group that was found is handed out.
 -- Assumes nothing.
-use Rattle.answers.specs.Groups.{groupFound}
+use Rattle.answer_groups.specs.Groups.{groupFound}
 use Rattle.answers.proofs.Handing.{hands}
 use Rattle.answers.proofs.NeverZeroGroups.{prefix-group-found}
 use borrow.Author.Needs.{needs}

@@ -1,6 +1,6 @@
 -- What the scan came to is handed out.
 -- Assumes nothing.
-use Rattle.answers.specs.Groups.{scanMade}
+use Rattle.answer_groups.specs.Groups.{scanMade}
 use Rattle.answers.proofs.Handing.{hands}
 use Rattle.answers.proofs.NeverZeroGroups.{scan-made}
 use borrow.Author.Needs.{needs}

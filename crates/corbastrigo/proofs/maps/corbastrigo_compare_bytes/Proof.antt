@@ -1,7 +1,7 @@
 -- What a comparison needs is handed out, and the first address that differs written; what is promised beside.
 -- Assumes nothing.
 use lib.ListN.{length}
-use Rattle.answers.specs.Maps.{bytesNeeded}
+use Rattle.answer_bytes.specs.Bytes.{bytesNeeded}
 use Rattle.answers.proofs.Handing.{hands}
 use Rattle.answers.proofs.NeverZeroMaps.{compare-needed}
 use borrow.Author.Needs.{needs}

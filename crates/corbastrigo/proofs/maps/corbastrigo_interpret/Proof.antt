@@ -1,6 +1,6 @@
 -- How the walk ended is handed out, and what is promised of it (`walk-finished`, `core-number`).
 -- Assumes nothing.
-use Rattle.answers.specs.Maps.{walkMade}
+use Rattle.answer_maps.specs.Maps.{walkMade}
 use Rattle.answers.proofs.Handing.{hands}
 use Rattle.answers.proofs.Promised.{walk-finished, core-number}
 use Rattle.answers.proofs.NeverZeroMaps.{walk-made}

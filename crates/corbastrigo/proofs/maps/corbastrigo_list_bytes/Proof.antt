@@ -1,6 +1,6 @@
 -- How long a listing is, is handed out.
 -- Assumes nothing.
-use Rattle.answers.specs.Maps.{bytesNeeded}
+use Rattle.answer_bytes.specs.Bytes.{bytesNeeded}
 use Rattle.answers.proofs.Handing.{hands}
 use Rattle.answers.proofs.NeverZeroMaps.{list-needed}
 use borrow.Author.Needs.{needs}

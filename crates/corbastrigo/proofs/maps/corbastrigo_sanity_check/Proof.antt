@@ -1,7 +1,7 @@
 -- The check's verdict is handed out, and it is Core's (`core-verdict`).
 -- Assumes nothing.
 use mathlib.Core.Path.{subst}
-use Rattle.answers.specs.Maps.{mapChecked}
+use Rattle.answer_maps.specs.Maps.{mapChecked}
 use Rattle.asmap_check.specs.Check.{checkOf, LikeCore}
 use Rattle.answers.proofs.Handing.{hands}
 use Rattle.answers.proofs.Promised.{core-verdict}

@@ -1,6 +1,6 @@
 -- Where the check stops is handed out.
 -- Assumes nothing.
-use Rattle.answers.specs.Maps.{checkStopped}
+use Rattle.answer_maps.specs.Maps.{checkStopped}
 use Rattle.answers.proofs.Handing.{hands}
 use Rattle.answers.proofs.NeverZeroMaps.{check-stopped}
 use borrow.Author.Needs.{needs}

@@ -1,7 +1,7 @@
 -- What unpack wrote, and how many bytes.
 -- Assumes nothing.
 use lib.ListN.{length}
-use Rattle.answers.specs.Maps.{bytesWritten}
+use Rattle.answer_bytes.specs.Bytes.{bytesWritten}
 use Rattle.answers.proofs.Handing.{hands}
 use Rattle.answers.proofs.NeverZeroMaps.{unpack-written}
 use borrow.Author.Needs.{needs}

@@ -2,7 +2,7 @@
 -- Assumes nothing.
 use borrow.Author.Needs.{needs}
 use lib.ListN.{length}
-use Rattle.answers.specs.Maps.{bytesNeeded}
+use Rattle.answer_bytes.specs.Bytes.{bytesNeeded}
 use Rattle.answers.proofs.Handing.{hands}
 use Rattle.answers.proofs.NeverZeroMaps.{compare-needed-at}
 use Rattle.corbastrigo.proofs.widths.corbastrigo_compare_bytes_bits.Statement.{statement}

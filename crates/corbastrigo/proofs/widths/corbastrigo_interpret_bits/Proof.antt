@@ -1,7 +1,7 @@
 -- How the walk at a width ended is handed out, and what is promised of it (`walk-finished-at`, `core-number-at`).
 -- Assumes nothing.
 use borrow.Author.Needs.{needs}
-use Rattle.answers.specs.Maps.{walkMade}
+use Rattle.answer_maps.specs.Maps.{walkMade}
 use Rattle.answers.proofs.Handing.{hands}
 use Rattle.answers.proofs.Promised.{walk-finished-at, core-number-at}
 use Rattle.answers.proofs.NeverZeroMaps.{walk-made-at}

@@ -1,7 +1,7 @@
 -- How long a listing at a width is, is handed out.
 -- Assumes nothing.
 use borrow.Author.Needs.{needs}
-use Rattle.answers.specs.Maps.{bytesNeeded}
+use Rattle.answer_bytes.specs.Bytes.{bytesNeeded}
 use Rattle.answers.proofs.Handing.{hands}
 use Rattle.answers.proofs.NeverZeroMaps.{list-needed-at}
 use Rattle.corbastrigo.proofs.widths.corbastrigo_list_bytes_bits.Statement.{statement}

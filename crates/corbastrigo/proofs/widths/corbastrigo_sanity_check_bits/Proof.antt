@@ -3,7 +3,7 @@
 use borrow.Author.Needs.{needs}
 use mathlib.Core.Path.{subst}
 use Rattle.asmap_check.specs.Check.{checkAt, LikeCoreAt}
-use Rattle.answers.specs.Maps.{mapChecked}
+use Rattle.answer_maps.specs.Maps.{mapChecked}
 use Rattle.answers.proofs.Handing.{hands}
 use Rattle.answers.proofs.Promised.{core-verdict-at}
 use Rattle.answers.proofs.NeverZeroMaps.{map-checked-at}

@@ -1,7 +1,7 @@
 -- Where the check at a width stops is handed out.
 -- Assumes nothing.
 use borrow.Author.Needs.{needs}
-use Rattle.answers.specs.Maps.{checkStopped}
+use Rattle.answer_maps.specs.Maps.{checkStopped}
 use Rattle.answers.proofs.Handing.{hands}
 use Rattle.answers.proofs.NeverZeroMaps.{check-stopped-at}
 use Rattle.corbastrigo.proofs.widths.corbastrigo_sanity_check_stop_bits.Statement.{statement}
