@@ -3,8 +3,8 @@
 use Prim.Native.Nat.{ℕ, zero, suc}
 use mathlib.Core.Path.{_≡_}
 use mathlib.Core.List.{List, _∷_, []}
-use Rattle.peer_lists.specs.declared.Scan.{Scan}
-use Rattle.peer_lists.specs.declared.Scan.the-variants as scan
+use Rattle.group_lists.specs.declared.Scan.{Scan}
+use Rattle.group_lists.specs.declared.Scan.the-variants as scan
 use Rattle.netgroup.specs.declared.Grouping.{Grouping}
 use Rattle.netgroup.specs.declared.Grouping.the-variants.{Prefixes, Map}
 use Rattle.netgroup.specs.declared.GroupAnswer.{GroupAnswer}

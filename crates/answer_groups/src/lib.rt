@@ -4,10 +4,10 @@ ghost use mathlib.Core.Path.{_≡_};
 ghost use mathlib.Core.List.{_∷_, []};
 ghost use Rattle.answer_outcome.specs.Outcome.{handed};
 ghost use Rattle.answer_groups.specs.Groups.{groupingOf, groupFound, scanMade, pickMade};
+use group_lists::Scan;
 use netgroup::GroupAnswer;
 use netgroup::Grouping;
 use netgroup_pick::PickAnswer;
-use peer_lists::Scan;
 
 // What numbers the groups.
 pub fn grouping_of(has_map: u8) -> Grouping

@@ -12,12 +12,12 @@ use Rattle.asmap_program.specs.Map.{limit}
 use Rattle.asmap_check.specs.Check.{checkOf}
 use Rattle.peer_lists.specs.declared.Refusal.{Refusal}
 use Rattle.peer_lists.specs.declared.Refusal.the-variants.{None, Number}
-use Rattle.peer_lists.specs.Candidate.{valid}
-use Rattle.peer_lists.specs.Groups.{has}
+use Rattle.candidate_bytes.specs.Candidate.{valid}
+use Rattle.group_lists.specs.Groups.{has}
 use Rattle.peer_lists.specs.Candidates.{candidatesOf, allValid}
 use Rattle.peer_lists.specs.Refusal.{refuseIf, orElse, candidateRefusal, tooMany, listRefusal}
-use Rattle.peer_lists.specs.declared.Scan.the-variants.{Hit, Missed}
-use Rattle.peer_lists.specs.Scan.{inFront, unless, scanned, scanOf}
+use Rattle.group_lists.specs.declared.Scan.the-variants.{Hit, Missed}
+use Rattle.group_lists.specs.Scan.{inFront, unless, scanned, scanOf}
 use Rattle.netgroup.specs.Group.{Numbering, byMap, byPrefixes}
 use Rattle.netgroup.specs.Refusal.{verdictRefusal, limitRefusal, checkRefusal}
 use Rattle.netgroup.specs.Netgroup.{groupUnless, groupCall, prefixGroupCall, netgroupOf, netgroupUnchecked}

@@ -3,7 +3,7 @@
 ghost use mathlib.Core.Path.{_≡_};
 ghost use mathlib.Core.List.{_∷_, []};
 ghost use Rattle.peer_lists.specs.Candidates.{candidatesOf};
-ghost use Rattle.peer_lists.specs.Scan.{scanOf};
+ghost use Rattle.group_lists.specs.Scan.{scanOf};
 ghost use Rattle.netgroup.specs.Group.{numbering};
 ghost use Rattle.netgroup.specs.Netgroup.{prefixGroupCall, netgroupOf, netgroupUnchecked, Whole};
 ghost use Rattle.netgroup.specs.Refusal.{checkRefusal};
@@ -74,7 +74,7 @@ pub extern "C" fn corbastrigo_scan_occupied(
     ensures { λ r. ⌜ Hands (scanMade (scanOf group (now (occupied .entry)))) r (now (found .entry) ∷ now (place .entry) ∷ now («groups_read» .entry) ∷ []) (now (found .exit) ∷ now (place .exit) ∷ now («groups_read» .exit) ∷ []) ⌝ }
 {
     hand_scan(
-        peer_lists::scan_occupied(group, occupied),
+        group_lists::scan_occupied(group, occupied),
         found,
         place,
         groups_read,

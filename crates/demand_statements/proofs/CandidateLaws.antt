@@ -11,7 +11,7 @@ use lib.Dec.{eqb, ltb}
 use lib.ListN.{length, take, drop, getD, length-drop}
 use lib.Seq.{length-take-le, take-take, drop-drop, getD-take, getD-drop}
 use Rattle.peer_lists.specs.declared.Refusal.the-variants.{None}
-use Rattle.peer_lists.specs.Candidate.{address, mappedFront, mapped, valid}
+use Rattle.candidate_bytes.specs.Candidate.{address, mappedFront, mapped, valid}
 use Rattle.peer_lists.specs.Refusal.{candidateRefusal}
 use Rattle.netgroup.specs.Group.{prefixGroup}
 use Rattle.peer_lists.specs.Candidates.{cut, candidatesOf, allValid}

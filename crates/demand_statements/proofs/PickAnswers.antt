@@ -12,7 +12,7 @@ use lib.ListN.{length}
 use Rattle.asmap_check.specs.Check.{checkOf}
 use Rattle.peer_lists.specs.declared.Refusal.{Refusal}
 use Rattle.peer_lists.specs.declared.Refusal.the-variants.{None, Number}
-use Rattle.peer_lists.specs.Candidate.{valid}
+use Rattle.candidate_bytes.specs.Candidate.{valid}
 use Rattle.netgroup.specs.Group.{Numbering, byMap, numbering}
 use Rattle.netgroup.specs.Refusal.{verdictRefusal, limitRefusal, checkRefusal}
 use Rattle.peer_lists.specs.Refusal.{orElse, refuseIf, candidateRefusal, listRefusal}

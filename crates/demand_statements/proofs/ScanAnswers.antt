@@ -7,9 +7,9 @@ use mathlib.Core.List.{List, [], _∷_}
 use native.Mathlib.Omega.{arith}
 use native.Mathlib.Decide.{ℕ-discrete}
 use lib.ListN.{length, getD}
-use Rattle.peer_lists.specs.Scan.{inFront, scanOf}
-use Rattle.peer_lists.proofs.Scans.{front-most}
-use Rattle.peer_lists.proofs.ScanLaws.{scan-refused, scan-taken, scanned-hit, scanned-missed, front-at, front-before}
+use Rattle.group_lists.specs.Scan.{inFront, scanOf}
+use Rattle.group_lists.proofs.Scans.{front-most}
+use Rattle.group_lists.proofs.ScanLaws.{scan-refused, scan-taken, scanned-hit, scanned-missed, front-at, front-before}
 use Rattle.answer_outcome.specs.Outcome.{handed, IsDone, Hands}
 use Rattle.answer_groups.specs.Groups.{scanMade}
 use Rattle.demand_statements.specs.AnyInput.{Scans}

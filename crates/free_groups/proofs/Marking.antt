@@ -11,8 +11,8 @@ use borrow.Author.Tests.{eq-eqb, ne-eqb}
 use lib.Dec.{eqb}
 use lib.ListN.{length, take, drop, getD, set, replicate, length-set, length-append, length-drop, length-replicate, take-append-drop, getD-replicate, List·getD-append}
 use lib.Seq.{take-suc, take-suc-set, take-take, take-append-le, take-append-add, take-append-seam, length-take-le, getD-take, getD-drop, getD-append-seam, getD-append-add, getD-set-same, getD-set-other}
-use Rattle.peer_lists.specs.Groups.{has}
-use Rattle.peer_lists.proofs.Scans.{has-append}
+use Rattle.group_lists.specs.Groups.{has}
+use Rattle.group_lists.proofs.Scans.{has-append}
 use Rattle.free_groups.specs.models.Marks.{Last, Put, Linked}
 
 -- ---- the last group with a mark

@@ -3,7 +3,7 @@
 use Prim.Native.Nat.{ℕ}
 use mathlib.Core.Bool.{Bool, not, _||_}
 use mathlib.Core.List.{List}
-use Rattle.peer_lists.specs.Groups.{has}
+use Rattle.group_lists.specs.Groups.{has}
 
 -- a group that no connected peer has and that was not taken
 abbrev pub free : List ℕ → List ℕ → ℕ → Bool

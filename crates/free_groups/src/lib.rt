@@ -8,11 +8,11 @@ ghost use mathlib.Core.Path.{_≡_};
 ghost use mathlib.Core.List.{_++_};
 ghost use Prim.Native.Nat.{_+_, _%_, _≤_, _<_};
 ghost use lib.ListN.{length, replicate, take, getD, set};
-ghost use Rattle.peer_lists.specs.Groups.{has};
+ghost use Rattle.group_lists.specs.Groups.{has};
 ghost use Rattle.free_groups.specs.Free.{free};
 ghost use Rattle.free_groups.specs.models.Marks.{Put, Linked};
-use peer_lists::Scan;
-use peer_lists::contains;
+use group_lists::Scan;
+use group_lists::contains;
 
 // So many links are followed at most; what is left is scanned. Marks shared by more groups are rare unless somebody chose the groups so,
 // and then a scan costs less than following the links: it reads groups one behind the other.
@@ -109,7 +109,7 @@ fn is_occupied(group: u64, occupied: &[u64]) -> bool
     requires { ⌜ length (now occupied) ≤ 4096 ⌝ }
     ensures { λ r. ⌜ r ≡ has group (now (occupied .entry)) ⌝ }
 {
-    match peer_lists::scan_occupied(group, occupied) {
+    match group_lists::scan_occupied(group, occupied) {
         Scan::Hit(_, _) => true,
         Scan::Missed(_) => false,
         Scan::Refused(_) => false,

@@ -6,7 +6,7 @@ use mathlib.Core.Bool.{true, false}
 use Prim.Native.Nat.{ℕ}
 use Rattle.peer_lists.specs.declared.Refusal.{Refusal}
 use Rattle.peer_lists.specs.declared.Refusal.the-variants.{None, Number}
-use Rattle.peer_lists.specs.Candidate.{valid}
+use Rattle.candidate_bytes.specs.Candidate.{valid}
 use Rattle.netgroup.specs.declared.GroupAnswer.the-variants.{Group, Refused}
 use Rattle.netgroup.specs.Group.{Numbering, groupOf}
 use Rattle.netgroup.specs.Refusal.{checkRefusal, limitRefusal}

@@ -7,7 +7,7 @@ use Prim.Native.Nat.{ℕ, _≤_}
 use borrow.Author.Tests.{eq-eqb, le-ltb}
 use lib.ListN.{length}
 use Rattle.peer_lists.specs.declared.Refusal.the-variants.{None}
-use Rattle.peer_lists.specs.Candidate.{address}
+use Rattle.candidate_bytes.specs.Candidate.{address}
 use Rattle.asmap_walk_bits.specs.Walk.{walkOf, summary}
 use Rattle.asmap_walk.specs.Interpret.{interpretOf}
 use Rattle.asmap_walk.specs.declared.Interpreted.the-variants.{Ended as Walks}

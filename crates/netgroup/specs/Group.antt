@@ -5,7 +5,7 @@ use mathlib.Core.Bool.{cond}
 use mathlib.Core.List.{List}
 use lib.Dec.{eqb}
 use lib.ListN.{length, getD}
-use Rattle.peer_lists.specs.Candidate.{family, address}
+use Rattle.candidate_bytes.specs.Candidate.{family, address}
 use Rattle.asmap_program.specs.Walk.{Walked}
 use Rattle.asmap_walk_bits.specs.Walk.{walkOf}
 use Rattle.netgroup.specs.declared.Grouping.{Grouping}

@@ -116,7 +116,7 @@ pub fn check_refusal(grouping: Grouping, map: &[u8]) -> Refusal
 pub fn prefix_group(candidate: &[u8]) -> GroupAnswer
     ensures { λ r. ⌜ r ≡ prefixGroupCall (now (candidate .entry)) ⌝ }
 {
-    if !peer_lists::is_candidate(candidate) {
+    if !candidate_bytes::is_candidate(candidate) {
         return GroupAnswer::Refused(13);
     }
     GroupAnswer::Group(prefix_number(candidate))
@@ -127,7 +127,7 @@ pub fn netgroup_unchecked(candidate: &[u8], grouping: Grouping, map: &[u8]) -> G
     ensures { λ r. ⌜ r ≡ netgroupUnchecked (numbering grouping (now (map .entry))) (now (candidate .entry)) ⌝ }
     ensures unaborted { λ r. ⌜ (checkRefusal (numbering grouping (now (map .entry))) ≡ Refusal.None → Whole (numbering grouping (now (map .entry))) (now (candidate .entry)) r) ⌝ }
 {
-    if !peer_lists::is_candidate(candidate) {
+    if !candidate_bytes::is_candidate(candidate) {
         return GroupAnswer::Refused(13);
     }
     let limited = limit_refusal(grouping, map);
@@ -143,7 +143,7 @@ pub fn netgroup(candidate: &[u8], grouping: Grouping, map: &[u8]) -> GroupAnswer
     ensures { λ r. ⌜ r ≡ netgroupOf (numbering grouping (now (map .entry))) (now (candidate .entry)) ⌝ }
     ensures unaborted { λ r. ⌜ Whole (numbering grouping (now (map .entry))) (now (candidate .entry)) r ⌝ }
 {
-    if !peer_lists::is_candidate(candidate) {
+    if !candidate_bytes::is_candidate(candidate) {
         return GroupAnswer::Refused(13);
     }
     let checked = check_refusal(grouping, map);

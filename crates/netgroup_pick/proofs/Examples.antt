@@ -3,7 +3,7 @@
 use Prim.Native.Nat.{ℕ}
 use mathlib.Core.Path.{_≡_, refl}
 use mathlib.Core.List.{List, [], _∷_, _++_}
-use Rattle.peer_lists.specs.Candidate.{mappedFront, mapped, valid}
+use Rattle.candidate_bytes.specs.Candidate.{mappedFront, mapped, valid}
 use Rattle.netgroup.specs.Group.{byPrefixes, prefixGroup}
 use Rattle.netgroup_pick.specs.declared.PickAnswer.the-variants.{Picked, Refused}
 use Rattle.pick_passes.specs.First.{firstPass}

@@ -8,7 +8,7 @@ use native.Mathlib.Omega.{arith}
 use native.Mathlib.Numerals.{add-one}
 use lib.ListN.{length, take, drop, getD, take-append-drop}
 use lib.Seq.{drop-cons, drop-drop}
-use Rattle.peer_lists.specs.Candidate.{valid}
+use Rattle.candidate_bytes.specs.Candidate.{valid}
 use Rattle.peer_lists.specs.Candidates.{cut, candidatesOf, allValid}
 
 -- the element at a place and those after it

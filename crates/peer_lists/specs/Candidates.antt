@@ -4,7 +4,7 @@ use Prim.Native.Nat.{ℕ, zero, suc, _/_}
 use mathlib.Core.Bool.{Bool, true, _&&_}
 use mathlib.Core.List.{List, [], _∷_}
 use lib.ListN.{length, take, drop}
-use Rattle.peer_lists.specs.Candidate.{valid}
+use Rattle.candidate_bytes.specs.Candidate.{valid}
 
 -- the first n candidates of a row of bytes
 abbrev pub cut : ℕ → List ℕ → List (List ℕ)

@@ -1,5 +1,2 @@
-pub mod Candidate
 pub mod Candidates
-pub mod Groups
 pub mod Refusal
-pub mod Scan

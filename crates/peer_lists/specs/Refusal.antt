@@ -8,7 +8,7 @@ use lib.Dec.{eqb, ltb}
 use lib.ListN.{length}
 use Rattle.peer_lists.specs.declared.Refusal.{Refusal}
 use Rattle.peer_lists.specs.declared.Refusal.the-variants.{None, Number}
-use Rattle.peer_lists.specs.Candidate.{valid}
+use Rattle.candidate_bytes.specs.Candidate.{valid}
 use Rattle.peer_lists.specs.Candidates.{candidatesOf, allValid}
 
 abbrev pub refuseIf : Bool → ℕ → Refusal

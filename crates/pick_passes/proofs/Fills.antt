@@ -9,7 +9,7 @@ use native.Mathlib.Decide.{ℕ-discrete}
 use borrow.Author.Tests.{eq-eqb, ne-eqb, lt-ltb, le-ltb}
 use lib.Dec.{ltb}
 use lib.ListN.{length, take, drop, getD, set, length-append, length-set}
-use Rattle.peer_lists.specs.Candidate.{same}
+use Rattle.candidate_bytes.specs.Candidate.{same}
 use Rattle.pick_passes.specs.Fill.{picked, pickUnequal, fillFrom, fill}
 use Rattle.pick_passes.specs.models.Places.{times, Places}
 use Rattle.peer_lists.proofs.Lists.{ahead, ended}

@@ -6,7 +6,7 @@ use mathlib.Core.Bool.{Bool, false, cond, _||_}
 use mathlib.Core.List.{List, [], _∷_, _++_}
 use lib.Dec.{ltb}
 use lib.ListN.{length, getD}
-use Rattle.peer_lists.specs.Candidate.{same}
+use Rattle.candidate_bytes.specs.Candidate.{same}
 
 -- whether a candidate equals one of those at these places
 abbrev pub picked : List (List ℕ) → List ℕ → List ℕ → Bool

@@ -28,7 +28,7 @@ fn is_picked(candidates: &[u8], i: usize, picks: &[u16]) -> bool
     let mut j: usize = 0;
     while j < picks.len() {
         let p = picks[j] as usize;
-        if peer_lists::same_bytes(candidate_at(candidates, p), candidate_at(candidates, i)) {
+        if candidate_bytes::same_bytes(candidate_at(candidates, p), candidate_at(candidates, i)) {
             return true;
         }
         j += 1;

@@ -5,7 +5,7 @@ use mathlib.Core.Bool.{Bool, true, false, cond}
 use mathlib.Core.List.{List}
 use lib.Dec.{ltb}
 use lib.ListN.{take, set, replicate}
-use Rattle.peer_lists.specs.Candidate.{same}
+use Rattle.candidate_bytes.specs.Candidate.{same}
 use Rattle.replay_lines.specs.declared.outcome.Seen.{Seen}
 use Rattle.replay_lines.specs.declared.outcome.Seen.the-variants.{Same, Differs}
 use Rattle.replay_lines.specs.declared.outcome.Out.{Out}

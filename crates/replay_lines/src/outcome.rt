@@ -95,7 +95,7 @@ pub fn compared(out: Out, answer: &[u8]) -> Seen
     if 40 < n {
         return Seen::Differs;
     }
-    seen_as(peer_lists::same_bytes(&bytes[0..n], answer))
+    seen_as(candidate_bytes::same_bytes(&bytes[0..n], answer))
 }
 
 // What a call left in an output, beside what came of its answer.

@@ -204,7 +204,7 @@ fn put_pieces(text: &[u8], bytes: &mut [u8], from: usize) -> WordEnd {
 
 // The bytes of a word, which is pieces, or `-` for none.
 fn put_word(text: &[u8], bytes: &mut [u8], from: usize) -> WordEnd {
-    if peer_lists::same_bytes(text, b"-") {
+    if candidate_bytes::same_bytes(text, b"-") {
         return WordEnd::At(from);
     }
     put_pieces(text, bytes, from)

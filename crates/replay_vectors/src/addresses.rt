@@ -18,7 +18,7 @@ pub fn mapped(bytes: &[u8], words: Words) -> Seen {
     }
     let got = asmap_address::ipv4_mapped(address[0], address[1], address[2], address[3]);
     let answer = word(bytes, words, 1);
-    if peer_lists::same_bytes(&got, answer) {
+    if candidate_bytes::same_bytes(&got, answer) {
         return Seen::Same;
     }
     Seen::Differs

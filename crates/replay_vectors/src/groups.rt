@@ -2,11 +2,11 @@
 ghost use mathlib.Core.Path.{_≡_};
 ghost use Prim.Native.Nat.{_≤_, _<_};
 ghost use lib.ListN.{length};
+use group_lists::Scan;
 use netgroup::GroupAnswer;
 use netgroup::Grouping;
 use netgroup_pick::PickAnswer;
 use netgroup_pick::Totals;
-use peer_lists::Scan;
 use replay_lines::outcome::Out;
 use replay_lines::outcome::Seen;
 use replay_lines::outcome::and_left;
@@ -95,7 +95,7 @@ pub fn scan(bytes: &[u8], words: Words) -> Seen {
     }
     let count = occupied.len() / 8;
     let groups = numbers(occupied);
-    let got = peer_lists::scan_occupied(wide(bytes, words, 0) as u64, &groups[0..count]);
+    let got = group_lists::scan_occupied(wide(bytes, words, 0) as u64, &groups[0..count]);
     compared(scanned(got), word(bytes, words, 2))
 }
 

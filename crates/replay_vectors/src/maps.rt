@@ -90,7 +90,10 @@ fn write_into(kind: usize, input: &[u8], out: &mut [u8]) -> Answer {
 fn compared_output(kind: usize, bytes: &[u8], words: Words, out: &mut [u8]) -> Seen {
     let got = write_into(kind, word(bytes, words, 0), out);
     let seen = compared(wrote(got), word(bytes, words, 1));
-    and_left(seen, peer_lists::same_bytes(out, word(bytes, words, 2)))
+    and_left(
+        seen,
+        candidate_bytes::same_bytes(out, word(bytes, words, 2)),
+    )
 }
 
 // The output is as long as the list's, which is what it holds at exit; at entry it holds ee in every byte.
@@ -129,7 +132,10 @@ fn told_of_two(kind: usize, old: &[u8], new: &[u8], out: &mut [u8]) -> Out {
 fn compared_two(kind: usize, bytes: &[u8], words: Words, out: &mut [u8]) -> Seen {
     let told = told_of_two(kind, word(bytes, words, 0), word(bytes, words, 1), out);
     let seen = compared(told, word(bytes, words, 2));
-    and_left(seen, peer_lists::same_bytes(out, word(bytes, words, 3)))
+    and_left(
+        seen,
+        candidate_bytes::same_bytes(out, word(bytes, words, 3)),
+    )
 }
 
 // As `written`, for the calls over two maps, whose output is the fourth word.

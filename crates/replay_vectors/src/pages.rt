@@ -26,7 +26,10 @@ fn compared_page(bytes: &[u8], words: Words, by: u8, checked: bool, out: &mut [u
         out,
     );
     let seen = compared(wrote(got), word(bytes, words, 3));
-    and_left(seen, peer_lists::same_bytes(out, word(bytes, words, 4)))
+    and_left(
+        seen,
+        candidate_bytes::same_bytes(out, word(bytes, words, 4)),
+    )
 }
 
 // The output is as long as the list's, which is what it holds at exit; at entry it holds ee in every byte.

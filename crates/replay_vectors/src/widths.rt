@@ -49,7 +49,10 @@ fn compared_output(kind: usize, bytes: &[u8], words: Words, out: &mut [u8]) -> S
     let width = value(bytes, words, 0);
     let got = write_into(kind, word(bytes, words, 1), width, out);
     let seen = compared(wrote(got), word(bytes, words, 2));
-    and_left(seen, peer_lists::same_bytes(out, word(bytes, words, 3)))
+    and_left(
+        seen,
+        candidate_bytes::same_bytes(out, word(bytes, words, 3)),
+    )
 }
 
 // A comparison is kind 20, and its bytes with the first address 21.
@@ -68,7 +71,10 @@ fn compared_two(kind: usize, bytes: &[u8], words: Words, out: &mut [u8]) -> Seen
     let new = word(bytes, words, 2);
     let told = told_of_two(kind, old, new, width, out);
     let seen = compared(told, word(bytes, words, 3));
-    and_left(seen, peer_lists::same_bytes(out, word(bytes, words, 4)))
+    and_left(
+        seen,
+        candidate_bytes::same_bytes(out, word(bytes, words, 4)),
+    )
 }
 
 // The output is the last word, which is what it holds at exit; at entry it holds ee in every byte.

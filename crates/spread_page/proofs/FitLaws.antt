@@ -17,7 +17,7 @@ use Rattle.asmap_program.specs.Walk.{Walked, Turn, Goes, Stops, Compared, Equal
 use Rattle.asmap_codes.specs.Instruction.{mapOf}
 use Rattle.asmap_walk_bits.specs.Walk.{walkOf}
 use Rattle.asmap_records.proofs.Reading.{stands}
-use Rattle.peer_lists.specs.Candidate.{family, address}
+use Rattle.candidate_bytes.specs.Candidate.{family, address}
 use Rattle.peer_lists.specs.Candidates.{cut, candidatesOf}
 use Rattle.netgroup.specs.Group.{Numbering, byMap, byPrefixes, groupOf, prefixGroup}
 use Rattle.pick_passes.specs.Ranked.{groupsOf}

@@ -5,8 +5,8 @@ use Prim.Native.Nat.{_-_}
 use native.Mathlib.Omega.{arith}
 use lib.ListN.{length, take}
 use lib.Seq.{length-take-le}
-use Rattle.peer_lists.specs.Groups.{has}
-use Rattle.peer_lists.proofs.Scans.{has-append}
+use Rattle.group_lists.specs.Groups.{has}
+use Rattle.group_lists.proofs.Scans.{has-append}
 use Rattle.free_groups.proofs.Marking.{first-occupied, first-taken}
 use borrow.Author.Needs.{needs}
 use Rattle.free_groups.proofs.is_among.Statement.{statement}

@@ -7,8 +7,8 @@ use mathlib.Core.List.{_++_}
 use Prim.Native.Nat.{ℕ, _-_, _%_}
 use native.Mathlib.Omega.{arith}
 use lib.ListN.{take, length-append}
-use Rattle.peer_lists.specs.Groups.{has}
-use Rattle.peer_lists.proofs.Scans.{has-append}
+use Rattle.group_lists.specs.Groups.{has}
+use Rattle.group_lists.proofs.Scans.{has-append}
 use Rattle.free_groups.proofs.Marking.{Following, has-at, follow-mark, follow-link}
 use Rattle.free_groups.proofs.is_free.Statement.{statement}
 use Rattle.free_groups.proofs.is_free.Tie as tie

@@ -1,7 +1,7 @@
 -- `is_occupied` is `has`: the scan of at most 4,096 groups is not refused, and what it says is so.
 -- Assumes nothing.
 use mathlib.Core.Path.{_∙_, sym}
-use Rattle.peer_lists.proofs.ScanLaws.{hit-has, missed-has, not-refused}
+use Rattle.group_lists.proofs.ScanLaws.{hit-has, missed-has, not-refused}
 use borrow.Author.Needs.{needs}
 use Rattle.free_groups.proofs.is_occupied.Statement.{statement}
 use Rattle.free_groups.proofs.is_occupied.Tie as tie

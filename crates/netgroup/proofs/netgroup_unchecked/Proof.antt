@@ -2,7 +2,7 @@
 -- Assumes nothing.
 use mathlib.Core.Path.{_∙_, sym, ap}
 use borrow.Author.Tests.{not-true, not-false}
-use Rattle.peer_lists.proofs.Valids.{valid-length}
+use Rattle.candidate_bytes.proofs.Valids.{valid-length}
 use Rattle.netgroup.specs.declared.GroupAnswer.the-variants.{Group}
 use Rattle.netgroup.specs.declared.Grouped.{Grouped}
 use Rattle.netgroup.specs.Group.{numbering}

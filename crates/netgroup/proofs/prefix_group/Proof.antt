@@ -3,7 +3,7 @@
 use mathlib.Core.Path.{_∙_, refl, sym, ap}
 use borrow.Author.Tests.{not-true, not-false}
 use Rattle.peer_lists.specs.declared.Refusal.the-variants.{None}
-use Rattle.peer_lists.proofs.Valids.{valid-length}
+use Rattle.candidate_bytes.proofs.Valids.{valid-length}
 use Rattle.netgroup.specs.declared.GroupAnswer.the-variants.{Group}
 use Rattle.netgroup.specs.Group.{byPrefixes}
 use Rattle.netgroup.proofs.Calls.{call-invalid, call-group}

@@ -4,7 +4,7 @@ use mathlib.Core.Path.{_≡_, _∙_, sym, ap}
 use native.Mathlib.Omega.{arith}
 use Prim.Native.Nat.{ℕ}
 use lib.ListN.{length-take, length-drop}
-use Rattle.peer_lists.specs.Candidate.{address}
+use Rattle.candidate_bytes.specs.Candidate.{address}
 use Rattle.asmap_walk_bits.specs.declared.Ending.{Ending}
 use Rattle.asmap_walk_bits.specs.Walk.{summary}
 use Rattle.netgroup.specs.Group.{walkFor}

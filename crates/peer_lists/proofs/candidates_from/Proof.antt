@@ -8,7 +8,7 @@ use mathlib.Core.List.{[]}
 use Prim.Native.Nat.{_-_, _/_, _≤_}
 use native.Mathlib.Omega.{arith}
 use lib.ListN.{length, drop, getD}
-use Rattle.peer_lists.specs.Candidate.{valid}
+use Rattle.candidate_bytes.specs.Candidate.{valid}
 use Rattle.peer_lists.specs.Candidates.{allValid, candidatesOf}
 use Rattle.peer_lists.proofs.Lists.{valid-on, valid-not, valid-done, length-candidates}
 use Rattle.peer_lists.proofs.candidates_from.Statement.{statement}

@@ -7,7 +7,7 @@ use mathlib.Core.List.{[]}
 use Prim.Native.Nat.{_+_}
 use native.Mathlib.Omega.{arith}
 use lib.ListN.{getD}
-use Rattle.peer_lists.specs.Candidate.{valid}
+use Rattle.candidate_bytes.specs.Candidate.{valid}
 use Rattle.peer_lists.specs.Candidates.{candidatesOf}
 use Rattle.peer_lists.proofs.Lists.{four, length-candidates}
 use borrow.Author.Needs.{needs}

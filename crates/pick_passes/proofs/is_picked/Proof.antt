@@ -9,7 +9,7 @@ use native.Mathlib.Omega.{arith}
 use lib.ListN.{length, drop, getD}
 use Rattle.pick_passes.proofs.Fills.{picked-here, picked-on, picked-done}
 use Rattle.pick_passes.proofs.Placing.{place-below}
-use Rattle.peer_lists.specs.Candidate.{same}
+use Rattle.candidate_bytes.specs.Candidate.{same}
 use Rattle.peer_lists.specs.Candidates.{candidatesOf}
 use Rattle.pick_passes.specs.Fill.{picked}
 use Rattle.pick_passes.proofs.is_picked.Statement.{statement}

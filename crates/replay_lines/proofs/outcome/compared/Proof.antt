@@ -6,7 +6,7 @@ use native.Mathlib.Omega.{arith}
 use mathlib.Core.Path.{_≡_, refl, _∙_, ap}
 use Prim.Native.Nat.{ℕ, _-_}
 use lib.ListN.{take}
-use Rattle.peer_lists.specs.Candidate.{same}
+use Rattle.candidate_bytes.specs.Candidate.{same}
 use Rattle.replay_lines.specs.Answers.{seenAs}
 use Rattle.replay_lines.proofs.outcome.compared.Statement.{statement}
 use Rattle.replay_lines.proofs.outcome.compared.Tie as tie

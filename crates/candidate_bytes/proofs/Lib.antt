@@ -1,0 +1,3 @@
+pub mod Sames
+pub mod SameNumbers
+pub mod Valids
