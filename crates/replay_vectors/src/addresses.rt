@@ -1,15 +1,15 @@
 // IPv4-mapped addresses, the filter and the relay of addresses.
 use netaddr::Filtered;
 use netaddr::Relay;
-use replay_lines::outcome::Out;
-use replay_lines::outcome::Seen;
-use replay_lines::outcome::compared;
-use replay_lines::outcome::done;
-use replay_lines::outcome::refused;
-use replay_lines::words::Words;
-use replay_lines::words::byte;
-use replay_lines::words::short;
-use replay_lines::words::word;
+use replay_outcomes::Out;
+use replay_outcomes::Seen;
+use replay_outcomes::compared;
+use replay_outcomes::done;
+use replay_outcomes::refused;
+use replay_words::Words;
+use replay_words::byte;
+use replay_words::short;
+use replay_words::word;
 
 pub fn mapped(bytes: &[u8], words: Words) -> Seen {
     let address = word(bytes, words, 0);

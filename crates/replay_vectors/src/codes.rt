@@ -4,16 +4,16 @@ use asmap_codes::DecodedInstruction;
 use asmap_encode::Written;
 use asmap_items::Item;
 use asmap_program::Instruction;
-use replay_lines::outcome::Out;
-use replay_lines::outcome::Seen;
-use replay_lines::outcome::compared;
-use replay_lines::outcome::done;
-use replay_lines::outcome::refused;
-use replay_lines::words::Words;
-use replay_lines::words::byte;
-use replay_lines::words::value;
-use replay_lines::words::wide;
-use replay_lines::words::word;
+use replay_outcomes::Out;
+use replay_outcomes::Seen;
+use replay_outcomes::compared;
+use replay_outcomes::done;
+use replay_outcomes::refused;
+use replay_words::Words;
+use replay_words::byte;
+use replay_words::value;
+use replay_words::wide;
+use replay_words::word;
 
 fn decoded(got: Decoded) -> Out {
     match got {

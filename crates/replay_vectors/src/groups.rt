@@ -7,18 +7,18 @@ use netgroup::GroupAnswer;
 use netgroup::Grouping;
 use netgroup_pick::PickAnswer;
 use netgroup_pick::Totals;
-use replay_lines::outcome::Out;
-use replay_lines::outcome::Seen;
-use replay_lines::outcome::and_left;
-use replay_lines::outcome::compared;
-use replay_lines::outcome::done;
-use replay_lines::outcome::refused;
-use replay_lines::words::Words;
-use replay_lines::words::byte;
-use replay_lines::words::lengthened;
-use replay_lines::words::number;
-use replay_lines::words::wide;
-use replay_lines::words::word;
+use replay_outcomes::Out;
+use replay_outcomes::Seen;
+use replay_outcomes::and_left;
+use replay_outcomes::compared;
+use replay_outcomes::done;
+use replay_outcomes::refused;
+use replay_words::Words;
+use replay_words::byte;
+use replay_words::lengthened;
+use replay_words::number;
+use replay_words::wide;
+use replay_words::word;
 
 // What groups go by: 0 without a map, 1 with one.
 pub fn grouping_of(n: u8) -> Grouping {

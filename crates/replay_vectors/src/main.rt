@@ -32,11 +32,11 @@ use crate::widths::walk_bits;
 use crate::widths::written_bits;
 use libc::STDIN_FILENO;
 use libc::STDOUT_FILENO;
-use replay_lines::outcome::Seen;
-use replay_lines::words::Words;
-use replay_lines::words::find;
-use replay_lines::words::read_words;
-use replay_lines::words::word;
+use replay_outcomes::Seen;
+use replay_text::read_words;
+use replay_words::Words;
+use replay_words::find;
+use replay_words::word;
 use std::num::wrapping_add_u64;
 
 mod addresses;

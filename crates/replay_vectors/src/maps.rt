@@ -6,14 +6,14 @@ use asmap_program::Verdict;
 use asmap_records::Answer;
 use asmap_walk::Interpreted;
 use asmap_walk_bits::Ending;
-use replay_lines::outcome::Out;
-use replay_lines::outcome::Seen;
-use replay_lines::outcome::and_left;
-use replay_lines::outcome::compared;
-use replay_lines::outcome::done;
-use replay_lines::outcome::refused;
-use replay_lines::words::Words;
-use replay_lines::words::word;
+use replay_outcomes::Out;
+use replay_outcomes::Seen;
+use replay_outcomes::and_left;
+use replay_outcomes::compared;
+use replay_outcomes::done;
+use replay_outcomes::refused;
+use replay_words::Words;
+use replay_words::word;
 
 // What a check came to.
 pub fn checked(verdict: Verdict) -> Out {

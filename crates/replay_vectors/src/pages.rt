@@ -2,12 +2,12 @@
 use crate::groups::grouping_of;
 use crate::maps::wrote;
 use asmap_records::Answer;
-use replay_lines::outcome::Seen;
-use replay_lines::outcome::and_left;
-use replay_lines::outcome::compared;
-use replay_lines::words::Words;
-use replay_lines::words::byte;
-use replay_lines::words::word;
+use replay_outcomes::Seen;
+use replay_outcomes::and_left;
+use replay_outcomes::compared;
+use replay_words::Words;
+use replay_words::byte;
+use replay_words::word;
 
 // By a map that is checked, or is not.
 fn page_by(list: &[u8], by: u8, map: &[u8], checked: bool, out: &mut [u8]) -> Answer {

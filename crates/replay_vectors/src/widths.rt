@@ -5,13 +5,13 @@ use crate::maps::stopped_at;
 use crate::maps::walked;
 use crate::maps::wrote;
 use asmap_records::Answer;
-use replay_lines::outcome::Out;
-use replay_lines::outcome::Seen;
-use replay_lines::outcome::and_left;
-use replay_lines::outcome::compared;
-use replay_lines::words::Words;
-use replay_lines::words::value;
-use replay_lines::words::word;
+use replay_outcomes::Out;
+use replay_outcomes::Seen;
+use replay_outcomes::and_left;
+use replay_outcomes::compared;
+use replay_words::Words;
+use replay_words::value;
+use replay_words::word;
 
 pub fn check_bits(bytes: &[u8], words: Words) -> Seen {
     let width = value(bytes, words, 0);
