@@ -1,4 +1,5 @@
-// Codes and instructions, read and written, and the bit reader.
+// The lines of a list of answers that are calls on codes and instructions, read and written, and on the bit reader: each call is made again
+// with the words of its line, and its answer compared with the list's.
 use asmap_codes::Decoded;
 use asmap_codes::DecodedInstruction;
 use asmap_encode::Written;
@@ -32,7 +33,7 @@ fn code_at(row: u8, map: &[u8], at: usize) -> Decoded {
     }
 }
 
-pub fn read_code(bytes: &[u8], words: Words) -> Seen {
+fn read_code(bytes: &[u8], words: Words) -> Seen {
     let row = byte(bytes, words, 0);
     if 3 < row {
         return Seen::Unread;
@@ -57,7 +58,7 @@ fn code_of(row: u8, x: u32) -> Written {
     }
 }
 
-pub fn write_code(bytes: &[u8], words: Words) -> Seen {
+fn write_code(bytes: &[u8], words: Words) -> Seen {
     let row = byte(bytes, words, 0);
     if 3 < row {
         return Seen::Unread;
@@ -74,7 +75,7 @@ fn found(instruction: Instruction) -> Out {
         .number(instruction.size as u64, 8)
 }
 
-pub fn read_instruction(bytes: &[u8], words: Words) -> Seen {
+fn read_instruction(bytes: &[u8], words: Words) -> Seen {
     let got = asmap_decode::decode_instruction(word(bytes, words, 0), wide(bytes, words, 1));
     let answer = word(bytes, words, 2);
     match got {
@@ -83,7 +84,7 @@ pub fn read_instruction(bytes: &[u8], words: Words) -> Seen {
     }
 }
 
-pub fn write_instruction(bytes: &[u8], words: Words) -> Seen {
+fn write_instruction(bytes: &[u8], words: Words) -> Seen {
     let got = asmap_encode::encode_instruction(value(bytes, words, 0), value(bytes, words, 1));
     compared(written(got), word(bytes, words, 2))
 }
@@ -99,7 +100,7 @@ fn item_of(n: u8) -> Item {
     }
 }
 
-pub fn read_item(bytes: &[u8], words: Words) -> Seen {
+fn read_item(bytes: &[u8], words: Words) -> Seen {
     let n = byte(bytes, words, 0);
     if 4 < n {
         return Seen::Unread;
@@ -110,4 +111,15 @@ pub fn read_item(bytes: &[u8], words: Words) -> Seen {
         .number(step.place as u64, 8)
         .number(step.left as u64, 8);
     compared(out, word(bytes, words, 3))
+}
+
+// The calls of the kinds 0 to 4 (`replay_kinds: kind_of`).
+pub fn replay_code(kind: usize, bytes: &[u8], words: Words) -> Seen {
+    match kind {
+        0 => read_code(bytes, words),
+        1 => write_code(bytes, words),
+        2 => read_instruction(bytes, words),
+        3 => write_instruction(bytes, words),
+        _ => read_item(bytes, words),
+    }
 }

@@ -2,8 +2,8 @@
 -- Assumes nothing.
 use borrow.Author.Needs.{needs}
 use Prim.Native.Nat.{_-_, _≤_}
-use Rattle.replay_vectors.proofs.words_fit.Statement.{statement}
-use Rattle.replay_vectors.proofs.words_fit.Tie as tie
+use Rattle.replay_kinds.proofs.words_fit.Statement.{statement}
+use Rattle.replay_kinds.proofs.words_fit.Tie as tie
 
 abbrev Inv-loop : tie.InvT-loop
 Inv-loop kind bytes words shape i₀ i = i ≤ 9

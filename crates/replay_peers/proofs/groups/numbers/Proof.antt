@@ -4,8 +4,8 @@ use borrow.Author.Needs.{needs}
 use mathlib.Core.Path.{_≡_}
 use Prim.Native.Nat.{_≤_}
 use lib.ListN.{length}
-use Rattle.replay_vectors.proofs.groups.numbers.Statement.{statement}
-use Rattle.replay_vectors.proofs.groups.numbers.Tie as tie
+use Rattle.replay_peers.proofs.groups.numbers.Statement.{statement}
+use Rattle.replay_peers.proofs.groups.numbers.Tie as tie
 
 abbrev Inv-loop : tie.InvT-loop
 Inv-loop bytes list₀ i₀ list i = (length list ≡ 4100) × (i ≤ length bytes)

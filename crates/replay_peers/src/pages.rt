@@ -1,7 +1,7 @@
 // The spread on a printed page.
 use crate::groups::grouping_of;
-use crate::maps::wrote;
 use asmap_records::Answer;
+use replay_maps::maps::wrote;
 use replay_outcomes::Seen;
 use replay_outcomes::and_left;
 use replay_outcomes::compared;
