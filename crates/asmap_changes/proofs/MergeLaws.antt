@@ -1,8 +1,8 @@
 -- The loop over two listings: how it stands, and each way on from there. 2 ^ 128 is a variable where it is compared. Assumes nothing.
-use Prim.Native.Nat.{ℕ, suc, _+_, _*_, _^_, _≤_, _<_}
+use Prim.Native.Nat.{ℕ, _+_, _^_, _≤_, _<_}
 use mathlib.Core.Bool.{Bool, true, false, not}
 use mathlib.Core.Path.{_≡_, refl, sym, ap, subst, _∙_}
-use mathlib.Core.List.{List, [], _∷_, _++_}
+use mathlib.Core.List.{List, [], _∷_}
 use native.Mathlib.Omega.{arith}
 use lib.Dec.{ltb, eqb}
 use lib.ListN.{length}
@@ -10,7 +10,7 @@ use borrow.Author.Tests.{ltb-true, ltb-false, ne-eqb, eqb-true, eqb-false}
 use Rattle.prefix_records.specs.Tiling.{Piece, firstOf, pastOf, Tiles}
 use Rattle.prefix_records.specs.models.Cursor.{valueOf}
 use Rattle.prefix_records.proofs.TilingLaws.{some, tiles-le}
-use Rattle.prefix_changes.specs.Change.{Change, shared, adding, against, changes}
+use Rattle.prefix_changes.specs.Change.{Change, adding, against, changes}
 use Rattle.prefix_changes.proofs.ChangeLaws.{nested, test, old-first, new-first, both-first, changes-none, changes-few}
 use Rattle.asmap_codes.specs.Instruction.{mapOf}
 use Rattle.asmap_listing.specs.Listing.{listing}
@@ -19,7 +19,7 @@ use Rattle.asmap_list_step.proofs.StepLaws.{startSpot}
 use Rattle.asmap_changes.specs.Changes.{changesOf}
 use Rattle.asmap_changes.specs.declared.Front.{Front}
 use Rattle.asmap_changes.specs.declared.Found.{Found}
-use Rattle.asmap_changes.specs.models.Side.{Ready, mostChanges, Coming, Fore, Split, First, Paired, Noted, Roomy, RoomFor, Whole}
+use Rattle.asmap_changes.specs.models.Side.{Ready, mostChanges, Coming, Split, First, Paired, Noted, Roomy, RoomFor, Whole}
 use Rattle.asmap_changes.proofs.PairLaws.{start-coming, Tally, tally-start, tally-whole, Pair, tested, noted}
 
 -- ---- how it stands

@@ -5,36 +5,33 @@ use Prim.Native.Nat.{ℕ, zero, suc, _+_, _-_, _*_, _^_, _≤_, _<_}
 use mathlib.Core.Bool.{Bool, true, false, _&&_, not}
 use mathlib.Core.Path.{_≡_, refl, sym, ap, subst, _∙_}
 use mathlib.Core.List.{List, [], _∷_, _++_}
-use native.Mathlib.Nat.{add-zero}
 use native.Mathlib.Omega.{arith}
 use lib.Dec.{ltb, eqb}
 use lib.ListN.{length}
 use lib.Seq.{sets, length-sets}
 use lib.Pow.{pow-pos}
-use borrow.Author.Tests.{lt-ltb, le-ltb, eq-eqb, ne-eqb, eqb-true, eqb-false}
+use borrow.Author.Tests.{lt-ltb}
 use Rattle.byte_numbers.specs.Numbers.{big8, bytes4}
 use Rattle.byte_numbers.proofs.Buffers.{sets-append}
 use Rattle.prefix_records.specs.Tiling.{Piece, firstOf, pastOf, Tiles}
-use Rattle.prefix_records.specs.Record.{addressBytes, recordOf}
+use Rattle.prefix_records.specs.Record.{addressBytes}
 use Rattle.prefix_records.specs.declared.Address.{Address}
 use Rattle.prefix_records.specs.models.Cursor.{valueOf, Behind, recordAt}
-use Rattle.prefix_records.proofs.TilingLaws.{some, tiles-le}
+use Rattle.prefix_records.proofs.TilingLaws.{tiles-le}
 use Rattle.prefix_records.proofs.RecordLaws.{address-at, record-at}
-use Rattle.prefix_changes.specs.Change.{Change, sharedIf, shared, overlap, differ, adding, changes}
+use Rattle.prefix_changes.specs.Change.{Change, sharedIf, shared, overlap, differ, adding}
 use Rattle.prefix_changes.specs.Record.{changeRecordOf, changeRecordsOf, firstChanged}
-use Rattle.prefix_changes.proofs.ChangeLaws.{nested, test, old-first, new-first, both-first, changes-none, changes-few}
+use Rattle.prefix_changes.proofs.ChangeLaws.{test}
 use Rattle.asmap_codes.specs.Instruction.{mapOf}
 use Rattle.asmap_listing.specs.Listing.{listing}
-use Rattle.asmap_listing.specs.models.Scan.{leaf, leaves}
+use Rattle.asmap_listing.specs.models.Scan.{leaf}
 use Rattle.asmap_list_step.specs.declared.Spot.{Spot}
 use Rattle.asmap_list_step.specs.models.Step.{rest, weight, Sane, Onward}
 use Rattle.asmap_list_step.proofs.StepLaws.{startSpot, start-sane, start-rest}
-use Rattle.asmap_list.proofs.PutLaws.{first-piece, no-piece, past-size, below-top, room-left}
-use Rattle.asmap_changes.specs.Changes.{changesOf}
+use Rattle.asmap_list.proofs.PutLaws.{first-piece, no-piece, past-size, below-top}
 use Rattle.asmap_changes.specs.declared.Front.{Front}
 use Rattle.asmap_changes.specs.declared.Found.{Found}
-use Rattle.asmap_changes.specs.declared.Place.{Place}
-use Rattle.asmap_changes.specs.models.Side.{Ready, mostChanges, Stands, Fore, Coming, Comes, Split, First, placeIf, placeOf, putIf, firstIf, added, NotedIf, Noted, Roomy, RoomFor, Whole}
+use Rattle.asmap_changes.specs.models.Side.{Ready, Fore, Coming, Split, placeIf, placeOf, putIf, firstIf, added, NotedIf, Noted, Whole}
 
 -- ---- the next piece of one listing
 

@@ -1,6 +1,5 @@
 // Two maps compared for every address: the pieces on which their listings differ, as records of 28 bytes in a lent output, and how many bytes that
 // takes.
-ghost use mathlib.Core.Path.{_≡_};
 ghost use mathlib.Core.Bool.{true};
 ghost use Prim.Native.Nat.{_≤_};
 ghost use lib.ListN.{length};

@@ -1,9 +1,9 @@
 -- A map that the check accepts over w address bits it accepts over more, with the same count, depth and list: with more bits left, and saved, each step
 -- that goes on goes on to the same place, and only the refusal for want of bits can fall away.
 -- Assumes nothing.
-use Prim.Native.Nat.{ℕ, zero, suc, _+_, _-_, _≤_, max}
+use Prim.Native.Nat.{ℕ, zero, suc, _+_, _-_, _≤_}
 use mathlib.Core.Bool.{Bool, true, false, not, _&&_}
-use mathlib.Core.Path.{_≡_, refl, sym, ap, _∙_}
+use mathlib.Core.Path.{_≡_, refl, ap, _∙_}
 use mathlib.Core.List.{List, [], _∷_}
 use native.Mathlib.Omega.{arith}
 use lib.Dec.{leb, ltb, eqb}
@@ -13,7 +13,7 @@ use Rattle.asmap_program.specs.declared.Instruction.{Instruction}
 use Rattle.asmap_program.specs.declared.Verdict.{Verdict}
 use Rattle.asmap_program.specs.declared.Verdict.the-variants.{Accepted}
 use Rattle.asmap_program.specs.Map.{endOf, targetOf, Fetched, Whole, CutOpcode, CutOperand, Map, lengthOf}
-use Rattle.asmap_program.specs.Check.{Open, isDefault, isShort, afterMatch, State, Outcome, Next, Done, Refuse, guard, past, closing, stepWhole, stepOn, step, after, run, listed, reads, start, check, unpacked}
+use Rattle.asmap_program.specs.Check.{Open, isDefault, isShort, State, Outcome, Next, Done, Refuse, guard, past, closing, stepWhole, stepOn, step, after, run, listed, reads, start, check, unpacked}
 
 -- k address bits more, left and saved
 more : ℕ → List Open → List Open

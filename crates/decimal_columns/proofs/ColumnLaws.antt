@@ -1,15 +1,13 @@
 -- Columns: what is left of a number decides the byte of a column, columns are put in front of those to their right, and a reader of the columns
 -- has the number that was put there.
 -- Assumes nothing.
-use borrow.Author.Tests.{lt-ltb, le-ltb, eq-eqb, ne-eqb}
-use mathlib.Core.Bool.{Bool, true, false, cond}
+use borrow.Author.Tests.{lt-ltb, le-ltb, ne-eqb}
 use mathlib.Core.Path.{_≡_, _∙_, refl, sym, ap}
 use mathlib.Core.List.{List, [], _∷_}
 use Prim.Native.Nat.{ℕ, zero, suc, _+_, _*_, _-_, _/_, _%_, _^_, _≤_, _<_}
 use native.Mathlib.Nat.{pow-suc, pow-succ', pow-zero, div-one, div-eq-of-lt, div-div-eq-div-mul, div-add-mod, mod-lt, mul-zero}
 use native.Mathlib.Decide.{decLt}
 use native.Mathlib.Omega.{arith}
-use lib.Dec.{eqb, ltb}
 use lib.ListN.{length, set}
 use lib.Seq.{sets, set-comm}
 use Rattle.decimal_columns.specs.Columns.{digitByte, columnByte, flushRight, readOn, readFrom, shown}

@@ -1,7 +1,7 @@
 -- Columns put from the last to the first: what is known on the way, at the start, after one column more, and at the end.
 -- Assumes nothing.
 use mathlib.Core.Path.{_≡_, _∙_, refl, sym, ap}
-use mathlib.Core.List.{List, []}
+use mathlib.Core.List.{List}
 use Prim.Native.Nat.{ℕ, zero, suc, _+_, _*_, _-_, _/_, _^_, _≤_, _<_}
 use native.Mathlib.Nat.{pow-suc, pow-zero, one-mul}
 use native.Mathlib.Omega.{arith}

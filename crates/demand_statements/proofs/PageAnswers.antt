@@ -3,11 +3,11 @@
 use Prim.Native.Nat.{ℕ, zero, suc, _*_, _/_, _%_, _≤_, _<_}
 use mathlib.Core.Path.{_≡_, _∙_, refl, sym, ap, subst}
 use mathlib.Core.Bool.{true}
-use mathlib.Core.Logic.{_⊎_, inl, inr, _≢_}
+use mathlib.Core.Logic.{inl, inr, _≢_}
 use mathlib.Core.List.{List, [], _∷_}
 use native.Mathlib.Omega.{arith}
 use borrow.Author.Tests.{eq-eqb, ne-eqb, lt-ltb, le-ltb}
-use lib.ListN.{length, take, drop}
+use lib.ListN.{length, take}
 use Rattle.asmap_check.specs.Check.{checkOf}
 use Rattle.asmap_walk_bits.specs.Walk.{walkOf}
 use Rattle.peer_lists.specs.declared.Refusal.{Refusal}
@@ -31,18 +31,18 @@ use Rattle.page_lines.proofs.LineLaws.{length-lines}
 use Rattle.spread_page.specs.Page.{pageUnless, pageCall, spreadPage, spreadUnchecked}
 use Rattle.spread_page.specs.Promise.{Told, Unaborted}
 use Rattle.spread_page.proofs.PageLaws.{page-made}
-use Rattle.answer_outcome.specs.Outcome.{handed, Hands}
+use Rattle.answer_outcome.specs.Outcome.{Hands}
 use Rattle.answer_maps.specs.Maps.{mapChecked}
 use Rattle.answer_bytes.specs.Bytes.{bytesWritten, Writes}
 use Rattle.answer_groups.specs.Groups.{groupingOf}
 use Rattle.answers.proofs.NeverZeroGroups.{page-numbers, by-limit}
-use Rattle.demand_statements.specs.Picked.{each, walkAt, prefixAt, Ends}
+use Rattle.demand_statements.specs.Picked.{each, prefixAt}
 use Rattle.demand_statements.specs.Printed.{Printed, PrintedByMap, Paged}
-use Rattle.demand_statements.specs.AnyInput.{Usable, Candidate, Pages, LoadedPages}
+use Rattle.demand_statements.specs.AnyInput.{Pages, LoadedPages}
 use Rattle.demand_statements.proofs.AnswerLaws.{numbered, refused-as}
 use Rattle.demand_statements.proofs.CandidateLaws.{address-at, prefix-at, candidates-valid, each-candidate}
 use Rattle.demand_statements.proofs.PickLaws.{unrefused, ends-at}
-use Rattle.demand_statements.proofs.PickAnswers.{Checked, refusal, of-map, map-passes, PickNumber, LoadedPick}
+use Rattle.demand_statements.proofs.PickAnswers.{refusal, of-map, map-passes, PickNumber, LoadedPick}
 use Rattle.demand_statements.proofs.PrintLaws.{printed-page}
 use Rattle.demand_statements.proofs.TripLaws as trip
 

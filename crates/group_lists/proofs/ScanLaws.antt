@@ -10,7 +10,6 @@ use native.Mathlib.Numerals.{add-one}
 use borrow.Author.Tests.{lt-ltb, le-ltb}
 use lib.ListN.{length, take, drop, getD, take-append-drop, length-append}
 use lib.Seq.{length-take-le}
-use Rattle.group_lists.specs.declared.Scan.{Scan}
 use Rattle.group_lists.specs.declared.Scan.the-variants.{Hit, Missed, Refused}
 use Rattle.group_lists.specs.Groups.{has}
 use Rattle.group_lists.specs.Scan.{inFront, scanned, scanOf}

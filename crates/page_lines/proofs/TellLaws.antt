@@ -3,10 +3,10 @@
 -- Assumes nothing.
 use mathlib.Core.Path.{_≡_, _∙_, refl, sym, ap}
 use mathlib.Core.List.{List, [], _∷_, _++_, append-assoc}
-use Prim.Native.Nat.{ℕ, zero, suc, _+_, _*_, _-_, _/_, _%_, _^_, _≤_, _<_}
+use Prim.Native.Nat.{ℕ, _+_, _-_, _/_, _%_, _^_, _≤_, _<_}
 use native.Mathlib.Nat.{pow-zero, div-one}
 use native.Mathlib.Omega.{arith}
-use lib.ListN.{length, take, drop, getD, length-append}
+use lib.ListN.{length, take, drop, getD}
 use lib.Seq.{take-at, drop-at, drop-drop, getD-drop}
 use Rattle.decimal_columns.specs.Columns.{digitByte, flushRight, shown}
 use Rattle.decimal_columns.proofs.ColumnLaws.{length-columns, columns-show}
@@ -16,7 +16,6 @@ use Rattle.group_shares.proofs.SpreadLaws.{Within, spread-within}
 use Rattle.page_lines.specs.PerCent.{tenths}
 use Rattle.page_lines.specs.Line.{perCent, line}
 use Rattle.page_lines.specs.Told.{groupTold, countTold, tenthsTold, Tells, AllTell}
-use Rattle.page_lines.proofs.LineLaws.{length-per-cent}
 use Rattle.page_lines.proofs.PerCentLaws.{tenths-most}
 
 -- ---- the parts of a line

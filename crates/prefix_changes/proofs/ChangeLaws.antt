@@ -12,7 +12,7 @@ use lib.ListN.{length}
 use borrow.Author.Tests.{leb-true, leb-false, ltb-true, ltb-false, le-ltb, eq-eqb, ne-eqb, eqb-true, eqb-false}
 use Rattle.prefix_records.specs.Tiling.{Piece, firstOf, pastOf, Tiles}
 use Rattle.prefix_records.proofs.TilingLaws.{some, wider, and-false}
-use Rattle.prefix_changes.specs.Change.{Change, narrowed, sharedIf, shared, overlap, differ, adding, against, changes, Rises, back, backs}
+use Rattle.prefix_changes.specs.Change.{Change, sharedIf, shared, overlap, differ, adding, against, changes, Rises, back, backs}
 
 -- ---- of two pieces that overlap one holds the other
 

@@ -2,15 +2,15 @@
 -- Assumes nothing.
 use Prim.Native.Nat.{ℕ, _≤_, _<_}
 use mathlib.Core.Bool.{Bool, true, false, _&&_, not}
-use mathlib.Core.Path.{_≡_, refl, sym, ap, subst, _∙_}
+use mathlib.Core.Path.{_≡_, refl, sym, ap, _∙_}
 use mathlib.Core.List.{List, [], _∷_, _++_}
 use native.Mathlib.Omega.{arith}
-use lib.Dec.{ltb, eqb}
-use borrow.Author.Tests.{ltb-true, ltb-false, lt-ltb, eq-eqb, ne-eqb, eqb-true}
+use lib.Dec.{ltb}
+use borrow.Author.Tests.{ltb-true, ltb-false, lt-ltb, eq-eqb, ne-eqb}
 use Rattle.prefix_records.specs.Tiling.{Piece, firstOf, pastOf, Tiles, holds, keep, holding, JustOne}
 use Rattle.prefix_records.proofs.TilingLaws.{and-false}
 use Rattle.prefix_records.proofs.PlaceLaws.{held-from, held-if}
-use Rattle.prefix_changes.specs.Change.{Change, sharedIf, shared, overlap, differ, adding, against, changes, among, JustOneChange, Tells}
+use Rattle.prefix_changes.specs.Change.{Change, sharedIf, shared, overlap, differ, adding, against, changes, among, Tells}
 use Rattle.prefix_changes.proofs.ChangeLaws.{nested, overlapping, and-turned, adding-append, test}
 
 -- ---- an address and what two pieces share

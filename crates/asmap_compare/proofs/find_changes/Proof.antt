@@ -2,7 +2,6 @@
 -- Assumes nothing.
 use borrow.Author.Needs.{needs}
 use native.Mathlib.Omega.{arith}
-use mathlib.Core.Path.{refl}
 use Rattle.asmap_changes.specs.Changes.{changesOf}
 use Rattle.asmap_changes.proofs.MergeLaws.{few-changes}
 use Rattle.asmap_compare.proofs.CallLaws.{finds-short, finds-first}

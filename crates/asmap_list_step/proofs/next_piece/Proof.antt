@@ -1,8 +1,7 @@
 -- `asmap_list_step::next_piece` meets its contract: steps that give no piece leave what is still to come as it was.
 -- Assumes nothing.
 use borrow.Author.Needs.{needs}
-use native.Mathlib.Omega.{arith}
-use mathlib.Core.Path.{_≡_, refl, subst}
+use mathlib.Core.Path.{_≡_, subst}
 use Rattle.asmap_list_step.specs.models.Step.{weight, Stepped}
 use Rattle.asmap_list_step.specs.declared.Turn.{Turn}
 use Rattle.asmap_list_step.proofs.StepLaws.{Going, going-start, going-on, going-gives, going-ends, going-rooms}

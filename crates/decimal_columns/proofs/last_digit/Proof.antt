@@ -1,7 +1,5 @@
 -- `last_digit` is the digit of ones. Assumes nothing.
 use borrow.Author.Needs.{needs}
-use mathlib.Core.Path.{sym, ap, _∙_}
-use Prim.Native.Nat.{ℕ, _+_, _%_}
 use native.Mathlib.Nat.{pow-zero, div-one}
 use native.Mathlib.Omega.{arith}
 use Rattle.decimal_columns.specs.Columns.{digitByte}

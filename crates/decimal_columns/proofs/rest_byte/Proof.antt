@@ -1,7 +1,6 @@
 -- `rest_byte` is a space where nothing is left, else the last digit of what is. Assumes nothing.
 use borrow.Author.Needs.{needs}
 use borrow.Author.Tests.{eq-eqb, ne-eqb}
-use mathlib.Core.Path.{_∙_}
 use native.Mathlib.Omega.{arith}
 use Rattle.decimal_columns.proofs.rest_byte.Statement.{statement}
 use Rattle.decimal_columns.proofs.rest_byte.Tie as tie

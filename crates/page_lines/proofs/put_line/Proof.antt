@@ -3,7 +3,7 @@
 use borrow.Author.Needs.{needs}
 use Prim.Native.Nat.{_+_}
 use native.Mathlib.Omega.{arith}
-use lib.ListN.{length, length-set}
+use lib.ListN.{length-set}
 use Rattle.page_lines.proofs.LineLaws.{line-put}
 use Rattle.page_lines.proofs.put_line.Statement.{statement}
 use Rattle.page_lines.proofs.put_line.Tie as tie

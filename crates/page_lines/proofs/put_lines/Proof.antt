@@ -1,13 +1,13 @@
 -- `put_lines` goes from run to run, and what will be put is what was to be put at the start (lines-next).
 -- Assumes nothing.
 use borrow.Author.Needs.{needs}
-use mathlib.Core.Path.{_≡_, _∙_, refl, sym, ap}
-use Prim.Native.Nat.{ℕ, _+_, _*_, _-_, _≤_}
+use mathlib.Core.Path.{_≡_, _∙_, refl}
+use Prim.Native.Nat.{_+_, _*_, _-_, _≤_}
 use native.Mathlib.Omega.{arith}
 use lib.ListN.{length, drop}
 use lib.Seq.{sets}
 use Rattle.group_shares.specs.models.Runs.{runs}
-use Rattle.group_shares.proofs.RunLaws.{run-goes, runs-from, runs-done}
+use Rattle.group_shares.proofs.RunLaws.{run-goes}
 use Rattle.page_lines.specs.Line.{lines}
 use Rattle.page_lines.proofs.LineLaws.{lines-next, lines-room, lines-done}
 use Rattle.page_lines.proofs.put_lines.Statement.{statement}
