@@ -6,30 +6,46 @@
 ghost use mathlib.Core.Path.{_≡_};
 ghost use Prim.Native.Nat.{_<_};
 ghost use lib.ListN.{length};
+use crate::addresses::mapped;
+use crate::addresses::relay_skip;
+use crate::addresses::unroutable;
+use crate::codes::read_code;
+use crate::codes::read_instruction;
+use crate::codes::read_item;
+use crate::codes::write_code;
+use crate::codes::write_instruction;
+use crate::groups::group;
+use crate::groups::pick;
+use crate::groups::prefix_group;
+use crate::groups::scan;
+use crate::maps::check;
+use crate::maps::check_stop;
+use crate::maps::list_bytes;
+use crate::maps::walk;
+use crate::maps::written;
+use crate::maps::written_of_two;
+use crate::pages::page;
+use crate::text::read_words;
+use crate::widths::check_bits;
+use crate::widths::check_stop_bits;
+use crate::widths::list_bytes_bits;
+use crate::widths::walk_bits;
+use crate::widths::written_bits;
 use libc::STDIN_FILENO;
-use replay_codes::replay_code;
-use replay_kinds::is_heading;
-use replay_kinds::kind_of;
-use replay_kinds::letter_of;
-use replay_kinds::place_of;
-use replay_kinds::words_fit;
-use replay_maps::replay_map;
-use replay_maps::replay_width;
+use libc::STDOUT_FILENO;
 use replay_outcomes::Seen;
-use replay_peers::replay_address;
-use replay_peers::replay_peers;
-use replay_report::say;
-use replay_report::say_addresses;
-use replay_report::say_codes;
-use replay_report::say_line;
-use replay_report::say_lines;
-use replay_report::say_maps;
-use replay_report::say_peers;
-use replay_report::say_widths;
-use replay_text::read_words;
 use replay_words::Words;
 use replay_words::find;
+use replay_words::word;
 use std::num::wrapping_add_u64;
+
+mod addresses;
+mod codes;
+mod groups;
+mod maps;
+mod pages;
+mod text;
+mod widths;
 
 // Room for the list. One that fills it is taken for too long.
 fn list_room() -> [u8; 1048576]
@@ -45,8 +61,165 @@ fn word_room() -> [u8; 262144]
     [0; 262144]
 }
 
+// ---- a line
+
+// The kinds of call by their letters, and 33 for any other letter. They are counted and printed in this order; the capitals are calls at a width.
+fn kind_of(letter: u8) -> usize {
+    match letter {
+        b'd' => 0,
+        b'e' => 1,
+        b'i' => 2,
+        b'j' => 3,
+        b'b' => 4,
+        b'c' => 5,
+        b'k' => 6,
+        b'w' => 7,
+        b'u' => 8,
+        b'p' => 9,
+        b'l' => 10,
+        b'q' => 11,
+        b'v' => 12,
+        b'y' => 13,
+        b'C' => 14,
+        b'K' => 15,
+        b'W' => 16,
+        b'U' => 17,
+        b'L' => 18,
+        b'Q' => 19,
+        b'V' => 20,
+        b'Y' => 21,
+        b'n' => 22,
+        b'g' => 23,
+        b'h' => 24,
+        b's' => 25,
+        b't' => 26,
+        b'o' => 27,
+        b'a' => 28,
+        b'z' => 29,
+        b'm' => 30,
+        b'f' => 31,
+        b'r' => 32,
+        _ => 33,
+    }
+}
+
+// The words that a call has: at most so many bytes, and one at least, for a number; 9 for bytes of any length; 0 for no word.
+fn shape_of(kind: usize) -> [u8; 9]
+    ensures { λ r. ⌜ 9 ≡ length r ⌝ }
+{
+    match kind {
+        0 | 4 => [1, 9, 8, 9, 0, 0, 0, 0, 0],
+        1 => [1, 4, 9, 0, 0, 0, 0, 0, 0],
+        2 => [9, 8, 9, 0, 0, 0, 0, 0, 0],
+        3 => [4, 4, 9, 0, 0, 0, 0, 0, 0],
+        7 | 8 | 9 | 10 => [9, 9, 9, 0, 0, 0, 0, 0, 0],
+        12 | 13 => [9, 9, 9, 9, 0, 0, 0, 0, 0],
+        14 | 15 | 19 => [4, 9, 9, 0, 0, 0, 0, 0, 0],
+        16 | 17 | 18 => [4, 9, 9, 9, 0, 0, 0, 0, 0],
+        20 | 21 => [4, 9, 9, 9, 9, 0, 0, 0, 0],
+        23 | 24 => [1, 9, 9, 9, 0, 0, 0, 0, 0],
+        25 | 26 => [1, 9, 9, 8, 9, 9, 9, 9, 0],
+        27 => [8, 9, 9, 0, 0, 0, 0, 0, 0],
+        28 | 29 => [1, 9, 9, 9, 9, 0, 0, 0, 0],
+        32 => [1, 2, 9, 9, 0, 0, 0, 0, 0],
+        _ => [9, 9, 0, 0, 0, 0, 0, 0, 0],
+    }
+}
+
+// Whether a call has so many words.
+fn count_fits(shape: [u8; 9], count: usize) -> bool {
+    if count == 0 {
+        return false;
+    }
+    if 8 < count {
+        return false;
+    }
+    if shape[count] != 0 {
+        return false;
+    }
+    shape[count - 1] != 0
+}
+
+// Whether a word of so many bytes is a number where its call has a number.
+fn word_fits(most: u8, len: usize) -> bool {
+    if most == 0 || 8 < most {
+        return true;
+    }
+    if len == 0 {
+        return false;
+    }
+    len <= most as usize
+}
+
+fn words_fit(kind: usize, bytes: &[u8], words: Words) -> Seen {
+    let shape = shape_of(kind);
+    if !count_fits(shape, words.count) {
+        return Seen::Count;
+    }
+    let mut i: usize = 0;
+    while i < 9 {
+        if !word_fits(shape[i], word(bytes, words, i).len()) {
+            return Seen::Unread;
+        }
+        i += 1;
+    }
+    Seen::Same
+}
+
+fn replay_code(kind: usize, bytes: &[u8], words: Words) -> Seen {
+    match kind {
+        0 => read_code(bytes, words),
+        1 => write_code(bytes, words),
+        2 => read_instruction(bytes, words),
+        3 => write_instruction(bytes, words),
+        _ => read_item(bytes, words),
+    }
+}
+
+fn replay_map(kind: usize, bytes: &[u8], words: Words) -> Seen {
+    match kind {
+        5 => check(bytes, words),
+        6 => check_stop(bytes, words),
+        7 => walk(bytes, words),
+        11 => list_bytes(bytes, words),
+        12 | 13 => written_of_two(kind, bytes, words),
+        _ => written(kind, bytes, words),
+    }
+}
+
+fn replay_width(kind: usize, bytes: &[u8], words: Words) -> Seen {
+    match kind {
+        14 => check_bits(bytes, words),
+        15 => check_stop_bits(bytes, words),
+        16 => walk_bits(bytes, words),
+        19 => list_bytes_bits(bytes, words),
+        _ => written_bits(kind, bytes, words),
+    }
+}
+
+fn replay_peers(kind: usize, bytes: &[u8], words: Words) -> Seen {
+    match kind {
+        22 => prefix_group(bytes, words),
+        23 => group(bytes, words, true),
+        24 => group(bytes, words, false),
+        25 => pick(bytes, words, 0),
+        26 => pick(bytes, words, 2),
+        27 => scan(bytes, words),
+        28 => page(bytes, words, true),
+        _ => page(bytes, words, false),
+    }
+}
+
+fn replay_address(kind: usize, bytes: &[u8], words: Words) -> Seen {
+    match kind {
+        30 => mapped(bytes, words),
+        31 => unroutable(bytes, words),
+        _ => relay_skip(bytes, words),
+    }
+}
+
 // The call of a kind on its words.
-fn replay_call(kind: usize, bytes: &[u8], words: Words) -> Seen {
+fn replay_words(kind: usize, bytes: &[u8], words: Words) -> Seen {
     if kind < 5 {
         return replay_code(kind, bytes, words);
     }
@@ -62,6 +235,17 @@ fn replay_call(kind: usize, bytes: &[u8], words: Words) -> Seen {
     replay_address(kind, bytes, words)
 }
 
+// The letter of a line, which a blank follows; 0 where there is none.
+fn letter_of(line: &[u8]) -> u8 {
+    if line.len() < 2 {
+        return 0;
+    }
+    if line[1] != b' ' {
+        return 0;
+    }
+    line[0]
+}
+
 fn replay_line(kind: usize, line: &[u8], bytes: &mut [u8]) -> Seen {
     if 32 < kind {
         return Seen::Unread;
@@ -74,7 +258,33 @@ fn replay_line(kind: usize, line: &[u8], bytes: &mut [u8]) -> Seen {
     let Seen::Same = seen else {
         return seen;
     };
-    replay_call(kind, bytes, words)
+    replay_words(kind, bytes, words)
+}
+
+// ---- the list
+
+// Every line is counted at one of 69 places: for each kind of call the answers that are ours and, 33 places on, those that differ; then
+// headings, lines with a wrong count of words, and lines that could not be read.
+fn place_of(kind: usize, seen: Seen) -> usize
+    ensures { λ r. ⌜ r < 69 ⌝ }
+{
+    if 32 < kind {
+        return 68;
+    }
+    match seen {
+        Seen::Same => kind,
+        Seen::Differs => 33 + kind,
+        Seen::Count => 67,
+        Seen::Unread => 68,
+    }
+}
+
+// A heading starts with a #.
+fn is_heading(line: &[u8]) -> bool {
+    if line.len() == 0 {
+        return false;
+    }
+    line[0] == b'#'
 }
 
 fn line_place(line: &[u8], bytes: &mut [u8]) -> usize
@@ -94,6 +304,32 @@ fn add_one(counts: &mut [u64; 69], place: usize)
     counts[place] = wrapping_add_u64(counts[place], 1);
 }
 
+fn say(text: &[u8]) {
+    io::write_all(STDOUT_FILENO, text);
+}
+
+fn say_number(n: u64) {
+    io::print_decimal(STDOUT_FILENO, n);
+}
+
+// Names a line that is neither a heading nor has our answer, by the place where it is counted.
+fn say_line(line: u64, place: usize) {
+    if place < 33 || place == 66 {
+        return;
+    }
+    say(b"line ");
+    say_number(line);
+    if place < 66 {
+        say(b" differs\n");
+        return;
+    }
+    if place < 68 {
+        say(b" has a wrong count of words\n");
+        return;
+    }
+    say(b" cannot be read\n");
+}
+
 // Hands back how many lines there are.
 fn replay_list(list: &[u8], bytes: &mut [u8], counts: &mut [u64; 69]) -> u64 {
     let mut lines: u64 = 0;
@@ -107,6 +343,76 @@ fn replay_list(list: &[u8], bytes: &mut [u8], counts: &mut [u64; 69]) -> u64 {
         at = end + 1;
     }
     lines
+}
+
+fn say_kind(name: &[u8], counts: &[u64; 69], kind: usize)
+    requires { ⌜ kind < 33 ⌝ }
+{
+    let differ = counts[kind + 33];
+    say(name);
+    say_number(wrapping_add_u64(counts[kind], differ));
+    say(b" answers, ");
+    say_number(differ);
+    say(b" differ\n");
+}
+
+fn say_codes(counts: &[u64; 69]) {
+    say_kind(b"code read: ", counts, 0);
+    say_kind(b"code written: ", counts, 1);
+    say_kind(b"instruction read: ", counts, 2);
+    say_kind(b"instruction written: ", counts, 3);
+    say_kind(b"bit reader: ", counts, 4);
+}
+
+fn say_maps(counts: &[u64; 69]) {
+    say_kind(b"check: ", counts, 5);
+    say_kind(b"where a check stops: ", counts, 6);
+    say_kind(b"walk: ", counts, 7);
+    say_kind(b"unpack: ", counts, 8);
+    say_kind(b"pack: ", counts, 9);
+    say_kind(b"list: ", counts, 10);
+    say_kind(b"bytes of a list: ", counts, 11);
+    say_kind(b"compare: ", counts, 12);
+    say_kind(b"bytes of a comparison: ", counts, 13);
+}
+
+fn say_widths(counts: &[u64; 69]) {
+    say_kind(b"check at a width: ", counts, 14);
+    say_kind(b"where a check at a width stops: ", counts, 15);
+    say_kind(b"walk at a width: ", counts, 16);
+    say_kind(b"unpack at a width: ", counts, 17);
+    say_kind(b"list at a width: ", counts, 18);
+    say_kind(b"bytes of a list at a width: ", counts, 19);
+    say_kind(b"compare at a width: ", counts, 20);
+    say_kind(b"bytes of a comparison at a width: ", counts, 21);
+}
+
+fn say_peers(counts: &[u64; 69]) {
+    say_kind(b"group by prefix: ", counts, 22);
+    say_kind(b"group: ", counts, 23);
+    say_kind(b"group, map unchecked: ", counts, 24);
+    say_kind(b"pick: ", counts, 25);
+    say_kind(b"pick, map unchecked: ", counts, 26);
+    say_kind(b"occupied scan: ", counts, 27);
+    say_kind(b"page: ", counts, 28);
+    say_kind(b"page, map unchecked: ", counts, 29);
+}
+
+fn say_addresses(counts: &[u64; 69]) {
+    say_kind(b"IPv4-mapped address: ", counts, 30);
+    say_kind(b"unroutable: ", counts, 31);
+    say_kind(b"relay skip: ", counts, 32);
+}
+
+fn say_lines(lines: u64, counts: &[u64; 69]) {
+    say_number(lines);
+    say(b" lines, ");
+    say_number(counts[66]);
+    say(b" of them headings, ");
+    say_number(counts[67]);
+    say(b" with a wrong count of words, ");
+    say_number(counts[68]);
+    say(b" not read\n");
 }
 
 fn main() {

@@ -1,11 +1,23 @@
 -- The words of a line and the numbers that they are (oracle/src/bin/replay_vectors, "The list": numbers are little-endian).
 -- Assumes nothing.
 use Prim.Native.Nat.{ℕ, _+_, _-_, _*_, _%_}
-use mathlib.Core.Bool.{cond}
+use mathlib.Core.Bool.{true, false, cond}
 use mathlib.Core.List.{List, [], _∷_}
 use lib.Dec.{ltb, eqb}
-use lib.ListN.{length, take, drop, getD}
+use lib.ListN.{length, take, drop, getD, set, replicate}
 use Rattle.replay_words.specs.declared.Words.{Words}
+use Rattle.replay_words.specs.declared.WordEnd.{WordEnd}
+use Rattle.replay_words.specs.declared.WordEnd.the-variants.{At, Unread}
+
+-- A line before its first word.
+abbrev pub noWords : Words
+noWords = record { count = 0; unread = false; ends = replicate 10 0; last = 0 }
+
+-- A word more, whose bytes lie from the last place to a further one; a tenth is not kept, and one that cannot be read is marked.
+abbrev pub withWord : Words → WordEnd → Words
+withWord w Unread = record { count = w .count; unread = true; ends = w .ends; last = w .last }
+withWord w (At place) =
+    cond (ltb (w .count) 9) (record { count = w .count + 1; unread = w .unread; ends = set (w .ends) (w .count + 1) place; last = place }) w
 
 -- The place of the first such byte in bytes that begin at a place; behind the last where there is none.
 unfoldable pub placeOf : ℕ → List ℕ → ℕ → ℕ

@@ -1,9 +1,9 @@
 // The words of a line of the list of answers: where a line's words lie, their bytes, and the numbers that these are. How a line's text
-// becomes such words is in `replay_text`.
+// becomes such words is in the program `replay_vectors`.
 ghost use mathlib.Core.Path.{_≡_};
 ghost use Prim.Native.Nat.{_%_, _≤_, _<_};
 ghost use lib.ListN.{length, drop};
-ghost use Rattle.replay_words.specs.Words.{placeOf, below, numberOf, between, wordOf};
+ghost use Rattle.replay_words.specs.Words.{noWords, withWord, placeOf, below, numberOf, between, wordOf};
 
 // The place of a byte at or after `from`, or the end.
 pub fn find(text: &[u8], from: usize, byte: u8) -> usize
@@ -36,7 +36,10 @@ pub struct Words {
 }
 
 impl Words {
-    pub fn none() -> Words {
+    // No words yet.
+    pub fn none() -> Words
+        ensures { λ r. ⌜ r ≡ noWords ⌝ }
+    {
         Words {
             count: 0,
             unread: false,
@@ -46,7 +49,9 @@ impl Words {
     }
 
     // A word more.
-    pub fn with(mut self, end: WordEnd) -> Words {
+    pub fn with(mut self, end: WordEnd) -> Words
+        ensures { λ r. ⌜ r ≡ withWord self end ⌝ }
+    {
         let n = self.count;
         let WordEnd::At(place) = end else {
             self.unread = true;
