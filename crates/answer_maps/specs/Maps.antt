@@ -5,7 +5,8 @@ use mathlib.Core.List.{List, _∷_, []}
 use Rattle.asmap_program.specs.declared.Verdict.{Verdict}
 use Rattle.asmap_program.specs.declared.Verdict.the-variants as verdict
 use Rattle.asmap_program.specs.declared.Kind.{Kind}
-use Rattle.asmap_program.specs.declared.Kind.the-variants.{Returned, Differed, Aborted}
+use Rattle.asmap_program.specs.declared.Kind.the-variants.{Returned, Differed, OpcodeCut, OperandCut, TooFewBits}
+use Rattle.asmap_program.specs.Map.{Opcode, Operand, cutReason}
 use Rattle.asmap_check.specs.declared.Stopped.{Stopped}
 use Rattle.asmap_check.specs.declared.Stopped.the-variants as stopped
 use Rattle.asmap_walk_bits.specs.declared.Ending.{Ending}
@@ -23,11 +24,13 @@ unfoldable pub checkStopped : Stopped → Outcome
 checkStopped (stopped.At reason place) = Done (reason ∷ place ∷ [])
 checkStopped (stopped.Refused n) = No n
 
--- The number of each kind of end.
+-- The number of each kind of end. A walk that met a cut code has that cut's number, 4 or 19 (document 02, CR 5).
 abbrev pub kindNumber : Kind → ℕ
 kindNumber Returned = 1
 kindNumber Differed = 2
-kindNumber Aborted = 3
+kindNumber TooFewBits = 3
+kindNumber OpcodeCut = cutReason Opcode
+kindNumber OperandCut = cutReason Operand
 
 -- The numbers of an ending: its kind, its number, the instructions that the walk read whole, and the address bits that it read.
 abbrev pub endNumbers : Ending → List ℕ

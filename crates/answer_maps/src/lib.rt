@@ -4,6 +4,8 @@ ghost use mathlib.Core.List.{_∷_, []};
 ghost use Rattle.answer_outcome.specs.Outcome.{handed};
 ghost use Rattle.answer_maps.specs.Maps.{mapChecked, checkStopped, kindNumber, walkMade};
 use asmap_check::Stopped;
+use asmap_program::CUT_OPCODE;
+use asmap_program::CUT_OPERAND;
 use asmap_program::Kind;
 use asmap_program::Verdict;
 use asmap_walk::Interpreted;
@@ -36,14 +38,16 @@ pub fn hand_stop(got: Stopped, reason: &mut u8, place: &mut usize) -> u8
     }
 }
 
-// The number of a kind of end.
+// The number of a kind of end: a cut code's is that of its refusal.
 fn kind_number(kind: Kind) -> u8
     ensures { λ r. ⌜ r ≡ kindNumber kind ⌝ }
 {
     match kind {
         Kind::Returned => 1,
         Kind::Differed => 2,
-        Kind::Aborted => 3,
+        Kind::TooFewBits => 3,
+        Kind::OpcodeCut => CUT_OPCODE,
+        Kind::OperandCut => CUT_OPERAND,
     }
 }
 

@@ -9,7 +9,8 @@ use lib.ListN.{length}
 use Rattle.asmap_program.specs.declared.Verdict.{Verdict}
 use Rattle.asmap_program.specs.declared.Verdict.the-variants.{Accepted, Refused}
 use Rattle.asmap_program.specs.Map.{limit}
-use Rattle.asmap_check.specs.Check.{checkOf}
+use Rattle.asmap_check.specs.Check.{checkOf, Reason}
+use Rattle.asmap_check.proofs.Reasons.{reason-some}
 use Rattle.peer_lists.specs.declared.Refusal.{Refusal}
 use Rattle.peer_lists.specs.declared.Refusal.the-variants.{None, Number}
 use Rattle.candidate_bytes.specs.Candidate.{valid}
@@ -51,8 +52,8 @@ module _ (P : ℕ → Type 0) where
   by-verdict (Accepted c d) h = tt
   by-verdict (Refused n) h = h
 
-  -- a map that the call checks, 1 to 10; a map taken as it is, 1
-  pub by-check : (n : Numbering) → P 1 → ((k : ℕ) → 2 ≤ k → k ≤ 10 → P k) → From (checkRefusal n)
+  -- a map that the call checks: the check's numbers; a map taken as it is: 1
+  pub by-check : (n : Numbering) → P 1 → ((k : ℕ) → Reason k → P k) → From (checkRefusal n)
   by-check (byMap m) one h = by-verdict (checkOf m 128) (map-numbers P h m 128 one)
   by-check byPrefixes one h = tt
 
@@ -138,7 +139,7 @@ abbrev From1 : Refusal → Type 0
 From1 = From (λ n. 0 < n)
 
 by-check-1 : (n : Numbering) → From1 (checkRefusal n)
-by-check-1 n = by-check (λ n. 0 < n) n (omega arith) (λ k l h. omega arith)
+by-check-1 n = by-check (λ n. 0 < n) n (omega arith) reason-some
 
 by-limit-1 : (n : Numbering) → From1 (limitRefusal n)
 by-limit-1 n = by-limit (λ n. 0 < n) n (omega arith)

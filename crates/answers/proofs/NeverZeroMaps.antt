@@ -12,8 +12,8 @@ use Rattle.asmap_program.specs.Map.{limit, Map}
 use Rattle.asmap_program.specs.Widths.{atWidth}
 use Rattle.asmap_program.specs.Check.{check, stopOf}
 use Rattle.asmap_codes.specs.Instruction.{mapOf}
-use Rattle.asmap_check.specs.Check.{checkOf, checkAt, reasonOf, stopsUnlessLong, stoppedOf, stoppedAt}
-use Rattle.asmap_check.proofs.Reasons.{Judged, check-judged, map-judged}
+use Rattle.asmap_check.specs.Check.{checkOf, Reason, checkAt, reasonOf, stopsUnlessLong, stoppedOf, stoppedAt}
+use Rattle.asmap_check.proofs.Reasons.{Judged, reason-some, check-judged, map-judged}
 use Rattle.asmap_check.specs.declared.Stopped.the-variants.{At}
 use Rattle.asmap_check.specs.declared.Stopped.the-variants as stopped
 use Rattle.asmap_walk_bits.specs.declared.Ending.{Ending}
@@ -34,7 +34,7 @@ use Rattle.answers.proofs.Handing.{Counted, Refuses, counted, counted-a
 
 -- ---- the check. P: what is shown of its number
 
-module _ (P : ℕ → Type 0) (reason : (n : ℕ) → 2 ≤ n → n ≤ 10 → P n) where
+module _ (P : ℕ → Type 0) (reason : (n : ℕ) → Reason n → P n) where
   judged : (v : Verdict) → Judged P v → Refuses P (mapChecked v)
   unfolding Refuses mapChecked
   judged (Accepted c d) h = tt
@@ -44,12 +44,12 @@ module _ (P : ℕ → Type 0) (reason : (n : ℕ) → 2 ≤ n → n ≤ 10 → P
   pub check-numbers : (m : Map) (w : ℕ) → Refuses P (mapChecked (check m w))
   check-numbers m w = judged (check m w) (check-judged P reason m w)
 
-  -- any map: 1 to 10
+  -- any map: 1 too
   pub map-numbers : (m : List ℕ) (w : ℕ) → P 1 → Refuses P (mapChecked (checkOf m w))
   map-numbers m w one = judged (checkOf m w) (map-judged P reason m w one)
 
 pub map-checked : (m : List ℕ) (w : ℕ) → Counted (mapChecked (checkOf m w))
-map-checked m w = counted (mapChecked (checkOf m w)) (map-numbers (λ n. 0 < n) (λ n l h. omega arith) m w (omega arith))
+map-checked m w = counted (mapChecked (checkOf m w)) (map-numbers (λ n. 0 < n) reason-some m w (omega arith))
 
 -- where it stops: 1 alone
 counted-stop : (long : Bool) (reason place : ℕ) → Counted (checkStopped (stopsUnlessLong long (At reason place)))
@@ -173,24 +173,24 @@ module _ (P : ℕ → Type 0) where
 
 pub unpack-written : (k : ℕ) (m : List ℕ) (w : ℕ) → Counted (bytesWritten (answerOf (within k (unpackOf m w))))
 unpack-written k m w =
-    counted _ (unpack-numbers (λ n. 0 < n) k m w (omega arith) (map-numbers (λ n. 0 < n) (λ n l h. omega arith) m w (omega arith)))
+    counted _ (unpack-numbers (λ n. 0 < n) k m w (omega arith) (map-numbers (λ n. 0 < n) reason-some m w (omega arith)))
 
 pub list-written : (k : ℕ) (m : List ℕ) (w : ℕ) → Counted (bytesWritten (answerOf (within k (listOf m w))))
 list-written k m w =
-    counted _ (list-numbers (λ n. 0 < n) k m w (omega arith) (map-numbers (λ n. 0 < n) (λ n l h. omega arith) m w (omega arith)))
+    counted _ (list-numbers (λ n. 0 < n) k m w (omega arith) (map-numbers (λ n. 0 < n) reason-some m w (omega arith)))
 
 pub list-needed : (m : List ℕ) (w : ℕ) → Counted (bytesNeeded (neededOf m w))
-list-needed m w = counted _ (length-numbers (λ n. 0 < n) m w (map-numbers (λ n. 0 < n) (λ n l h. omega arith) m w (omega arith)))
+list-needed m w = counted _ (length-numbers (λ n. 0 < n) m w (map-numbers (λ n. 0 < n) reason-some m w (omega arith)))
 
 pub pack-written : (k : ℕ) (rs : List ℕ) → Counted (bytesWritten (answerOf (within k (packOf rs))))
 pack-written k rs = counted _ (pack-numbers (λ n. 0 < n) (omega arith) (omega arith) (omega arith) k rs (omega arith))
 
 -- no number of either map is 0, and none with 100 more
 never-0 : (m : List ℕ) (w : ℕ) → Refuses (λ n. 0 < n) (mapChecked (checkOf m w))
-never-0 m w = map-numbers (λ n. 0 < n) (λ n l h. omega arith) m w (omega arith)
+never-0 m w = map-numbers (λ n. 0 < n) reason-some m w (omega arith)
 
 never-100 : (m : List ℕ) (w : ℕ) → Refuses (λ n. 0 < 100 + n) (mapChecked (checkOf m w))
-never-100 m w = map-numbers (λ n. 0 < 100 + n) (λ n l h. omega arith) m w (omega arith)
+never-100 m w = map-numbers (λ n. 0 < 100 + n) (λ n h. omega arith) m w (omega arith)
 
 pub compare-written : (k : ℕ) (old new : List ℕ) (w : ℕ) → Counted (bytesWritten (answerOf (within k (compareOf old new w))))
 compare-written k old new w = counted _ (compare-numbers (λ n. 0 < n) old new w (never-0 old w) (never-100 new w) k (omega arith))

@@ -3,6 +3,7 @@
 use Prim.Native.Nat.{ℕ, _≤_}
 use mathlib.Core.Bool.{Bool, true, false}
 use mathlib.Core.Path.{_≡_}
+use mathlib.Core.Logic.{_⊎_}
 use mathlib.Core.List.{List}
 use lib.Dec.{ltb}
 use lib.ListN.{length}
@@ -26,6 +27,10 @@ unlessLong false v = v
 -- map is checked instruction by instruction.
 abbrev pub checkOf : List ℕ → ℕ → Verdict
 checkOf m w = unlessLong (ltb limit (length m)) (check (mapOf m) w)
+
+-- The numbers with which the check refuses a map within the limit: document 01's 2 to 10, and 19 for a cut operand (document 02, CR 5).
+abbrev pub Reason : ℕ → Type 0
+Reason n = ((2 ≤ n) × (n ≤ 10)) ⊎ (n ≡ 19)
 
 -- The check at a width (document 02, CR 3): 18, first of all, for a width that is neither 32 nor 128.
 abbrev pub checkAt : List ℕ → ℕ → Verdict

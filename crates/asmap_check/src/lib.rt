@@ -44,7 +44,7 @@ pub fn check_over(map: &[u8], bits: u8) -> Verdict
     run_check(map, bits).verdict
 }
 
-// The check: accepted with the number of instructions and the greatest depth, or refused, 1 to 10. Any bytes may be handed in.
+// The check: accepted with the number of instructions and the greatest depth, or refused, 1 to 10 or 19. Any bytes may be handed in.
 pub fn sanity_check(map: &[u8]) -> Verdict
     ensures { λ r. ⌜ r ≡ checkOf (now (map .entry)) 128 ⌝ }
     ensures core { λ r. ⌜ LikeCore (now (map .entry)) 128 r ⌝ }
@@ -115,7 +115,7 @@ fn with_pieces(verdict: Verdict, pieces: usize) -> Counted
 }
 
 // The check over a number of address bits, with the prefixes that the map tells apart counted: for whoever has to know how long a listing is
-// before it is written. Refused as the check does, 1 to 10.
+// before it is written. Refused as the check does, 1 to 10 or 19.
 pub fn sanity_check_pieces(map: &[u8], bits: u8) -> Counted
     requires { ⌜ bits ≤ 128 ⌝ }
     ensures { λ r. ⌜ (r ≡ countedOf (now (map .entry)) bits) × Few r ⌝ }

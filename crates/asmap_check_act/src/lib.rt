@@ -13,6 +13,8 @@ ghost use Rattle.asmap_codes.specs.Instruction.{paddedFrom};
 ghost use Rattle.asmap_row_decoder.specs.models.InWindow.{Holds};
 ghost use Rattle.asmap_check_act.specs.models.Act.{pastTop, onReturn, onJump, onMatch, onDefault, acts};
 use asmap_codes::Code;
+use asmap_program::CUT_OPCODE;
+use asmap_program::CUT_OPERAND;
 use asmap_program::Previous;
 
 // What an instruction asks of the loop. The first number of the first four is the place after the instruction; then a JUMP's target, a
@@ -89,7 +91,7 @@ fn padded(map: &[u8], at: usize) -> bool
 
 // ---- the arms: an operand that starts at bit `at`, in the window `w`, and the tests in document 01's order
 
-// RETURN: 5 after DEFAULT, 4 cut; with no open jump 6 where no padding follows, with one 7 where it does not end at the target.
+// RETURN: 5 after DEFAULT, 19 cut; with no open jump 6 where no padding follows, with one 7 where it does not end at the target.
 fn sanity_return(map: &[u8], w: u64, at: usize, previous: Previous, depth: usize, top: u32) -> Act
     requires { ⌜ (length (now map) ≤ limit) × (at < 2 ^ 34) × Holds asnRow (now map) at w ⌝ }
     ensures { λ r. ⌜ r ≡ onReturn (now (map .entry)) previous depth top (codeAt (now (map .entry)) at asnRow) ⌝ }
@@ -99,7 +101,7 @@ fn sanity_return(map: &[u8], w: u64, at: usize, previous: Previous, depth: usize
     }
     let got = asmap_row_decoder::asn_in(w, at, 8 * map.len());
     let Code::Value(_, next) = got else {
-        return Act::Refuses(4);
+        return Act::Refuses(CUT_OPERAND);
     };
     if depth == 0 {
         if padded(map, next) {
@@ -113,14 +115,14 @@ fn sanity_return(map: &[u8], w: u64, at: usize, previous: Previous, depth: usize
     Act::Refuses(7)
 }
 
-// JUMP: 4 cut, 8 with no bit left, 9 where its target is at or past the innermost. The target is counted from the JUMP's end.
+// JUMP: 19 cut, 8 with no bit left, 9 where its target is at or past the innermost. The target is counted from the JUMP's end.
 fn sanity_jump(map: &[u8], w: u64, at: usize, bits: u8, depth: usize, top: u32) -> Act
     requires { ⌜ (length (now map) ≤ limit) × (at < 2 ^ 34) × Holds jumpRow (now map) at w ⌝ }
     ensures { λ r. ⌜ r ≡ onJump bits depth top (codeAt (now (map .entry)) at jumpRow) ⌝ }
 {
     let got = asmap_row_decoder::jump_in(w, at, 8 * map.len());
     let Code::Value(offset, next) = got else {
-        return Act::Refuses(4);
+        return Act::Refuses(CUT_OPERAND);
     };
     if bits == 0 {
         return Act::Refuses(8);
@@ -132,14 +134,14 @@ fn sanity_jump(map: &[u8], w: u64, at: usize, bits: u8, depth: usize, top: u32) 
     Act::Opens(next, target)
 }
 
-// MATCH: 4 cut, 10 short after short, 8 where it is longer than the bits left.
+// MATCH: 19 cut, 10 short after short, 8 where it is longer than the bits left.
 fn sanity_match(map: &[u8], w: u64, at: usize, previous: Previous, bits: u8) -> Act
     requires { ⌜ (length (now map) ≤ limit) × (at < 2 ^ 34) × Holds matchRow (now map) at w ⌝ }
     ensures { λ r. ⌜ r ≡ onMatch previous bits (codeAt (now (map .entry)) at matchRow) ⌝ }
 {
     let got = asmap_row_decoder::match_in(w, at, 8 * map.len());
     let Code::Value(operand, next) = got else {
-        return Act::Refuses(4);
+        return Act::Refuses(CUT_OPERAND);
     };
     let length = asmap_program::match_length(operand);
     if short_again(length, previous) {
@@ -151,7 +153,7 @@ fn sanity_match(map: &[u8], w: u64, at: usize, previous: Previous, bits: u8) -> 
     Act::Uses(next, length)
 }
 
-// DEFAULT: 5 after DEFAULT, 4 cut.
+// DEFAULT: 5 after DEFAULT, 19 cut.
 fn sanity_default(map: &[u8], w: u64, at: usize, previous: Previous) -> Act
     requires { ⌜ (length (now map) ≤ limit) × (at < 2 ^ 34) × Holds asnRow (now map) at w ⌝ }
     ensures { λ r. ⌜ r ≡ onDefault previous (codeAt (now (map .entry)) at asnRow) ⌝ }
@@ -161,7 +163,7 @@ fn sanity_default(map: &[u8], w: u64, at: usize, previous: Previous) -> Act
     }
     let got = asmap_row_decoder::asn_in(w, at, 8 * map.len());
     let Code::Value(_, next) = got else {
-        return Act::Refuses(4);
+        return Act::Refuses(CUT_OPERAND);
     };
     Act::Keeps(next)
 }
@@ -184,7 +186,7 @@ pub fn sanity_act(
     let w = asmap_window::window(map, pos);
     let got = asmap_row_decoder::type_in(w, pos, 8 * map.len());
     let Code::Value(opcode, at) = got else {
-        return Act::Refuses(4);
+        return Act::Refuses(CUT_OPCODE);
     };
     let rest = asmap_row_decoder::operand_window(map, w, pos, opcode, at);
     if opcode == asmap_program::RETURN {

@@ -12,7 +12,7 @@ use lib.ListN.{length}
 use Rattle.asmap_program.specs.declared.Instruction.{Instruction}
 use Rattle.asmap_program.specs.declared.Previous.{Previous}
 use Rattle.asmap_program.specs.declared.Previous.the-variants.{Other, Default}
-use Rattle.asmap_program.specs.Map.{CutOperand, lengthOf}
+use Rattle.asmap_program.specs.Map.{CutOperand, Operand, cutReason, lengthOf}
 use Rattle.asmap_program.specs.Check.{Open, State, isDefault, isShort, afterMatch, guard, Outcome, Next, Done, Refuse, closing, stepWhole, stepOn, step}
 use Rattle.asmap_program.specs.models.Pieces.{piecesOf}
 use Rattle.asmap_codes.specs.declared.Code.{Code}
@@ -111,10 +111,10 @@ module _ (m ts ss : List ℕ) (left at : ℕ) (before : Previous) (count deepest
       rw e (guarded _ _ (isDefault before) 5 _ (Keeps n) refl)
 
   cut-is : (d op : ℕ) → op < 4 → stepOn (mapOf m) (s d) (CutOperand op) ≡ applied (s d) (instruction at op Cut) (onOperand m before left d (top ts d) op Cut)
-  cut-is d zero h = rw (and-true (isDefault before)) (guarded _ _ (isDefault before) 5 _ (Refuses 4) refl)
-  cut-is d (suc zero) h = rw (and-false (isDefault before)) (passed 5 (Refuse 4))
-  cut-is d (suc (suc zero)) h = rw (and-false (isDefault before)) (passed 5 (Refuse 4))
-  cut-is d (suc (suc (suc zero))) h = rw (and-true (isDefault before)) (guarded _ _ (isDefault before) 5 _ (Refuses 4) refl)
+  cut-is d zero h = rw (and-true (isDefault before)) (guarded _ _ (isDefault before) 5 _ (Refuses (cutReason Operand)) refl)
+  cut-is d (suc zero) h = rw (and-false (isDefault before)) (passed 5 (Refuse (cutReason Operand)))
+  cut-is d (suc (suc zero)) h = rw (and-false (isDefault before)) (passed 5 (Refuse (cutReason Operand)))
+  cut-is d (suc (suc (suc zero))) h = rw (and-true (isDefault before)) (guarded _ _ (isDefault before) 5 _ (Refuses (cutReason Operand)) refl)
   cut-is d (suc (suc (suc (suc op)))) h = absurd (omega arith)
 
   operand-is : (d op : ℕ) → op < 4 → (c : Code) → ((v n : ℕ) → c ≡ Value v n → at < n)

@@ -76,12 +76,7 @@ past-end m at row h k = rw (drop-of-length-le (mapBits m) {i = at} (omega (arith
     none (s ∷ []) l = absurd (omega arith)
     none (s ∷ t ∷ ss) l = refl
 
--- whichever part a code is, cut it has the number 4
-pub cut-number : (n : ℕ) → cutReason (partFrom n) ≡ 4
-cut-number zero = refl
-cut-number (suc n) = refl
-
--- what reading a code hands back: 1 before 4
+-- what reading a code hands back: 1 before the number of its cut
 module _ (m : List ℕ) (at : ℕ) (row : Row) where
   pub read-long : 16777216 < length m → readCode m at row ≡ Refused 1
   read-long h = rw (lt-ltb 16777216 (length m) h)
@@ -89,5 +84,5 @@ module _ (m : List ℕ) (at : ℕ) (row : Row) where
   pub read-at : length m ≤ 16777216 → (v n : ℕ) → codeAt m at row ≡ Value v n → readCode m at row ≡ Found v n
   read-at h v n e = rw (le-ltb 16777216 (length m) h, e)
 
-  pub read-cut : length m ≤ 16777216 → codeAt m at row ≡ Cut → readCode m at row ≡ Refused 4
-  read-cut h e = rw (le-ltb 16777216 (length m) h, e) (ap Refused (cut-number (row .least)))
+  pub read-cut : length m ≤ 16777216 → codeAt m at row ≡ Cut → readCode m at row ≡ Refused (cutReason (partFrom (row .least)))
+  read-cut h e = rw (le-ltb 16777216 (length m) h, e)

@@ -15,7 +15,7 @@ use Rattle.asmap_codes.specs.declared.DecodedInstruction.the-variants.{R
 use Rattle.asmap_codes.specs.declared.Code.{Code}
 use Rattle.asmap_codes.specs.declared.Code.the-variants.{Value, Cut}
 use Rattle.asmap_codes.proofs.RowLaws.{type-fit}
-use Rattle.asmap_codes.proofs.Inside.{value-at, long-operand}
+use Rattle.asmap_codes.proofs.Inside.{value-at, long-operand, past-end}
 
 least-match : (op : ℕ) → op ≡ 2 → operandRow op .least ≡ 2
 least-match op e = rw e
@@ -50,15 +50,15 @@ module _ (m : List ℕ) where
   unfolding fetchAt
   seen p = opcode-seen p (codeAt m p typeRow) refl
 
-  pub laws : Laws (mapOf m)
-  unfolding mapOf
-  laws = record { stands = λ p i f. subst (Seen m p) f (seen p) }
-
-  -- ---- how an instruction is fetched, as code reads it
-
   pub fetch-cut : (p : ℕ) → codeAt m p typeRow ≡ Cut → mapOf m .fetch p ≡ CutOpcode
   unfolding mapOf fetchAt
   fetch-cut p e = rw e
+
+  pub laws : Laws (mapOf m)
+  unfolding mapOf
+  laws = record { stands = λ p i f. subst (Seen m p) f (seen p); ends = λ p h. fetch-cut p (past-end m p typeRow (type-fit .many) h) }
+
+  -- ---- how an instruction is fetched, as code reads it
 
   pub fetch-operand : (p op n : ℕ) → codeAt m p typeRow ≡ Value op n → (c : Code) → codeAt m n (operandRow op) ≡ c → mapOf m .fetch p ≡ withOperand p op c
   unfolding mapOf fetchAt

@@ -20,7 +20,7 @@ use Rattle.asmap_check.specs.Check.{checkOf}
 use Rattle.asmap_check.specs.declared.Counted.the-variants.{Pieces, Refused}
 use Rattle.asmap_check.specs.models.Counted.{countedAs, countedOf}
 use Rattle.asmap_check_run.specs.models.State.{most}
-use Rattle.asmap_check.proofs.Reasons.{Judged, map-judged}
+use Rattle.asmap_check.proofs.Reasons.{Judged, reason-small, map-judged}
 use Rattle.asmap_records.specs.Output.{Result, Made, No, refuse, within, leaves, Hands}
 use Rattle.asmap_records.proofs.RecordLaws.{sets-front}
 use Rattle.asmap_records.proofs.OutputLaws.{hands-no}
@@ -66,8 +66,8 @@ module _ (m : List ℕ) (w : ℕ) (narrow : w ≤ 128) where
       go (verdict.Refused n) h q = let z : r ≡ n = cc in h ∙ ap verdict.Refused (sym z)
 
   -- the number of a refusal has room for 100 more
-  pub small-reason : (r : ℕ) → checkOf m w ≡ verdict.Refused r → r ≤ 10
-  small-reason r e = subst (Judged (λ n. n ≤ 10)) e (map-judged (λ n. n ≤ 10) (λ n l h. h) m w (omega arith))
+  pub small-reason : (r : ℕ) → checkOf m w ≡ verdict.Refused r → r ≤ 19
+  small-reason r e = subst (Judged (λ n. n ≤ 19)) e (map-judged (λ n. n ≤ 19) reason-small m w (omega arith))
 
 -- ---- what the calls make of it
 

@@ -58,8 +58,8 @@ fn compare_over(old: &[u8], new: &[u8], bits: u8, out: &mut [u8]) -> Answer
     }
 }
 
-// Compares two maps that the check accepts at 128 address bits. Refusals: the old map's check, 1 to 10; the new map's, 101 to 110, which is the check's
-// number and 100 more; then 14. A refused call writes nothing.
+// Compares two maps that the check accepts at 128 address bits. Refusals: the old map's check, 1 to 10 and 19; the new map's, 101 to 110 and 119,
+// which is the check's number and 100 more; then 14. A refused call writes nothing.
 pub fn compare(old: &[u8], new: &[u8], out: &mut [u8]) -> Answer
     ensures { λ r. ⌜ Hands (compareOf (now (old .entry)) (now (new .entry)) 128) (now (out .entry)) (now (out .exit)) r ⌝ }
     ensures compares { λ r. ⌜ Compares (now (old .entry)) (now (new .entry)) 128 ⌝ }

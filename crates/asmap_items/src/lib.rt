@@ -3,6 +3,7 @@
 ghost use mathlib.Core.Path.{_≡_};
 ghost use Rattle.asmap_items.specs.Items.{readBit, readItem, placeAfter, bitsLeft};
 use asmap_codes::Decoded;
+use asmap_program::CUT_OPCODE;
 use asmap_program::MAX_MAP_BYTES;
 
 // What a reader can be asked for: one bit, or a code of one of the four rows.
@@ -14,7 +15,7 @@ pub enum Item {
     Jump,
 }
 
-// Reads one bit (`consume_bit_le`). Refusals 1, and 4 at or past the map's end; nothing is asked of the caller.
+// Reads one bit (`consume_bit_le`). Refusals 1, and 4 at or past the map's end, as for an opcode; nothing is asked of the caller.
 pub fn decode_bit(map: &[u8], at: usize) -> Decoded
     ensures { λ r. ⌜ r ≡ readBit (now (map .entry)) at ⌝ }
 {
@@ -23,14 +24,14 @@ pub fn decode_bit(map: &[u8], at: usize) -> Decoded
         return Decoded::Refused(1);
     }
     if 8 * bytes <= at {
-        return Decoded::Refused(4);
+        return Decoded::Refused(CUT_OPCODE);
     }
     let bit = asmap_window::bit_at(map, at);
     let next = at + 1;
     Decoded::Found(bit, next)
 }
 
-// Reads what is asked for. Refusals 1 and 4; nothing is asked of the caller.
+// Reads what is asked for. Refusals 1, then 4 for a bit or an opcode, 19 for the other three; nothing is asked of the caller.
 pub fn decode_item(map: &[u8], at: usize, item: Item) -> Decoded
     ensures { λ r. ⌜ r ≡ readItem (now (map .entry)) at item ⌝ }
 {

@@ -76,7 +76,7 @@ fn list_over(map: &[u8], bits: u8, out: &mut [u8]) -> Answer
     }
 }
 
-// Lists a map that the check accepts at 128 address bits. Refusals: the check's, 1 to 10, then 14; a refused call writes nothing.
+// Lists a map that the check accepts at 128 address bits. Refusals: the check's, 1 to 10 and 19, then 14; a refused call writes nothing.
 // A number of 0 in a record is that of a MATCH that differs before a DEFAULT was met. It is not "unmapped", and no walk there is aborted.
 pub fn list(map: &[u8], out: &mut [u8]) -> Answer
     ensures { λ r. ⌜ Hands (listOf (now (map .entry)) 128) (now (out .entry)) (now (out .exit)) r ⌝ }
@@ -109,7 +109,7 @@ fn bytes_over(map: &[u8], bits: u8) -> Needed
     }
 }
 
-// How many bytes the listing of a map needs, for whoever has to lend them. Refused as the check does, 1 to 10.
+// How many bytes the listing of a map needs, for whoever has to lend them. Refused as the check does, 1 to 10 or 19.
 pub fn list_bytes(map: &[u8]) -> Needed
     ensures { λ r. ⌜ r ≡ neededOf (now (map .entry)) 128 ⌝ }
 {

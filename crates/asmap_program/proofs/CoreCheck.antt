@@ -91,10 +91,10 @@ module _ (m : Map) where
   finish true b′ i c d e = sym e
   finish false b′ i c d e = sym e
 
-  refused : (b : Bool) (n : ℕ) → Same (guard b n (Refuse 4)) (Says false)
+  refused : (b : Bool) (n r : ℕ) → Same (guard b n (Refuse r)) (Says false)
   unfolding guard
-  refused true n = refl
-  refused false n = refl
+  refused true n r = refl
+  refused false n r = refl
 
   says : (b : Bool) → refuseIf b (Says false) ≡ Says false
   unfolding refuseIf
@@ -152,7 +152,7 @@ module _ (m : Map) where
           rw (x .1) (same-whole c n d i (omega arith) (i .opcode) (x .0) (s .known) (x .2) (x .3))
       same-on c n d CutOpcode g x = rw x refl
       same-on c n d (CutOperand op) g x =
-          rw (x .1, cut-refuses c op (x .0) (x .3)) (refused (isDefault (seen (c .prevopcode) (c .hadIncompleteMatch)) && (eqb op 0 || eqb op 3)) 5)
+          rw (x .1, cut-refuses c op (x .0) (x .3)) (refused (isDefault (seen (c .prevopcode) (c .hadIncompleteMatch)) && (eqb op 0 || eqb op 3)) 5 _)
 
       same-step : (c : Sanity) (n d : ℕ) → c .pos ≤ m .bits → Same (step m (ours c n d)) (coreStep f c)
       unfolding step coreStep

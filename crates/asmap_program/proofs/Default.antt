@@ -10,16 +10,17 @@ use native.Mathlib.Omega.{arith}
 use lib.Dec.{eqb}
 use borrow.Author.Tests.{eqb-false, eq-eqb, ne-eqb}
 use Rattle.asmap_program.specs.declared.Instruction.{Instruction}
-use Rattle.asmap_program.specs.declared.Kind.the-variants.{Differed, Aborted}
+use Rattle.asmap_program.specs.declared.Kind.{Kind}
+use Rattle.asmap_program.specs.declared.Kind.the-variants.{Returned, Differed, OpcodeCut, OperandCut, TooFewBits}
 use Rattle.asmap_program.specs.Map.{DEFAULT, Fetched, Whole, CutOpcode, CutOperand, Map, Laws, lengthOf}
 use Rattle.asmap_program.specs.declared.Walker.{Walker}
 use Rattle.asmap_program.specs.Walk.{Walked, Turn, Goes, Stops, Compared, Equal, Different, compared, aborted, enough, meeting, turnWhole, turnOn, goOn, walkFrom, walk}
-use Rattle.asmap_program.specs.Demand.{defaultAfter, lastDefault, NoDefault}
+use Rattle.asmap_program.specs.Demand.{defaultAfter, lastDefault, NoDefault, Answers, Aborts}
 
 -- what the number of a walk from default d is
 record Told (d : ℕ) (r : Walked) : Type 0 where
   differed : r .kind ≡ Differed → r .number ≡ defaultAfter d (r .read)
-  aborted : r .kind ≡ Aborted → r .number ≡ 0
+  aborted : Aborts (r .kind) → r .number ≡ 0
 
 -- a turn from default d: the default that it hands on, or what the walk's number is
 abbrev Sets : ℕ → Turn → Type 0
@@ -33,13 +34,43 @@ goes-on d k ih (Goes i s) v =
     record { differed = λ e. t .differed e ∙ ap (λ (x : ℕ). defaultAfter x (k s .read)) v; aborted = t .aborted }
 goes-on d k ih (Stops r) v = v
 
-told-aborted : (d b : ℕ) (is : List Instruction) → Told d (record { kind = Aborted; number = 0; bits = b; read = is })
-told-aborted d b is = record { differed = λ e. let z : _≡_ {A = ℕ} 0 1 = cc in absurd (omega arith); aborted = λ _. refl }
+-- an end has an answer or is an abort, and never both
+pub ends-either-way : (k : Kind) → Answers k ⊎ Aborts k
+ends-either-way Returned = inl (inl refl)
+ends-either-way Differed = inl (inr refl)
+ends-either-way OpcodeCut = inr (inl refl)
+ends-either-way OperandCut = inr (inr (inl refl))
+ends-either-way TooFewBits = inr (inr (inr refl))
+
+answering : Kind → Bool
+answering Returned = true
+answering Differed = true
+answering OpcodeCut = false
+answering OperandCut = false
+answering TooFewBits = false
+
+answer-told : (k : Kind) → Answers k → answering k ≡ true
+unfolding answering
+answer-told k (inl e) = ap answering e
+answer-told k (inr e) = ap answering e
+
+abort-told : (k : Kind) → Aborts k → answering k ≡ false
+unfolding answering
+abort-told k (inl e) = ap answering e
+abort-told k (inr (inl e)) = ap answering e
+abort-told k (inr (inr e)) = ap answering e
+
+pub never-both : (k : Kind) → Answers k → Aborts k → ⊥
+never-both k a b = let e = sym (answer-told k a) ∙ abort-told k b in let z : _≡_ {A = ℕ} 0 1 = cc in absurd (omega arith)
+
+-- with the number 0 all is said of an abort, of whichever kind
+told-aborted : (k : Kind) → Aborts k → (d b : ℕ) (is : List Instruction) → Told d (record { kind = k; number = 0; bits = b; read = is })
+told-aborted k a d b is = record { differed = λ e. absurd (never-both k (inr e) a); aborted = λ _. refl }
 
 sets-enough : (b : Bool) (s : Walker) (i : Instruction) (t : Turn) → Sets (s .default) t → Sets (s .default) (enough b s i t)
 unfolding enough
 sets-enough true s i t v = v
-sets-enough false s i t v = told-aborted (s .default) (s .used) (i ∷ [])
+sets-enough false s i t v = told-aborted TooFewBits (inr (inr refl)) (s .default) (s .used) (i ∷ [])
 
 -- an instruction that is no DEFAULT keeps the default
 kept : (i : Instruction) (d : ℕ) → i .opcode ≢ DEFAULT → d ≡ cond (eqb (i .opcode) DEFAULT) (i .operand) d
@@ -49,24 +80,24 @@ sets-meeting : (s : Walker) (i : Instruction) → i .opcode ≢ DEFAULT → (c :
 unfolding defaultAfter
 sets-meeting s i h Equal = kept i (s .default) h
 sets-meeting s i h (Different u) =
-    record { differed = λ _. kept i (s .default) h; aborted = λ e. let z : _≡_ {A = ℕ} 0 1 = cc in absurd (omega arith) }
+    record { differed = λ _. kept i (s .default) h; aborted = λ e. absurd (never-both Differed (inr refl) e) }
 
 module _ (address : ℕ → ℕ) (m : Map) (law : Laws m) where
   sets-whole : (s : Walker) (i : Instruction) → i .opcode < 4 → (k : ℕ) → i .opcode ≡ k → Sets (s .default) (turnWhole address m s i k)
   sets-whole s i l zero e =
-      record { differed = λ q. let z : _≡_ {A = ℕ} 0 1 = cc in absurd (omega arith); aborted = λ q. let z : _≡_ {A = ℕ} 0 1 = cc in absurd (omega arith) }
+      record { differed = λ q. let z : _≡_ {A = ℕ} 0 1 = cc in absurd (omega arith); aborted = λ q. absurd (never-both Returned (inl refl) q) }
   sets-whole s i l (suc zero) e = sets-enough _ s i _ (kept i (s .default) λ q. omega arith)
   sets-whole s i l (suc (suc zero)) e = sets-enough _ s i _ (sets-meeting s i (λ q. omega arith) (compared address (lengthOf (i .operand)) (i .operand) (s .used)))
   sets-whole s i l (suc (suc (suc n))) e = rw (eq-eqb (i .opcode) DEFAULT (omega arith))
 
   sets : (s : Walker) (r : Fetched) → m .fetch (s .at) ≡ r → Sets (s .default) (turnOn address m s r)
   sets s (Whole i) f = sets-whole s i (law .stands _ _ f .known) (i .opcode) refl
-  sets s CutOpcode f = told-aborted (s .default) (s .used) []
-  sets s (CutOperand op) f = told-aborted (s .default) (s .used) []
+  sets s CutOpcode f = told-aborted OpcodeCut (inl refl) (s .default) (s .used) []
+  sets s (CutOperand op) f = told-aborted OperandCut (inr (inl refl)) (s .default) (s .used) []
 
   told : (f : ℕ) (s : Walker) → Told (s .default) (walkFrom address m f s)
   unfolding walkFrom
-  told zero s = told-aborted (s .default) (s .used) []
+  told zero s = told-aborted OpcodeCut (inl refl) (s .default) (s .used) []
   told (suc f) s = goes-on (s .default) _ (λ s′. told f s′) (turnOn address m s (m .fetch (s .at))) (sets s (m .fetch (s .at)) refl)
 
   -- A default holds until another DEFAULT is read: whatever was jumped over or left between, a walk that ends at a difference has the
@@ -75,8 +106,8 @@ module _ (address : ℕ → ℕ) (m : Map) (law : Laws m) where
   unfolding walk
   default-holds-until-another w = told (m .bits) _ .differed
 
-  -- an abort's number is 0; that a number is 0 shows no abort
-  pub aborted-gives-zero : (w : ℕ) → walk address m w .kind ≡ Aborted → walk address m w .number ≡ 0
+  -- an abort's number is 0, whichever of the three it is; that a number is 0 shows no abort
+  pub aborted-gives-zero : (w : ℕ) → Aborts (walk address m w .kind) → walk address m w .number ≡ 0
   unfolding walk
   aborted-gives-zero w = told (m .bits) _ .aborted
 

@@ -4,6 +4,7 @@ pub mod Tree
 pub mod Depth
 pub mod Loop
 pub mod Stop
+pub mod Refusals
 pub mod Default
 pub mod Demand
 pub mod CoreCheck

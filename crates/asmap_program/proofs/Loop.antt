@@ -14,6 +14,7 @@ use Rattle.asmap_program.specs.declared.Verdict.{Verdict}
 use Rattle.asmap_program.specs.declared.Verdict.the-variants.{Accepted}
 use Rattle.asmap_program.specs.Map.{endOf, Fetched, Whole, CutOpcode, CutOperand, Map, Laws, lengthOf}
 use Rattle.asmap_program.specs.Check.{State, Outcome, Next, Done, Refuse, guard, step, after, run, start, check, stopping, stops, stopOf, listed, reads, unpacked}
+use Rattle.asmap_program.specs.declared.Kind.the-variants.{OpcodeCut}
 use Rattle.asmap_program.specs.declared.Walker.{Walker}
 use Rattle.asmap_program.specs.Walk.{Walked, Turn, Goes, Stops, Compared, Equal, Different, aborted, enough, meeting, compared, turnWhole, turnOn, push, goOn, walkFrom, walk}
 use Rattle.asmap_program.proofs.Tree.{Moves, closes, opened, matched, defaulted, View, view, Accepts, last, more, accepts}
@@ -168,14 +169,9 @@ module _ (address : ℕ → ℕ) (m : Map) (law : Laws m) where
   onward s CutOpcode f = tt
   onward s (CutOperand op) f = tt
 
-  -- at or past the end nothing is read
-  off-end : (s : Walker) → m .bits ≤ s .at → turnOn address m s (m .fetch (s .at)) ≡ aborted s []
-  off-end s h = pick (m .fetch (s .at)) refl
-    where
-      pick : (r : Fetched) → m .fetch (s .at) ≡ r → turnOn address m s r ≡ aborted s []
-      pick (Whole i) f = let a = law .stands _ _ f in absurd (omega arith)
-      pick CutOpcode f = refl
-      pick (CutOperand op) f = refl
+  -- a walk that stands at the map's end or past it, also after a JUMP: nothing is read, and the opcode is cut
+  off-end : (s : Walker) → m .bits ≤ s .at → turnOn address m s (m .fetch (s .at)) ≡ aborted OpcodeCut s []
+  off-end s h = ap (turnOn address m s) (law .ends (s .at) h)
 
   go-alike : (s : Walker) (k k′ : Walker → Walked) → ((s′ : Walker) → s .at < s′ .at → k s′ ≡ k′ s′)
       → (t : Turn) → Onward s t → goOn k t ≡ goOn k′ t

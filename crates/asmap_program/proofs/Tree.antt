@@ -94,7 +94,7 @@ module _ (m : Map) where
   on-view : (s : State) (r : Fetched) → m .fetch (s .at) ≡ r → View s (stepOn m s r)
   on-view s (Whole i) f = whole-view s i f (i .opcode) refl
   on-view s CutOpcode f = omega arith
-  on-view s (CutOperand op) f = guarded s _ 5 tt (Refuse 4) λ _. omega arith
+  on-view s (CutOperand op) f = guarded s _ 5 tt _ λ _. omega arith
 
   pub view : (s : State) → View s (step m s)
   unfolding step

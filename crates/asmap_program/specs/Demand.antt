@@ -8,7 +8,7 @@ use mathlib.Core.Logic.{_⊎_, _≢_}
 use lib.Dec.{eqb}
 use Rattle.asmap_program.specs.declared.Instruction.{Instruction}
 use Rattle.asmap_program.specs.declared.Kind.{Kind}
-use Rattle.asmap_program.specs.declared.Kind.the-variants.{Returned, Differed}
+use Rattle.asmap_program.specs.declared.Kind.the-variants.{Returned, Differed, OpcodeCut, OperandCut, TooFewBits}
 use Rattle.asmap_program.specs.Map.{RETURN, MATCH, DEFAULT}
 use Rattle.asmap_program.specs.Walk.{Walked, countOf}
 
@@ -33,6 +33,11 @@ ZeroSays r = r .number ≡ 0 → (r .kind ≡ Differed) × NoDefault (r .read)
 -- The two ends of a walk that have an answer: at a RETURN, or at a MATCH that differs. An abort, of whatever kind, is neither.
 abbrev pub Answers : Kind → Type 0
 Answers k = (k ≡ Returned) ⊎ (k ≡ Differed)
+
+-- The three ends that have none (document 02, CR 5: a cut opcode or a cut operand; document 01, Walk: too few address bits). Every kind is of these
+-- or of the two above, and none is of both (`proofs/Default: ends-either-way`, `never-both`).
+abbrev pub Aborts : Kind → Type 0
+Aborts k = (k ≡ OpcodeCut) ⊎ ((k ≡ OperandCut) ⊎ (k ≡ TooFewBits))
 
 -- The walk ends at the last instruction that it read: a RETURN, whose operand is the number, or a MATCH that differs, and then the number
 -- is d.

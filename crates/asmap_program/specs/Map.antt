@@ -46,11 +46,12 @@ pub data Fetched : Type 0 where
 pub data Part : Type 0 where
   Opcode Operand : Part
 
--- Document 01, Codes and Check: the paper's number for a code that the map's end cuts, by the part of an instruction that it is. Both
--- have the same one. This is the only place that says so: the check, an instruction read and a code read alone take it from here.
+-- The number for a code that the map's end cuts, by the part of an instruction that it is (document 02, CR 5: "19 where the operand is cut; 4
+-- keeps the opcode"). This is the only place that says so: the check, an instruction read, a code read alone and a walk's kind of end take it
+-- from here.
 abbrev pub cutReason : Part → ℕ
 cutReason Opcode = 4
-cutReason Operand = 4
+cutReason Operand = 19
 
 -- A map. fetch: what can be read at a place. bits: how many bits the map has. padded: whether the bits from a place to the end may
 -- follow the final RETURN, that is, whether they are at most 7 and all zeros (document 01, Check, RETURN).
@@ -69,9 +70,11 @@ pub record Stands (m : Map) (p : ℕ) (i : Instruction) : Type 0 where
   pub from-one : 1 ≤ i .operand
   pub wide : i .opcode ≡ MATCH → 2 ≤ i .operand
 
--- A map of which every whole instruction says so. The maps that bytes make have this law.
+-- A map of which every whole instruction says so, and in which from the end on the opcode is what is missing: there is no opcode whose operand
+-- could be. The maps that bytes make have these laws.
 pub record Laws (m : Map) : Type 0 where
   pub stands : (p : ℕ) (i : Instruction) → m .fetch p ≡ Whole i → Stands m p i
+  pub ends : (p : ℕ) → m .bits ≤ p → m .fetch p ≡ CutOpcode
 
 -- The bit of x whose weight is 2 ^ k.
 abbrev pub bitOf : ℕ → ℕ → ℕ

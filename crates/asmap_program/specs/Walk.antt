@@ -9,7 +9,7 @@ use lib.ListN.{length}
 use Rattle.asmap_program.specs.declared.Instruction.{Instruction}
 use Rattle.asmap_program.specs.declared.Walker.{Walker}
 use Rattle.asmap_program.specs.declared.Kind.{Kind}
-use Rattle.asmap_program.specs.declared.Kind.the-variants.{Returned, Differed, Aborted}
+use Rattle.asmap_program.specs.declared.Kind.the-variants.{Returned, Differed, OpcodeCut, OperandCut, TooFewBits}
 use Rattle.asmap_program.specs.Map.{endOf, targetOf, Fetched, Whole, CutOpcode, CutOperand, Map, bitOf, lengthOf}
 
 -- Walk, the result: the kind of end, the number, the address bits read (one that differs is among them), and the instructions that were
@@ -39,14 +39,14 @@ pub data Compared : Type 0 where
   Equal : Compared
   Different : ℕ → Compared
 
--- Walk, the abort: number 0. What this turn read whole counts as read; its address bits are those used before it.
-abbrev pub aborted : Walker → List Instruction → Turn
-aborted s is = Stops (record { kind = Aborted; number = 0; bits = s .used; read = is })
+-- Walk, the abort, of the kind k: number 0. What this turn read whole counts as read; its address bits are those used before it.
+abbrev pub aborted : Kind → Walker → List Instruction → Turn
+aborted k s is = Stops (record { kind = k; number = 0; bits = s .used; read = is })
 
 -- A JUMP or a MATCH goes on where the address has bits enough for it, and else aborts.
 unfoldable pub enough : Bool → Walker → Instruction → Turn → Turn
 enough true s i t = t
-enough false s i t = aborted s (i ∷ [])
+enough false s i t = aborted TooFewBits s (i ∷ [])
 
 -- A result with one instruction more, read before it.
 abbrev pub push : Instruction → Walked → Walked
@@ -83,16 +83,17 @@ module _ (a : ℕ → ℕ) (m : Map) where
       enough (leb (s .used + lengthOf (i .operand)) (s .width)) s i (meeting s i (compared a (lengthOf (i .operand)) (i .operand) (s .used)))
   turnWhole s i (suc (suc (suc n))) = Goes i (record { at = endOf i; used = s .used; width = s .width; default = i .operand })
 
-  -- Walk, by what can be read here: a code cut by the map's end aborts, and its instruction is not read.
+  -- Walk, by what can be read here: a code cut by the map's end aborts, and its instruction is not read. The kind tells which of the two codes
+  -- it was (document 02, CR 5).
   abbrev pub turnOn : Walker → Fetched → Turn
   turnOn s (Whole i) = turnWhole s i (i .opcode)
-  turnOn s CutOpcode = aborted s []
-  turnOn s (CutOperand op) = aborted s []
+  turnOn s CutOpcode = aborted OpcodeCut s []
+  turnOn s (CutOperand op) = aborted OperandCut s []
 
   -- Turns until one ends the walk. Each goes forward by a bit of the map at least, so with a turn for each bit none is wanting: when they
   -- are used up the place is the map's end or past it, where an opcode is cut.
   unfoldable pub walkFrom : ℕ → Walker → Walked
-  walkFrom zero s = record { kind = Aborted; number = 0; bits = s .used; read = [] }
+  walkFrom zero s = record { kind = OpcodeCut; number = 0; bits = s .used; read = [] }
   walkFrom (suc f) s = goOn (λ (s′ : Walker). walkFrom f s′) (turnOn s (m .fetch (s .at)))
 
   -- The walk of the address, by its first w bits, through the map.

@@ -12,6 +12,12 @@ pub const MAX_MAP_BYTES: usize = 16777216;
 // The address bits of the public calls that take no width.
 pub const ADDRESS_BITS: u8 = 128;
 
+// The numbers for a code that the map's end cuts, an opcode or an operand (document 02, CR 5). Every refusal for a cut code has its number from
+// here, and so has the kind of a walk that meets one.
+pub const CUT_OPCODE: u8 = 4;
+
+pub const CUT_OPERAND: u8 = 19;
+
 // Whether a call can be made at this width: 32 bits, as addresses of four bytes have, or 128.
 pub fn is_width(width: u32) -> bool
     ensures { λ r. ⌜ r ≡ isWidth width ⌝ }
@@ -83,11 +89,14 @@ pub struct Walker {
     pub default: u32,
 }
 
-// How a walk ends: at a RETURN, at a MATCH that differs, or aborted. Its number does not tell which: 0 can be the default too.
+// How a walk ends: at a RETURN, at a MATCH that differs, or aborted, which it is in three ways: the map's end cuts the opcode to be read or its
+// operand, or an instruction needs more address bits than are left. Its number does not tell which: each abort has 0, and the default can be 0 too.
 pub enum Kind {
     Returned,
     Differed,
-    Aborted,
+    OpcodeCut,
+    OperandCut,
+    TooFewBits,
 }
 
 // How many bits a number has, by its leading zeros; 0 has none. Nothing is asked of the caller.

@@ -77,7 +77,7 @@ impl<'a> BitReader<'a> {
 
 // ---- for callers that hold no reader
 
-// One read at a bit of a map, with a reader that is made and moved there. Refusals 1 and 4; nothing is asked of the caller.
+// One read at a bit of a map, with a reader that is made and moved there. Refusals 1, then 4 or 19; nothing is asked of the caller.
 pub fn read_at(map: &[u8], at: usize, item: Item) -> Step
     ensures { λ r. ⌜ r ≡ stepAt (now (map .entry)) at item ⌝ }
 {

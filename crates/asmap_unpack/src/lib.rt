@@ -67,7 +67,7 @@ fn unpack_over(map: &[u8], bits: u8, out: &mut [u8]) -> Answer
     }
 }
 
-// Unpacks a map that the check accepts at 128 address bits. Refusals: the check's, 1 to 10, then 14; a refused call writes nothing.
+// Unpacks a map that the check accepts at 128 address bits. Refusals: the check's, 1 to 10 and 19, then 14; a refused call writes nothing.
 pub fn unpack(map: &[u8], out: &mut [u8]) -> Answer
     ensures { λ r. ⌜ Hands (unpackOf (now (map .entry)) 128) (now (out .entry)) (now (out .exit)) r ⌝ }
 {

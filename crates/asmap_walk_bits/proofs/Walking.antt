@@ -12,7 +12,7 @@ use lib.Dec.{eqb, lit<}
 use lib.ListN.{length}
 use Rattle.asmap_program.specs.declared.Instruction.{Instruction}
 use Rattle.asmap_program.specs.declared.Kind.{Kind}
-use Rattle.asmap_program.specs.declared.Kind.the-variants.{Returned, Differed, Aborted}
+use Rattle.asmap_program.specs.declared.Kind.the-variants.{Returned, Differed, OpcodeCut, OperandCut, TooFewBits}
 use Rattle.asmap_program.specs.Map.{Fetched, CutOpcode, CutOperand, bitOf, lengthOf, addressBit}
 use Rattle.asmap_program.specs.declared.Walker.{Walker}
 use Rattle.asmap_program.specs.Walk.{Walked, walkStart, Turn, Goes, Stops, Compared, Equal, Different, compared, aborted, enough, meeting, turnWhole, turnOn, walk}
@@ -65,16 +65,16 @@ module _ {m a : List ℕ} {w pos used default count : ℕ} (v : Walking m a w po
   opcode-read {op} {at} e = let x = value-at m pos typeRow op at (lit< tt) e in (x .inside, x .below)
 
   -- a cut code aborts, and is not counted
-  none-read : (f : Fetched) → mapOf m .fetch pos ≡ f → turnOn (addressBit a) (mapOf m) s f ≡ aborted s [] → EndsBy m a w Aborted 0 count used
-  none-read f e q =
+  none-read : (f : Fetched) (k : Kind) → mapOf m .fetch pos ≡ f → turnOn (addressBit a) (mapOf m) s f ≡ aborted k s [] → EndsBy m a w k 0 count used
+  none-read f k e q =
       let z : count + 0 ≡ count = omega arith in
-      rw z at (stops m a w v (record { kind = Aborted; number = 0; bits = used; read = [] }) (ap (turnOn (addressBit a) (mapOf m) s) e ∙ q))
+      rw z at (stops m a w v (record { kind = k; number = 0; bits = used; read = [] }) (ap (turnOn (addressBit a) (mapOf m) s) e ∙ q))
 
-  pub cut-opcode : codeAt m pos typeRow ≡ Cut → EndsBy m a w Aborted 0 count used
-  cut-opcode e = none-read CutOpcode (fetch-cut m pos e) refl
+  pub cut-opcode : codeAt m pos typeRow ≡ Cut → EndsBy m a w OpcodeCut 0 count used
+  cut-opcode e = none-read CutOpcode OpcodeCut (fetch-cut m pos e) refl
 
-  pub cut-operand : {op at : ℕ} → codeAt m pos typeRow ≡ Value op at → codeAt m at (operandRow op) ≡ Cut → EndsBy m a w Aborted 0 count used
-  cut-operand {op} {at} e q = none-read (CutOperand op) (fetch-operand m pos op at e Cut q) refl
+  pub cut-operand : {op at : ℕ} → codeAt m pos typeRow ≡ Value op at → codeAt m at (operandRow op) ≡ Cut → EndsBy m a w OperandCut 0 count used
+  cut-operand {op} {at} e q = none-read (CutOperand op) OperandCut (fetch-operand m pos op at e Cut q) refl
 
 -- an instruction read whole: opcode op, its operand x from bit `at` to n
 pub record Taken (m a : List ℕ) (w pos used default count op at x n : ℕ) : Type 0 where
@@ -136,9 +136,9 @@ module _ {m a : List ℕ} {w pos used default count op at x n : ℕ} (R : Taken 
   pub returns-ends : op ≡ 0 → EndsBy m a w Returned x (count + 1) used
   returns-ends o = last 0 o Returned x used refl
 
-  pub jump-ends : op ≡ 1 → w ≤ used → EndsBy m a w Aborted 0 (count + 1) used
+  pub jump-ends : op ≡ 1 → w ≤ used → EndsBy m a w TooFewBits 0 (count + 1) used
   unfolding enough
-  jump-ends o h = last 1 o Aborted 0 used (rw (le-ltb used w h))
+  jump-ends o h = last 1 o TooFewBits 0 used (rw (le-ltb used w h))
 
   below-row : (k : ℕ) → op ≡ k → x < operandRow k .least + span (operandRow k .sizes)
   below-row k o = subst (λ (j : ℕ). x < operandRow j .least + span (operandRow j .sizes)) o (read .below)
@@ -158,7 +158,7 @@ module _ {m a : List ℕ} {w pos used default count op at x n : ℕ} (R : Taken 
       (f .0) (f .1) (omega arith)
 
   -- a JUMP to the map's end or past it: no opcode is there, and its bit was read
-  pub jump-past : op ≡ 1 → used < w → eqb (addressBit a used) 1 ≡ true → 8 * length m ≤ n + x → EndsBy m a w Aborted 0 (count + 1) (used + 1)
+  pub jump-past : op ≡ 1 → used < w → eqb (addressBit a used) 1 ≡ true → 8 * length m ≤ n + x → EndsBy m a w OpcodeCut 0 (count + 1) (used + 1)
   jump-past o h e k = cut-opcode (jump-goes o h true e) (past-end m (n + x) typeRow (lit< tt) k)
 
   pub match-some : op ≡ 2 → 2 ≤ x
@@ -167,9 +167,9 @@ module _ {m a : List ℕ} {w pos used default count op at x n : ℕ} (R : Taken 
   pub match-most : op ≡ 2 → lengthOf x ≤ 8
   match-most o = let b = below-row 2 o in length-below x 8 (omega arith)
 
-  pub match-ends : op ≡ 2 → w < used + lengthOf x → EndsBy m a w Aborted 0 (count + 1) used
+  pub match-ends : op ≡ 2 → w < used + lengthOf x → EndsBy m a w TooFewBits 0 (count + 1) used
   unfolding enough
-  match-ends o h = last 2 o Aborted 0 used (rw (lt-leb (used + lengthOf x) w h))
+  match-ends o h = last 2 o TooFewBits 0 used (rw (lt-leb (used + lengthOf x) w h))
 
   match-turn : used + lengthOf x ≤ w → (c : Compared) → compared (addressBit a) (lengthOf x) x used ≡ c → turnWhole (addressBit a) (mapOf m) s′ i 2 ≡ meeting s′ i c
   unfolding enough

@@ -30,11 +30,11 @@ fn finish(kind: Kind, number: u32, count: u32, bits: u8) -> Ending
     }
 }
 
-// An abort has the number 0. So may another end: see `Ending`.
-fn abort(count: u32, bits: u8) -> Ending
-    ensures { λ r. ⌜ r ≡ record { kind = Kind.Aborted; number = 0; count = count; bits = bits } ⌝ }
+// An abort, of whichever kind, has the number 0. So may another end: see `Ending`.
+fn abort(kind: Kind, count: u32, bits: u8) -> Ending
+    ensures { λ r. ⌜ r ≡ record { kind = kind; number = 0; count = count; bits = bits } ⌝ }
 {
-    finish(Kind::Aborted, 0, count, bits)
+    finish(kind, 0, count, bits)
 }
 
 // A walk before its first turn, as `asmap_program/specs/Walk` has it.
@@ -62,12 +62,12 @@ pub fn walk_bits(map: &[u8], address: &[u8], width: u8) -> Ending
         let w = asmap_window::window(map, pos);
         let first = asmap_row_decoder::type_in(w, pos, end);
         let Code::Value(opcode, at) = first else {
-            return abort(count, walker.used);
+            return abort(Kind::OpcodeCut, count, walker.used);
         };
         let rest = asmap_row_decoder::operand_window(map, w, pos, opcode, at);
         let second = asmap_row_decoder::operand_in(rest, opcode, at, end);
         let Code::Value(operand, next) = second else {
-            return abort(count, walker.used);
+            return abort(Kind::OperandCut, count, walker.used);
         };
         count += 1;
         walker.at = next;
@@ -75,7 +75,7 @@ pub fn walk_bits(map: &[u8], address: &[u8], width: u8) -> Ending
             asmap_program::RETURN => return finish(Kind::Returned, operand, count, walker.used),
             asmap_program::JUMP => {
                 if walker.width <= walker.used {
-                    return abort(count, walker.used);
+                    return abort(Kind::TooFewBits, count, walker.used);
                 }
                 let bit = asmap_address::address_bit(address, walker.used);
                 walker.used += 1;
@@ -83,14 +83,14 @@ pub fn walk_bits(map: &[u8], address: &[u8], width: u8) -> Ending
                     walker.at = next + operand as usize;
                     // At the map's end or past it there is no opcode to read.
                     if end <= walker.at {
-                        return abort(count, walker.used);
+                        return abort(Kind::OpcodeCut, count, walker.used);
                     }
                 }
             }
             asmap_program::MATCH => {
                 let length = asmap_program::match_length(operand);
                 if walker.width - walker.used < length {
-                    return abort(count, walker.used);
+                    return abort(Kind::TooFewBits, count, walker.used);
                 }
                 // The bits equal at its front are passed at once: the loop meets the first that differs, if one does.
                 let front = asmap_address::equal_front(address, walker.used, operand, length);

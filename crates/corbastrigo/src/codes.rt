@@ -12,7 +12,8 @@ use answer_codes::hand_bits;
 use answer_codes::hand_code;
 use answer_codes::hand_instruction;
 
-// ---- reading at any bit of any map. `next` is the bit after what was read. Refusals 1, then 4.
+// ---- reading at any bit of any map. `next` is the bit after what was read. Refusals 1, then for a code that the map's end cuts
+// 4 where it is an opcode and 19 where it is an operand.
 
 // An opcode.
 #[no_mangle]

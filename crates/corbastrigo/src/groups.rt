@@ -27,7 +27,7 @@ pub extern "C" fn corbastrigo_prefix_group(candidate: &[u8], group: &mut u64) ->
     hand_group(netgroup::prefix_group(candidate), group)
 }
 
-// The group of a candidate, with a map or none. Refusals 13, then with a map the check's, 1 to 10.
+// The group of a candidate, with a map or none. Refusals 13, then with a map the check's, 1 to 10 and 19.
 #[no_mangle]
 pub extern "C" fn corbastrigo_netgroup(
     candidate: &[u8],
@@ -81,7 +81,7 @@ pub extern "C" fn corbastrigo_scan_occupied(
     )
 }
 
-// The pick, with a map or none. Refusals 13, 12, 13, with a map the check's, 1 to 10, then 14.
+// The pick, with a map or none. Refusals 13, 12, 13, with a map the check's, 1 to 10 and 19, then 14.
 #[no_mangle]
 pub extern "C" fn corbastrigo_select_diverse(
     candidates: &[u8],

@@ -18,7 +18,7 @@ use answer_maps::hand_stop;
 use answer_maps::hand_verdict;
 use answer_maps::hand_walk;
 
-// Checks a map. 0 says that it is accepted, with its instructions counted and the most jumps open at once. Refusals 1 to 10.
+// Checks a map. 0 says that it is accepted, with its instructions counted and the most jumps open at once. Refusals 1 to 10 and 19.
 #[no_mangle]
 pub extern "C" fn corbastrigo_sanity_check(map: &[u8], count: &mut u32, depth: &mut u8) -> u8
     ensures { λ r. ⌜ Hands (mapChecked (checkOf (now (map .entry)) 128)) r (now (count .entry) ∷ now (depth .entry) ∷ []) (now (count .exit) ∷ now (depth .exit) ∷ []) ⌝ }
@@ -27,7 +27,7 @@ pub extern "C" fn corbastrigo_sanity_check(map: &[u8], count: &mut u32, depth: &
     hand_verdict(asmap_check::sanity_check(map), count, depth)
 }
 
-// Says where the check of a map stops, and why: the reason, 0 where the check accepts and else 2 to 10, and the place, the bit of the map at
+// Says where the check of a map stops, and why: the reason, 0 where the check accepts and else 2 to 10 or 19, and the place, the bit of the map at
 // which it stops. 0 says that both are written, also of a map that the check refuses. Refusal 1.
 #[no_mangle]
 pub extern "C" fn corbastrigo_sanity_check_stop(
@@ -40,8 +40,9 @@ pub extern "C" fn corbastrigo_sanity_check_stop(
     hand_stop(asmap_check::sanity_check_stop(map), reason, place)
 }
 
-// Walks any map by an address of 16 bytes. `kind` is 1 where the walk ended at a RETURN, 2 at a MATCH that differs, 3 where it
-// aborted: the number 0 alone does not tell. Refusals 11, 1.
+// Walks any map by an address of 16 bytes. `kind` is 1 where the walk ended at a RETURN, 2 at a MATCH that differs. Where it aborted `kind`
+// is 3 for too few address bits, 4 for an opcode cut by the map's end and 19 for a cut operand: the number, which is 0 then, does not tell.
+// Refusals 11, 1.
 #[no_mangle]
 pub extern "C" fn corbastrigo_interpret(
     map: &[u8],
@@ -64,7 +65,7 @@ pub extern "C" fn corbastrigo_interpret(
     )
 }
 
-// Unpacks a map that the check accepts into records of 16 bytes. Refusals: the check's, 1 to 10, then 14.
+// Unpacks a map that the check accepts into records of 16 bytes. Refusals: the check's, 1 to 10 and 19, then 14.
 #[no_mangle]
 pub extern "C" fn corbastrigo_unpack(map: &[u8], out: &mut [u8], written: &mut usize) -> u8
     ensures { λ r. ⌜ Writes (unpackOf (now (map .entry)) 128) (now (out .entry)) (now (out .exit)) r (now (written .entry) ∷ []) (now (written .exit) ∷ []) ⌝ }
@@ -81,7 +82,7 @@ pub extern "C" fn corbastrigo_pack(records: &[u8], out: &mut [u8], written: &mut
 }
 
 // Lists every prefix that a map tells apart, as records of 24 bytes, of a map that the check accepts. Every address lies in just one of them, and
-// that one has the number of its walk. Refusals: the check's, 1 to 10, then 14.
+// that one has the number of its walk. Refusals: the check's, 1 to 10 and 19, then 14.
 #[no_mangle]
 pub extern "C" fn corbastrigo_list(map: &[u8], out: &mut [u8], written: &mut usize) -> u8
     ensures { λ r. ⌜ Writes (listOf (now (map .entry)) 128) (now (out .entry)) (now (out .exit)) r (now (written .entry) ∷ []) (now (written .exit) ∷ []) ⌝ }
@@ -90,7 +91,7 @@ pub extern "C" fn corbastrigo_list(map: &[u8], out: &mut [u8], written: &mut usi
     hand_bytes(asmap_list::list(map, out), written)
 }
 
-// Says how many bytes the listing of a map needs. Refusals: the check's, 1 to 10.
+// Says how many bytes the listing of a map needs. Refusals: the check's, 1 to 10 and 19.
 #[no_mangle]
 pub extern "C" fn corbastrigo_list_bytes(map: &[u8], bytes: &mut usize) -> u8
     ensures { λ r. ⌜ Hands (bytesNeeded (neededOf (now (map .entry)) 128)) r (now (bytes .entry) ∷ []) (now (bytes .exit) ∷ []) ⌝ }
@@ -99,8 +100,8 @@ pub extern "C" fn corbastrigo_list_bytes(map: &[u8], bytes: &mut usize) -> u8
 }
 
 // Compares two maps that the check accepts, for every address: a record of 28 bytes for each prefix on which they differ. An address lies in a record
-// exactly where its two walks end with different numbers, and that record carries both. Refusals: the old map's check, 1 to 10; the new map's, 101 to
-// 110, the check's number and 100 more; then 14.
+// exactly where its two walks end with different numbers, and that record carries both. Refusals: the old map's check, 1 to 10 and 19; the new
+// map's, 101 to 110 and 119, the check's number and 100 more; then 14.
 #[no_mangle]
 pub extern "C" fn corbastrigo_compare(
     old_map: &[u8],

@@ -13,7 +13,7 @@ use answer_groups::grouping_of;
 use asmap_records::Answer;
 use peer_lists::Refusal;
 
-// The page, with a map or none. Refusals 13, 12, 13, with a map the check's, 1 to 10, then 14.
+// The page, with a map or none. Refusals 13, 12, 13, with a map the check's, 1 to 10 and 19, then 14.
 #[no_mangle]
 pub extern "C" fn corbastrigo_page(
     candidates: &[u8],

@@ -19,7 +19,7 @@ use answer_maps::hand_stop;
 use answer_maps::hand_verdict;
 use answer_maps::hand_walk;
 
-// Checks a map over the width's address bits. Refusals 18, then 1 to 10.
+// Checks a map over the width's address bits. Refusals 18, then 1 to 10 and 19.
 #[no_mangle]
 pub extern "C" fn corbastrigo_sanity_check_bits(
     map: &[u8],

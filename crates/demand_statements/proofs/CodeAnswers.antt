@@ -1,7 +1,7 @@
 -- The numbers of reading and writing codes and instructions.
 -- Assumes nothing.
 use Prim.Native.Nat.{ℕ, zero, suc, _+_, _*_, _≤_, _<_}
-use mathlib.Core.Path.{_≡_, _∙_, refl, ap}
+use mathlib.Core.Path.{_≡_, _∙_, refl, sym, ap, subst}
 use mathlib.Core.Bool.{Bool, true, false, _&&_}
 use mathlib.Core.Logic.{_⊎_, inl, inr}
 use mathlib.Core.List.{List, []}
@@ -9,7 +9,7 @@ use native.Mathlib.Omega.{arith}
 use borrow.Author.Tests.{ltb-true, lt-ltb, le-ltb, le-leb, lt-leb}
 use lib.Dec.{ltb, leb}
 use lib.ListN.{length, drop, drop-of-length-le}
-use Rattle.asmap_program.specs.Map.{limit, Fetched, Whole, CutOpcode, CutOperand, Part, Opcode, Operand}
+use Rattle.asmap_program.specs.Map.{limit, Fetched, Whole, CutOpcode, CutOperand, Part, Opcode, Operand, cutReason}
 use Rattle.asmap_program.specs.Core.{Read}
 use Rattle.asmap_codes.specs.Bits.{mapBits}
 use Rattle.asmap_codes.specs.Row.{Row, typeRow, operandRow, span, inRange}
@@ -19,7 +19,6 @@ use Rattle.asmap_codes.specs.declared.Code.the-variants.{Value, Cut}
 use Rattle.asmap_codes.specs.Code.{code, codeAt, answered, partFrom, readCode}
 use Rattle.asmap_codes.specs.Instruction.{answeredWhole, fetchAt, withOpcode, readInstruction}
 use Rattle.asmap_codes.proofs.BitLaws.{length-mapBits}
-use Rattle.asmap_codes.proofs.Inside.{cut-number}
 use Rattle.asmap_encode.specs.declared.Word.{Word}
 use Rattle.asmap_encode.specs.declared.Written.the-variants.{Bits, Refused}
 use Rattle.asmap_encode.specs.Write.{puts, none, pickWritten, writeCode, writeInstruction}
@@ -27,72 +26,105 @@ use Rattle.answer_outcome.specs.Outcome.{Outcome, Done, No, Hands}
 use Rattle.answer_codes.specs.Codes.{codeRead, instructionRead, bitsWritten}
 use Rattle.answers.specs.Promise.{CoreCode}
 use Rattle.demand_statements.specs.Same.{CoreReads}
-use Rattle.demand_statements.specs.AnyInput.{Reads, Writes, WritesInstruction, leastOperand, greatestOperand}
+use Rattle.demand_statements.specs.AnyInput.{Reads, ReadsInstruction, Writes, WritesInstruction, leastOperand, greatestOperand}
 use Rattle.demand_statements.proofs.AnswerLaws.{kept, refused-as, done-as}
 
 -- ---- reading
 
--- what a read of a map comes to, by whether the map is too long
-data Outcomes : Bool → Outcome → Type 0 where
-  long : Outcomes true (No 1)
-  cut : Outcomes false (No 4)
-  found : {ns : List ℕ} → Outcomes false (Done ns)
+-- what a read of a map comes to, by whether the map is too long; C: the numbers of its cuts
+data Outcomes (C : ℕ → Type 0) : Bool → Outcome → Type 0 where
+  long : Outcomes C true (No 1)
+  cut : {n : ℕ} → C n → Outcomes C false (No n)
+  found : {ns : List ℕ} → Outcomes C false (Done ns)
 
-read-code : (p : Part) (b : Bool) (c : Code) → Outcomes b (codeRead (answered p b c))
-unfolding codeRead
-read-code p true c = long
-read-code p false (Value v n) = found
-read-code Opcode false Cut = cut
-read-code Operand false Cut = cut
-
-read-instruction : (b : Bool) (f : Fetched) → Outcomes b (instructionRead (answeredWhole b f))
-unfolding instructionRead
-read-instruction true f = long
-read-instruction false (Whole i) = found
-read-instruction false CutOpcode = cut
-read-instruction false (CutOperand op) = cut
-
-numbers : {b : Bool} {o : Outcome} {r : ℕ} {lent left : List ℕ} → Outcomes b o → Hands o r lent left → (r ≡ 0) ⊎ ((r ≡ 1) ⊎ (r ≡ 4))
+numbers : {C : ℕ → Type 0} {b : Bool} {o : Outcome} {r : ℕ} {lent left : List ℕ} → Outcomes C b o → Hands o r lent left → (r ≡ 0) ⊎ ((r ≡ 1) ⊎ C r)
 numbers long h = inr (inl (refused-as _ refl h))
-numbers cut h = inr (inr (refused-as _ refl h))
+numbers {C} (cut q) h = inr (inr (subst C (sym (refused-as _ refl h)) q))
 numbers found h = inl (done-as _ refl h)
 
-only-long : {b : Bool} {o : Outcome} {r : ℕ} {lent left : List ℕ} → Outcomes b o → Hands o r lent left → r ≡ 1 → b ≡ true
-only-long long h z = refl
-only-long cut h z = let k = refused-as _ refl h in absurd (omega arith)
-only-long found h z = let k = done-as _ refl h in absurd (omega arith)
+only-long : {C : ℕ → Type 0} {b : Bool} {o : Outcome} {r : ℕ} {lent left : List ℕ} → ((n : ℕ) → C n → n ≡ 1 → ⊥)
+    → Outcomes C b o → Hands o r lent left → r ≡ 1 → b ≡ true
+only-long others long h z = refl
+only-long others (cut {n} q) h z = absurd (others n q (sym (refused-as _ refl h) ∙ z))
+only-long others found h z = let k = done-as _ refl h in absurd (omega arith)
+
+-- what every read says, of a code or of an instruction
+record Answered (C : ℕ → Type 0) (m : List ℕ) (r : ℕ) (entry exit : List ℕ) : Type 0 where
+  numbers : (r ≡ 0) ⊎ ((r ≡ 1) ⊎ C r)
+  too-long : 16777216 < length m → r ≡ 1
+  only-then : r ≡ 1 → 16777216 < length m
+  untouched : (r ≡ 0 → ⊥) → exit ≡ entry
+
+-- o: what the read comes to by whether the map is too long; no cut has the number 1
+read-answered : (C : ℕ → Type 0) → ((n : ℕ) → C n → n ≡ 1 → ⊥) → (m : List ℕ) (o : Bool → Outcome) {r : ℕ} {entry exit : List ℕ} → o true ≡ No 1
+    → Outcomes C (ltb limit (length m)) (o (ltb limit (length m))) → Hands (o (ltb limit (length m))) r entry exit → Answered C m r entry exit
+read-answered C others m o one k h = record {
+  numbers = numbers k h;
+  too-long = λ l. refused-as _ (ap o (lt-ltb limit (length m) l) ∙ one) h;
+  only-then = λ z. ltb-true limit (length m) (only-long others k h z);
+  untouched = kept _ h;
+}
+
+-- of a map within the limit
+read-cut : (m : List ℕ) (o : Bool → Outcome) {r k : ℕ} {entry exit : List ℕ} → Hands (o (ltb limit (length m))) r entry exit
+    → length m ≤ 16777216 → o false ≡ No k → r ≡ k
+read-cut m o h l e = refused-as _ (ap o (le-ltb limit (length m) l) ∙ e) h
 
 -- nothing can be read at or past the end
 nothing : (m : List ℕ) (at : ℕ) → 8 * length m ≤ at → drop at (mapBits m) ≡ []
 nothing m at h = drop-of-length-le (mapBits m) {i = at} (omega (arith, length-mapBits m))
 
--- o: what the read comes to by whether the map is too long
-reads : (m : List ℕ) (at : ℕ) (o : Bool → Outcome) {r : ℕ} {entry exit : List ℕ} → o true ≡ No 1 → (8 * length m ≤ at → o false ≡ No 4)
-    → Outcomes (ltb limit (length m)) (o (ltb limit (length m))) → Hands (o (ltb limit (length m))) r entry exit → Reads m at r entry exit
-reads m at o one four k h = record {
-  numbers = numbers k h;
-  too-long = λ l. refused-as _ (ap o (lt-ltb limit (length m) l) ∙ one) h;
-  only-then = λ z. ltb-true limit (length m) (only-long k h z);
-  past-the-end = λ l e. refused-as _ (ap o (le-ltb limit (length m) l) ∙ four e) h;
-  untouched = kept _ h;
-}
+read-code : (p : Part) (b : Bool) (c : Code) → Outcomes (λ n. n ≡ cutReason p) b (codeRead (answered p b c))
+unfolding codeRead
+read-code p true c = long
+read-code p false (Value v n) = found
+read-code p false Cut = cut refl
+
+not-1 : (p : Part) → cutReason p ≡ 1 → ⊥
+not-1 Opcode e = absurd (omega arith)
+not-1 Operand e = absurd (omega arith)
 
 -- a row's codes are cut where there are no bits
 pub code-reads : (m : List ℕ) (at : ℕ) (row : Row) {r : ℕ} {entry exit : List ℕ} → code (row .sizes) (row .least) at [] ≡ Cut
-    → Hands (codeRead (readCode m at row)) r entry exit → Reads m at r entry exit
+    → Hands (codeRead (readCode m at row)) r entry exit → Reads (cutReason (partFrom (row .least))) m at r entry exit
 unfolding codeRead
 code-reads m at row e h =
     let p = partFrom (row .least) in
-    reads m at (λ b. codeRead (answered p b (codeAt m at row))) refl
-    (λ l. ap (λ (c : Code). codeRead (answered p false c)) (ap (code (row .sizes) (row .least) at) (nothing m at l) ∙ e) ∙ ap No (cut-number (row .least)))
-    (read-code p _ (codeAt m at row)) h
+    let o : Bool → Outcome = λ (b : Bool). codeRead (answered p b (codeAt m at row)) in
+    let a = read-answered (λ n. n ≡ cutReason p) (λ n q z. not-1 p (sym q ∙ z)) m o refl (read-code p _ (codeAt m at row)) h in
+    record {
+      numbers = a .numbers;
+      too-long = a .too-long;
+      only-then = a .only-then;
+      past-the-end = λ l k. read-cut m o h l (ap (λ (c : Code). codeRead (answered p false c)) (ap (code (row .sizes) (row .least) at) (nothing m at k) ∙ e));
+      untouched = a .untouched;
+    }
 
-pub instruction-reads : (m : List ℕ) (at : ℕ) {r : ℕ} {entry exit : List ℕ} → Hands (instructionRead (readInstruction m at)) r entry exit → Reads m at r entry exit
+read-instruction : (b : Bool) (f : Fetched) → Outcomes (λ n. (n ≡ 4) ⊎ (n ≡ 19)) b (instructionRead (answeredWhole b f))
+unfolding instructionRead
+read-instruction true f = long
+read-instruction false (Whole i) = found
+read-instruction false CutOpcode = cut (inl refl)
+read-instruction false (CutOperand op) = cut (inr refl)
+
+neither-1 : (n : ℕ) → (n ≡ 4) ⊎ (n ≡ 19) → n ≡ 1 → ⊥
+neither-1 n (inl q) z = absurd (omega arith)
+neither-1 n (inr q) z = absurd (omega arith)
+
+pub instruction-reads : (m : List ℕ) (at : ℕ) {r : ℕ} {entry exit : List ℕ} → Hands (instructionRead (readInstruction m at)) r entry exit
+    → ReadsInstruction m at r entry exit
 unfolding instructionRead readInstruction fetchAt
 instruction-reads m at h =
-    reads m at (λ b. instructionRead (answeredWhole b (fetchAt m at))) refl
-    (λ l. ap (λ (c : Code). instructionRead (answeredWhole false (withOpcode m at c))) (ap (code (typeRow .sizes) (typeRow .least) at) (nothing m at l)))
-    (read-instruction _ (fetchAt m at)) h
+    let o : Bool → Outcome = λ (b : Bool). instructionRead (answeredWhole b (fetchAt m at)) in
+    let a = read-answered (λ n. (n ≡ 4) ⊎ (n ≡ 19)) neither-1 m o refl (read-instruction _ (fetchAt m at)) h in
+    record {
+      numbers = a .numbers;
+      too-long = a .too-long;
+      only-then = a .only-then;
+      past-the-end = λ l k.
+          read-cut m o h l (ap (λ (c : Code). instructionRead (answeredWhole false (withOpcode m at c))) (ap (code (typeRow .sizes) (typeRow .least) at) (nothing m at k)));
+      untouched = a .untouched;
+    }
 
 -- ---- writing
 

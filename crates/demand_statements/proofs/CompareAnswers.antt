@@ -12,7 +12,7 @@ use lib.Seq.{drop-append-seam}
 use borrow.Author.Tests.{lt-ltb, le-ltb}
 use Rattle.asmap_program.specs.declared.Verdict.{Verdict}
 use Rattle.asmap_program.specs.declared.Verdict.the-variants.{Accepted, Refused}
-use Rattle.asmap_check.specs.Check.{checkOf}
+use Rattle.asmap_check.specs.Check.{checkOf, Reason}
 use Rattle.asmap_records.specs.Output.{Made, refuse, within, answerOf, leaves}
 use Rattle.prefix_changes.specs.Change.{Change}
 use Rattle.prefix_changes.specs.Record.{changeRecordsOf, firstChanged}
@@ -26,29 +26,34 @@ use Rattle.answer_outcome.specs.Outcome.{handed, IsDone, Hands}
 use Rattle.answer_maps.specs.Maps.{walkMade}
 use Rattle.answer_bytes.specs.Bytes.{bytesWritten, bytesNeeded, Writes, Finds}
 use Rattle.answers.proofs.NeverZeroMaps.{map-numbers, compare-numbers, find-numbers}
-use Rattle.demand_statements.specs.AnyInput.{Changes, FindsFirst}
+use Rattle.demand_statements.specs.AnyInput.{CheckNumber, NewMapNumber, Changes, FindsFirst}
 use Rattle.demand_statements.specs.Agreed.{AgreedWalks}
 use Rattle.demand_statements.proofs.AnswerLaws.{kept, numbered, refused-as, done-as}
 use Rattle.demand_statements.proofs.TripLaws.{wrote, left-alone}
 use Rattle.demand_statements.proofs.WalkLaws.{has-bits, Ends}
+use Rattle.demand_statements.proofs.MapAnswers.{reason-number, number-1}
 use Rattle.demand_statements.proofs.ListAnswers.{walk-number}
 
 -- a number that either check, or a room too short, gives
 abbrev OfTwo : ℕ → Type 0
-OfTwo n = (n ≤ 10) ⊎ ((n ≡ 14) ⊎ ((101 ≤ n) × (n ≤ 110)))
+OfTwo n = CheckNumber n ⊎ ((n ≡ 14) ⊎ NewMapNumber n)
 
-of-two : {r : ℕ} → (r ≡ 0) ⊎ OfTwo r → OfTwo r
-of-two (inl z) = inl (omega arith)
-of-two (inr k) = k
+-- the check's numbers, of the old map and of the new one
+of-old : (n : ℕ) → Reason n → OfTwo n
+of-old n h = inl (reason-number n h)
+
+of-new : (n : ℕ) → Reason n → OfTwo (100 + n)
+of-new n (inl h) = inr (inr (inl (omega arith, omega arith)))
+of-new n (inr e) = inr (inr (inr (omega arith)))
 
 -- ---- the comparison
 
 pub changed : (m n : List ℕ) (w : ℕ) (o o′ : List ℕ) {r written written′ : ℕ} → Writes (compareOf m n w) o o′ r (written ∷ []) (written′ ∷ []) → Changes m n w o o′ r written written′
 unfolding bytesWritten
 changed m n w o o′ v = record {
-  numbers = of-two (numbered OfTwo _
-      (compare-numbers OfTwo m n w (map-numbers OfTwo (λ k l h. inl h) m w (inl (omega arith)))
-      (map-numbers (λ k. OfTwo (100 + k)) (λ k l h. inr (inr (omega arith, omega arith))) n w (inr (inr (omega arith, omega arith)))) (length o) (inr (inl refl))) (v .hands));
+  numbers = numbered OfTwo _
+      (compare-numbers OfTwo m n w (map-numbers OfTwo of-old m w (inl number-1))
+      (map-numbers (λ k. OfTwo (100 + k)) of-new n w (inr (inr (inl (omega arith, omega arith))))) (length o) (inr (inl refl))) (v .hands);
   old-refused = λ k e. refused-as _ (ap (λ (x : Comparison). bytesWritten (answerOf (within (length o) (recordsMade x)))) (old-refused m n w k e)) (v .hands);
   new-refused = λ c d k e f. refused-as _ (ap (λ (x : Comparison). bytesWritten (answerOf (within (length o) (recordsMade x)))) (new-refused m n w c d k e f)) (v .hands);
   past = λ z. wrote (compareOf m n w) v z .past;
@@ -85,9 +90,9 @@ left-finds (Refuses k) o o′ w n = w .output
 pub found : (m n : List ℕ) (w : ℕ) (o o′ : List ℕ) {r bytes bytes′ : ℕ} → Finds (comparison m n w) o o′ r (bytes ∷ []) (bytes′ ∷ []) → FindsFirst m n w o o′ r bytes bytes′
 unfolding bytesNeeded refuse
 found m n w o o′ {r} {bytes} {bytes′} v = record {
-  numbers = of-two (numbered OfTwo _
-      (find-numbers OfTwo m n w (map-numbers OfTwo (λ k l h. inl h) m w (inl (omega arith)))
-      (map-numbers (λ k. OfTwo (100 + k)) (λ k l h. inr (inr (omega arith, omega arith))) n w (inr (inr (omega arith, omega arith)))) (length o) (inr (inl refl))) (v .hands));
+  numbers = numbered OfTwo _
+      (find-numbers OfTwo m n w (map-numbers OfTwo of-old m w (inl number-1))
+      (map-numbers (λ k. OfTwo (100 + k)) of-new n w (inr (inr (inl (omega arith, omega arith))))) (length o) (inr (inl refl))) (v .hands);
   old-refused = λ k e. refused-as _ (ap (λ (x : Comparison). bytesNeeded (neededWith x (within (length o) (firstMade x)))) (old-refused m n w k e)) (v .hands);
   new-refused = λ c d k e f. refused-as _ (ap (λ (x : Comparison). bytesNeeded (neededWith x (within (length o) (firstMade x)))) (new-refused m n w c d k e f)) (v .hands);
   answered = λ c d c′ d′ e f l.

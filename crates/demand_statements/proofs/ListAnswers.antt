@@ -35,12 +35,12 @@ use Rattle.answer_maps.specs.Maps.{walkMade}
 use Rattle.answer_bytes.specs.Bytes.{bytesNeeded, Writes}
 use Rattle.answers.specs.Promise.{Finished}
 use Rattle.answers.proofs.NeverZeroMaps.{map-numbers, list-numbers, length-numbers}
-use Rattle.demand_statements.specs.AnyInput.{Lists, Needs}
+use Rattle.demand_statements.specs.AnyInput.{CheckNumber, Lists, Needs}
 use Rattle.demand_statements.specs.Listed.{address, first, prefix, past, number, Tiled, InOne, ListedWalk, ListedWithRoom}
 use Rattle.demand_statements.proofs.AnswerLaws.{kept, numbered, refused-as, done-as}
 use Rattle.demand_statements.proofs.TripLaws.{wrote, has-room, no-room}
 use Rattle.demand_statements.proofs.WalkLaws.{has-bits, Ends}
-use Rattle.demand_statements.proofs.MapAnswers.{at-most-10, CheckOr14, by-check}
+use Rattle.demand_statements.proofs.MapAnswers.{reason-number, number-1, CheckOr14, by-check}
 use Rattle.demand_statements.proofs.ListBytes.{Reads, reads, in-front, address-number}
 
 -- ---- any input
@@ -61,7 +61,7 @@ lists m w o o′ h =
 pub needs : (m : List ℕ) (w : ℕ) {r : ℕ} {entry exit : List ℕ} → Hands (bytesNeeded (neededOf m w)) r entry exit → Needs m w r entry exit
 unfolding bytesNeeded
 needs m w h = record {
-  numbers = at-most-10 (numbered (λ n. n ≤ 10) _ (length-numbers (λ n. n ≤ 10) m w (map-numbers (λ n. n ≤ 10) (λ n l k. k) m w (omega arith))) h);
+  numbers = numbered CheckNumber _ (length-numbers CheckNumber m w (map-numbers CheckNumber reason-number m w number-1)) h;
   accepted = λ c d e. done-as _ (ap (λ (x : Result). bytesNeeded (bytesOf x)) (made m w c d e)) h;
   refused = λ n e. refused-as _ (ap (λ (x : Result). bytesNeeded (bytesOf x)) (not-made m w n e)) h;
   untouched = kept _ h;

@@ -12,14 +12,17 @@ use lib.Dec.{ltb, eqb}
 use lib.ListN.{length, drop}
 use Rattle.asmap_program.specs.declared.Verdict.{Verdict}
 use Rattle.asmap_program.specs.declared.Verdict.the-variants.{Accepted, Refused}
-use Rattle.asmap_program.specs.Map.{limit}
+use Rattle.asmap_program.specs.declared.Kind.{Kind}
+use Rattle.asmap_program.specs.Map.{limit, addressBit}
+use Rattle.asmap_program.specs.Demand.{Answers, Aborts}
+use Rattle.asmap_program.proofs.Default.{ends-either-way, aborted-gives-zero}
 use Rattle.asmap_program.specs.Walk.{Walked}
 use Rattle.asmap_program.specs.Check.{check, StopsAt, stopOf}
 use Rattle.asmap_program.proofs.Stop.{stops-at, stop-inside}
 use Rattle.asmap_codes.specs.Instruction.{mapOf}
 use Rattle.asmap_codes.proofs.MapLaws.{laws, map-bits}
 use Rattle.asmap_check.specs.declared.Stopped.the-variants.{At}
-use Rattle.asmap_check.specs.Check.{unlessLong, checkOf, reasonOf, stopsUnlessLong, stoppedOf}
+use Rattle.asmap_check.specs.Check.{unlessLong, checkOf, Reason, reasonOf, stopsUnlessLong, stoppedOf}
 use Rattle.asmap_check.proofs.Limit.{checked}
 use Rattle.asmap_walk_bits.specs.declared.Ending.{Ending}
 use Rattle.asmap_walk.specs.declared.Interpreted.{Interpreted}
@@ -36,19 +39,27 @@ use Rattle.answer_maps.specs.Maps.{mapChecked, checkStopped, kindNumber, endNum
 use Rattle.answer_bytes.specs.Bytes.{bytesWritten, Writes}
 use Rattle.answers.proofs.Handing.{Refuses}
 use Rattle.answers.proofs.NeverZeroMaps.{check-numbers, map-numbers, unpack-numbers, pack-numbers}
-use Rattle.demand_statements.specs.AnyInput.{Checks, Stops, Told, Walks, Unpacks, Packs}
+use Rattle.demand_statements.specs.AnyInput.{CheckNumber, Checks, Stops, Told, Walks, Unpacks, Packs}
 use Rattle.demand_statements.proofs.AnswerLaws.{kept, numbered, refused-as, done-as, handed-out, refused-by}
 use Rattle.demand_statements.proofs.TripLaws.{wrote, no-room, left-alone, unpack-made, unpack-size, unpack-answers}
 
 -- ---- the check
 
-pub at-most-10 : {r : ℕ} → (r ≡ 0) ⊎ (r ≤ 10) → r ≤ 10
-at-most-10 (inl z) = omega arith
-at-most-10 (inr l) = l
+-- a reason of the check is one of its numbers
+pub reason-number : (n : ℕ) → Reason n → CheckNumber n
+reason-number n (inl h) = inl (omega arith, h .1)
+reason-number n (inr e) = inr e
+
+pub number-1 : CheckNumber 1
+number-1 = inl (omega arith, omega arith)
+
+from-2 : (n : ℕ) → Reason n → 2 ≤ n
+from-2 n (inl h) = h .0
+from-2 n (inr e) = omega arith
 
 module _ (m : List ℕ) (w : ℕ) {r : ℕ} {entry exit : List ℕ} where
-  pub check-10 : Hands (mapChecked (checkOf m w)) r entry exit → r ≤ 10
-  check-10 h = at-most-10 (numbered (λ n. n ≤ 10) _ (map-numbers (λ n. n ≤ 10) (λ n l k. k) m w (omega arith)) h)
+  pub check-number : Hands (mapChecked (checkOf m w)) r entry exit → (r ≡ 0) ⊎ CheckNumber r
+  check-number h = numbered CheckNumber _ (map-numbers CheckNumber reason-number m w number-1) h
 
   -- 1 is for long maps
   long-only : Hands (mapChecked (checkOf m w)) r entry exit → r ≡ 1 → 16777216 < length m
@@ -60,13 +71,13 @@ module _ (m : List ℕ) (w : ℕ) {r : ℕ} {entry exit : List ℕ} where
 
       by : Dec (length m ≤ 16777216) → 16777216 < length m
       by (yes l) =
-          not-1 (numbered (λ n. 2 ≤ n) (mapChecked (check (mapOf m) w)) (check-numbers (λ n. 2 ≤ n) (λ n l k. l) (mapOf m) w) (rw (le-ltb limit (length m) l) at h))
+          not-1 (numbered (λ n. 2 ≤ n) (mapChecked (check (mapOf m) w)) (check-numbers (λ n. 2 ≤ n) from-2 (mapOf m) w) (rw (le-ltb limit (length m) l) at h))
       by (no l) = omega arith
 
   pub checks : Hands (mapChecked (checkOf m w)) r entry exit → Checks m w r entry exit
   unfolding mapChecked
   checks h = record {
-    numbers = check-10 h;
+    numbers = check-number h;
     accepted = λ c d e. handed-out (checkOf m w) e h;
     refused = λ n e. refused-by (checkOf m w) e h;
     too-long = λ l. refused-as _ (ap (λ (b : Bool). mapChecked (unlessLong b (check (mapOf m) w))) (lt-ltb limit (length m) l)) h;
@@ -131,10 +142,37 @@ ends-with false long e h z = absurd (h .zero-is-done z)
 ends-with true true e h z = absurd (h .zero-is-done z)
 ends-with true false e h z = let k = h .numbers in cc
 
-told : (v : Walked) {kind number count bits : ℕ} → kind ∷ number ∷ count ∷ bits ∷ [] ≡ endNumbers (summary v) → Told v kind number count bits
-told v {kind} e =
+-- a kind with neither of the numbers 1 and 2 is an abort
+aborts : (k : Kind) {kind : ℕ} → kind ≡ kindNumber k → kind ≢ 1 → kind ≢ 2 → Aborts k
+aborts k {kind} e one two = by (ends-either-way k)
+  where
+    by : Answers k ⊎ Aborts k → Aborts k
+    by (inl (inl q)) = absurd (one (e ∙ ap kindNumber q))
+    by (inl (inr q)) = absurd (two (e ∙ ap kindNumber q))
+    by (inr a) = a
+
+-- v: a walk, whose number is 0 where it aborts
+told : (v : Walked) → (Aborts (v .kind) → v .number ≡ 0) → {kind number count bits : ℕ} → kind ∷ number ∷ count ∷ bits ∷ [] ≡ endNumbers (summary v)
+    → Told v kind number count bits
+told v zero {kind} {number} e =
     let k : kind ≡ kindNumber (v .kind) = cc in
-    record { returned = λ q. k ∙ ap kindNumber q; differed = λ q. k ∙ ap kindNumber q; aborted = λ q. k ∙ ap kindNumber q; same-number = cc; same-count = cc; same-bits = cc }
+    let n : number ≡ v .number = cc in
+    record {
+      returned = λ q. k ∙ ap kindNumber q;
+      differed = λ q. k ∙ ap kindNumber q;
+      too-few-bits = λ q. k ∙ ap kindNumber q;
+      opcode-cut = λ q. k ∙ ap kindNumber q;
+      operand-cut = λ q. k ∙ ap kindNumber q;
+      abort-gives-0 = λ one two. n ∙ zero (aborts (v .kind) k one two);
+      same-number = n;
+      same-count = cc;
+      same-bits = cc;
+    }
+
+-- the defined walk is such a walk
+zero-of : (m a : List ℕ) (w : ℕ) → Aborts (walkOf m a w .kind) → walkOf m a w .number ≡ 0
+unfolding walkOf
+zero-of m a w = aborted-gives-zero (addressBit a) (mapOf m) (laws m) w
 
 -- w: the address bits, which are whole bytes
 pub walks : (m a : List ℕ) (w : ℕ) → 8 * (w / 8) ≡ w → {r kind number count bits : ℕ} {entry : List ℕ}
@@ -150,7 +188,7 @@ walks m a w whole h =
       no-address = λ n. refused-as _ (ap (λ (b : Bool). walkMade (by b)) (ne-eqb (8 * length a) w (λ z. n (omega arith)))) h;
       too-long = λ l k. refused-as _ (enough l ∙ ap (λ (b : Bool). walkMade (refusedIf b 1 (Ended e))) (lt-ltb limit (length m) k)) h;
       answered = λ l k. done-as _ (enough l ∙ ap (λ (b : Bool). walkMade (refusedIf b 1 (Ended e))) (le-ltb limit (length m) k)) h;
-      told = λ z. told (walkOf m a w) (ends-with (eqb (8 * length a) w) long e h z);
+      told = λ z. told (walkOf m a w) (zero-of m a w) (ends-with (eqb (8 * length a) w) long e h z);
       untouched = kept _ h;
     }
 
@@ -160,31 +198,27 @@ over-128 m a {r} {lent} {left} h = subst (λ (x : Interpreted). Hands (walkMade 
 
 -- ---- unpack and pack
 
-check-or-14 : {r : ℕ} → (r ≡ 0) ⊎ ((r ≤ 10) ⊎ (r ≡ 14)) → (r ≤ 10) ⊎ (r ≡ 14)
-check-or-14 (inl z) = inl (omega arith)
-check-or-14 (inr k) = k
-
 not-made : (m : List ℕ) (w n : ℕ) → checkOf m w ≡ Refused n → unpackOf m w ≡ No n
 unfolding unpackOf
 not-made m w n e = rw e
 
 -- A call that writes what is made by the check's verdict, in a room as long as o.
 pub record ByCheck (m : List ℕ) (w : ℕ) (o o′ : List ℕ) (r written written′ : ℕ) : Type 0 where
-  pub numbers : (r ≤ 10) ⊎ (r ≡ 14)
+  pub numbers : (r ≡ 0) ⊎ (CheckNumber r ⊎ (r ≡ 14))
   pub refused : (n : ℕ) → checkOf m w ≡ Refused n → r ≡ n
   pub past : r ≡ 0 → drop written′ o′ ≡ drop written′ o
   pub untouched : (r ≡ 0 → ⊥) → (o′ ≡ o) × (written′ ≡ written)
 
 -- a number that the check, or a room too short, gives
 abbrev pub CheckOr14 : ℕ → Type 0
-CheckOr14 n = (n ≤ 10) ⊎ (n ≡ 14)
+CheckOr14 n = CheckNumber n ⊎ (n ≡ 14)
 
 pub by-check : (m : List ℕ) (w : ℕ) (o o′ : List ℕ) {r written written′ : ℕ} (made : Result) → ((n : ℕ) → checkOf m w ≡ Refused n → made ≡ No n)
     → (CheckOr14 14 → Refuses CheckOr14 (mapChecked (checkOf m w)) → Refuses CheckOr14 (bytesWritten (answerOf (within (length o) made))))
     → Writes made o o′ r (written ∷ []) (written′ ∷ []) → ByCheck m w o o′ r written written′
 unfolding bytesWritten
 by-check m w o o′ made unmade numbers h = record {
-  numbers = check-or-14 (numbered CheckOr14 _ (numbers (inr refl) (map-numbers CheckOr14 (λ n l k. inl k) m w (inl (omega arith)))) (h .hands));
+  numbers = numbered CheckOr14 _ (numbers (inr refl) (map-numbers CheckOr14 (λ n k. inl (reason-number n k)) m w (inl number-1))) (h .hands);
   refused = λ n e. refused-as _ (ap (λ (x : Result). bytesWritten (answerOf (within (length o) x))) (unmade n e)) (h .hands);
   past = λ z. wrote made h z .past;
   untouched = left-alone made h;

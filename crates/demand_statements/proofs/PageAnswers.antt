@@ -42,6 +42,7 @@ use Rattle.demand_statements.specs.AnyInput.{Pages, LoadedPages}
 use Rattle.demand_statements.proofs.AnswerLaws.{numbered, refused-as}
 use Rattle.demand_statements.proofs.CandidateLaws.{address-at, prefix-at, candidates-valid, each-candidate}
 use Rattle.demand_statements.proofs.PickLaws.{unrefused, ends-at}
+use Rattle.demand_statements.proofs.MapAnswers.{number-1}
 use Rattle.demand_statements.proofs.PickAnswers.{refusal, of-map, map-passes, PickNumber, LoadedPick}
 use Rattle.demand_statements.proofs.PrintLaws.{printed-page}
 use Rattle.demand_statements.proofs.TripLaws as trip
@@ -133,7 +134,7 @@ loaded-pages m bytes o o′ w =
     let c = limitRefusal n in
     let made = pageCall c n bytes in
     record {
-      numbers = numbered LoadedPick _ (page-numbers LoadedPick (length o) bytes c n (inl refl) (inr (inl refl)) (inr (inr (inl refl))) (by-limit LoadedPick n (inr (inr (inr (omega arith, omega arith)))))) (w .hands);
+      numbers = numbered LoadedPick _ (page-numbers LoadedPick (length o) bytes c n (inl refl) (inr (inl refl)) (inr (inr (inl refl))) (by-limit LoadedPick n (inr (inr (inr number-1))))) (w .hands);
       past = λ z. trip.wrote made w z .past;
       untouched = trip.left-alone made w;
     }

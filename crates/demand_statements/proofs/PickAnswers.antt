@@ -30,28 +30,24 @@ use Rattle.answer_groups.specs.Groups.{groupingOf, groupFound, totalsOf, pickMa
 use Rattle.answer_groups.specs.Groups as call
 use Rattle.answers.proofs.NeverZeroGroups.{From, by-check, by-limit, group-numbers, pick-numbers}
 use Rattle.demand_statements.specs.Picked.{prefixAt, Grouped, ByMap, Picked}
-use Rattle.demand_statements.specs.AnyInput.{Usable, Groups, LoadedGroups, Picks, LoadedPicks}
+use Rattle.demand_statements.specs.AnyInput.{CheckNumber, Usable, Groups, LoadedGroups, Picks, LoadedPicks}
 use Rattle.demand_statements.proofs.AnswerLaws.{kept, numbered, refused-as, done-as}
 use Rattle.demand_statements.proofs.CandidateLaws.{candidate-passes, candidates-valid}
-use Rattle.demand_statements.proofs.MapAnswers.{check-10}
+use Rattle.demand_statements.proofs.MapAnswers.{reason-number, number-1, check-number}
 use Rattle.demand_statements.proofs.PickLaws.{unrefused, grouped, grouped-loaded, picked-as, picked-loaded}
 
--- what the check refuses with
-abbrev pub Checked : ℕ → Type 0
-Checked n = (1 ≤ n) × (n ≤ 10)
-
-pub refusal : (m : List ℕ) {r : ℕ} {entry exit : List ℕ} → Hands (mapChecked (checkOf m 128)) r entry exit → (r ≡ 0 → ⊥) → Checked r
-refusal m {r} h n = (some r n, check-10 m 128 h)
+pub refusal : (m : List ℕ) {r : ℕ} {entry exit : List ℕ} → Hands (mapChecked (checkOf m 128)) r entry exit → (r ≡ 0 → ⊥) → CheckNumber r
+refusal m {r} h n = some (check-number m 128 h)
   where
-    some : (r : ℕ) → (r ≡ 0 → ⊥) → 1 ≤ r
-    some zero n = absurd (n refl)
-    some (suc r) n = omega arith
+    some : (r ≡ 0) ⊎ CheckNumber r → CheckNumber r
+    some (inl z) = absurd (n z)
+    some (inr k) = k
 
 -- a call with a map says so
-pub of-map : (P : ℕ → Type 0) (has : ℕ) (m : List ℕ) → (has ≢ 0 → (n : ℕ) → Checked n → P n) → From P (checkRefusal (numbering (groupingOf has) m))
+pub of-map : (P : ℕ → Type 0) (has : ℕ) (m : List ℕ) → (has ≢ 0 → (n : ℕ) → CheckNumber n → P n) → From P (checkRefusal (numbering (groupingOf has) m))
 unfolding groupingOf
 of-map P zero m h = tt
-of-map P (suc k) m h = by-check P (byMap m) (h (λ z. omega arith) 1 (omega arith, omega arith)) (λ n l t. h (λ z. omega arith) n (omega arith, t))
+of-map P (suc k) m h = by-check P (byMap m) (h (λ z. omega arith) 1 number-1) (λ n q. h (λ z. omega arith) n (reason-number n q))
 
 -- nothing is wrong with a map that can be used
 pub map-passes : (has : ℕ) (m : List ℕ) → Usable has m → checkRefusal (numbering (groupingOf has) m) ≡ None
@@ -62,7 +58,7 @@ map-passes (suc k) m u = ap verdictRefusal (u (λ z. omega arith) .2)
 -- ---- a group
 
 abbrev GroupNumber : ℕ → ℕ → Type 0
-GroupNumber has n = (n ≡ 13) ⊎ ((has ≢ 0) × Checked n)
+GroupNumber has n = (n ≡ 13) ⊎ ((has ≢ 0) × CheckNumber n)
 
 none-there : (c : List ℕ) → length c ≢ 20 → candidateRefusal c ≡ Number 13
 unfolding valid
@@ -96,14 +92,14 @@ pub not-grouped : (m c : List ℕ) {r g : ℕ} {lent left : List ℕ} → Hands 
 not-grouped m c h n = (λ z. absurd (n z), record { numbers = inr (inr (refusal m h n)); untouched = λ k. refl })
 
 abbrev LoadedGroup : ℕ → Type 0
-LoadedGroup n = (n ≡ 13) ⊎ Checked n
+LoadedGroup n = (n ≡ 13) ⊎ CheckNumber n
 
 loaded-groups : (m c : List ℕ) {r : ℕ} {entry exit : List ℕ}
     → Hands (groupFound (netgroupUnchecked (numbering (groupingOf 1) m) c)) r entry exit → LoadedGroups r entry exit
 loaded-groups m c h =
     let n = numbering (groupingOf 1) m in
     record {
-      numbers = numbered LoadedGroup _ (group-numbers LoadedGroup (limitRefusal n) n c (inl refl) (by-limit LoadedGroup n (inr (omega arith, omega arith)))) h;
+      numbers = numbered LoadedGroup _ (group-numbers LoadedGroup (limitRefusal n) n c (inl refl) (by-limit LoadedGroup n (inr number-1))) h;
       untouched = kept _ h;
     }
 
@@ -117,10 +113,10 @@ loaded-concluded m c v z h w = (grouped-loaded (limitRefusal (numbering (groupin
 -- ---- a pick
 
 abbrev pub PickNumber : ℕ → ℕ → Type 0
-PickNumber has n = (n ≡ 12) ⊎ ((n ≡ 13) ⊎ ((n ≡ 14) ⊎ ((has ≢ 0) × Checked n)))
+PickNumber has n = (n ≡ 12) ⊎ ((n ≡ 13) ⊎ ((n ≡ 14) ⊎ ((has ≢ 0) × CheckNumber n)))
 
 abbrev pub LoadedPick : ℕ → Type 0
-LoadedPick n = (n ≡ 12) ⊎ ((n ≡ 13) ⊎ ((n ≡ 14) ⊎ Checked n))
+LoadedPick n = (n ≡ 12) ⊎ ((n ≡ 13) ⊎ ((n ≡ 14) ⊎ CheckNumber n))
 
 module _ (n : Numbering) (bytes occupied : List ℕ) (max : ℕ) (picks groups : List ℕ) where
   -- what a refusal leaves, by the reason
@@ -201,7 +197,7 @@ loaded-picks m bytes occupied max ps gs p =
     let o = limitRefusal n in
     let why = pickRefusal o bytes occupied max ps gs in
     record {
-      numbers = numbered LoadedPick _ (pick-numbers LoadedPick bytes occupied max ps gs o n (inl refl) (inr (inl refl)) (inr (inr (inl refl))) (by-limit LoadedPick n (inr (inr (inr (omega arith, omega arith)))))) (p .hands);
+      numbers = numbered LoadedPick _ (pick-numbers LoadedPick bytes occupied max ps gs o n (inl refl) (inr (inl refl)) (inr (inr (inl refl))) (by-limit LoadedPick n (inr (inr (inr number-1))))) (p .hands);
       untouched = kept _ (p .hands);
       picks-untouched = λ k. left-alone n bytes occupied max ps gs why p k .0;
       groups-untouched = λ k. left-alone n bytes occupied max ps gs why p k .1;

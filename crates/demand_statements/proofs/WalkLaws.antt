@@ -10,7 +10,7 @@ use borrow.Author.Tests.{eqb-true}
 use lib.Dec.{eqb}
 use lib.ListN.{length}
 use Rattle.asmap_program.specs.declared.Kind.{Kind}
-use Rattle.asmap_program.specs.declared.Kind.the-variants.{Returned, Differed, Aborted}
+use Rattle.asmap_program.specs.declared.Kind.the-variants.{Returned, Differed, OpcodeCut, OperandCut, TooFewBits}
 use Rattle.asmap_program.specs.declared.Verdict.the-variants.{Accepted}
 use Rattle.asmap_program.specs.Walk as Program
 use Rattle.asmap_program.specs.Demand.{EndsWith}
@@ -31,12 +31,16 @@ use Rattle.demand_statements.proofs.AnswerLaws.{accepted, answered}
 returned : (k : Kind) (n : ℕ) → n ≡ kindNumber k → n ≡ 1 → k ≡ Returned
 returned Returned n e z = refl
 returned Differed n e z = absurd (omega arith)
-returned Aborted n e z = absurd (omega arith)
+returned OpcodeCut n e z = absurd (omega arith)
+returned OperandCut n e z = absurd (omega arith)
+returned TooFewBits n e z = absurd (omega arith)
 
 differed : (k : Kind) (n : ℕ) → n ≡ kindNumber k → n ≡ 2 → k ≡ Differed
 differed Returned n e z = absurd (omega arith)
 differed Differed n e z = refl
-differed Aborted n e z = absurd (omega arith)
+differed OpcodeCut n e z = absurd (omega arith)
+differed OperandCut n e z = absurd (omega arith)
+differed TooFewBits n e z = absurd (omega arith)
 
 -- where a walk w ends, d being the default then
 ends-at : (v : Program.Walked) (kind number d : ℕ) → kind ≡ kindNumber (v .kind) → number ≡ v .number → EndsWith d v → EndsAt (v .read) kind number

@@ -6,7 +6,7 @@ use mathlib.Core.Path.{_≡_}
 use mathlib.Core.Logic.{_⊎_, _≢_}
 use mathlib.Core.List.{List, [], _∷_}
 use lib.ListN.{length, take, drop, getD}
-use Rattle.asmap_program.specs.declared.Kind.the-variants.{Returned, Differed, Aborted}
+use Rattle.asmap_program.specs.declared.Kind.the-variants.{Returned, Differed, OpcodeCut, OperandCut, TooFewBits}
 use Rattle.asmap_program.specs.declared.Verdict.the-variants.{Accepted, Refused}
 use Rattle.asmap_program.specs.Check.{StopsAt, stopOf}
 use Rattle.asmap_program.specs.Walk.{Walked}
@@ -18,11 +18,29 @@ use Rattle.asmap_walk_bits.specs.Walk.{walkOf}
 abbrev pub Untouched : ℕ → List ℕ → List ℕ → Type 0
 Untouched r entry exit = r ≢ 0 → exit ≡ entry
 
+-- The numbers with which the check refuses a map: 1 to 10, and 19 for a cut operand (document 02, CR 5).
+abbrev pub CheckNumber : ℕ → Type 0
+CheckNumber n = ((1 ≤ n) × (n ≤ 10)) ⊎ (n ≡ 19)
+
+-- The same with 100 more, for the new one of two maps.
+abbrev pub NewMapNumber : ℕ → Type 0
+NewMapNumber n = ((101 ≤ n) × (n ≤ 110)) ⊎ (n ≡ 119)
+
 -- ---- codes and instructions
 
--- Reading from bit `at` of the map m: 1 exactly for a map that is too long, else 4 at or past its end.
-pub record Reads (m : List ℕ) (at r : ℕ) (entry exit : List ℕ) : Type 0 where
-  pub numbers : (r ≡ 0) ⊎ ((r ≡ 1) ⊎ (r ≡ 4))
+-- Reading a code from bit `at` of the map m: 1 exactly for a map that is too long; else `cut` for a code that the map's end cuts, 4 for an opcode
+-- and 19 for an operand, also at the end and past it.
+pub record Reads (cut : ℕ) (m : List ℕ) (at r : ℕ) (entry exit : List ℕ) : Type 0 where
+  pub numbers : (r ≡ 0) ⊎ ((r ≡ 1) ⊎ (r ≡ cut))
+  pub too-long : 16777216 < length m → r ≡ 1
+  pub only-then : r ≡ 1 → 16777216 < length m
+  pub past-the-end : length m ≤ 16777216 → 8 * length m ≤ at → r ≡ cut
+  pub untouched : Untouched r entry exit
+
+-- Reading an instruction: 1 as before; else 4 where its opcode is cut, as it is at the end and past it, or 19 where its operand is. Which of the two,
+-- says `Cut`.
+pub record ReadsInstruction (m : List ℕ) (at r : ℕ) (entry exit : List ℕ) : Type 0 where
+  pub numbers : (r ≡ 0) ⊎ ((r ≡ 1) ⊎ ((r ≡ 4) ⊎ (r ≡ 19)))
   pub too-long : 16777216 < length m → r ≡ 1
   pub only-then : r ≡ 1 → 16777216 < length m
   pub past-the-end : length m ≤ 16777216 → 8 * length m ≤ at → r ≡ 4
@@ -55,9 +73,9 @@ pub record WritesInstruction (opcode operand r : ℕ) (entry exit : List ℕ) : 
 
 -- ---- check, walk, unpack, listing, pack; w: the address bits, which are 128 for a call that takes no width
 
--- The check: 0 to 10, as the defined check says, with its count and depth where it accepts; and 1 exactly for a map that is too long.
+-- The check: 0 or one of its numbers, as the defined check says, with its count and depth where it accepts; and 1 exactly for a map that is too long.
 pub record Checks (m : List ℕ) (w r : ℕ) (entry exit : List ℕ) : Type 0 where
-  pub numbers : r ≤ 10
+  pub numbers : (r ≡ 0) ⊎ CheckNumber r
   pub accepted : (c d : ℕ) → checkOf m w ≡ Accepted c d → (r ≡ 0) × (exit ≡ c ∷ d ∷ [])
   pub refused : (n : ℕ) → checkOf m w ≡ Refused n → r ≡ n
   pub too-long : 16777216 < length m → r ≡ 1
@@ -77,11 +95,15 @@ pub record Stops (m : List ℕ) (w r : ℕ) (entry : List ℕ) (reason place : �
   pub inside : r ≡ 0 → place ≤ 8 * length m
   pub untouched : Untouched r entry (reason ∷ place ∷ [])
 
--- The numbers of a walk: 1 for a RETURN, 2 for a difference, 3 for an abort; its number, the instructions read, the address bits read.
+-- The numbers of a walk: 1 for a RETURN, 2 for a difference; of an abort 3 for too few address bits, 4 for a cut opcode, 19 for a cut operand, and
+-- in each of these three the number 0. Its number, the instructions read, the address bits read.
 pub record Told (walk : Walked) (kind number count bits : ℕ) : Type 0 where
   pub returned : walk .kind ≡ Returned → kind ≡ 1
   pub differed : walk .kind ≡ Differed → kind ≡ 2
-  pub aborted : walk .kind ≡ Aborted → kind ≡ 3
+  pub too-few-bits : walk .kind ≡ TooFewBits → kind ≡ 3
+  pub opcode-cut : walk .kind ≡ OpcodeCut → kind ≡ 4
+  pub operand-cut : walk .kind ≡ OperandCut → kind ≡ 19
+  pub abort-gives-0 : kind ≢ 1 → kind ≢ 2 → number ≡ 0
   pub same-number : number ≡ walk .number
   pub same-count : count ≡ length (walk .read)
   pub same-bits : bits ≡ walk .bits
@@ -97,7 +119,7 @@ pub record Walks (m a : List ℕ) (w r : ℕ) (entry : List ℕ) (kind number co
 
 -- Unpack: the check's numbers, else 14 exactly where there is no room for 16 bytes for each of the c instructions.
 pub record Unpacks (m : List ℕ) (w : ℕ) (o o′ : List ℕ) (r written written′ : ℕ) : Type 0 where
-  pub numbers : (r ≤ 10) ⊎ (r ≡ 14)
+  pub numbers : (r ≡ 0) ⊎ (CheckNumber r ⊎ (r ≡ 14))
   pub refused : (n : ℕ) → checkOf m w ≡ Refused n → r ≡ n
   pub answered : (c d : ℕ) → checkOf m w ≡ Accepted c d → 16 * c ≤ length o → (r ≡ 0) × (written′ ≡ 16 * c)
   pub no-room : (c d : ℕ) → checkOf m w ≡ Accepted c d → length o < 16 * c → r ≡ 14
@@ -106,21 +128,21 @@ pub record Unpacks (m : List ℕ) (w : ℕ) (o o′ : List ℕ) (r written writt
 
 -- The listing: the check's numbers, else 14; with which room, says `Listed`.
 pub record Lists (m : List ℕ) (w : ℕ) (o o′ : List ℕ) (r written written′ : ℕ) : Type 0 where
-  pub numbers : (r ≤ 10) ⊎ (r ≡ 14)
+  pub numbers : (r ≡ 0) ⊎ (CheckNumber r ⊎ (r ≡ 14))
   pub refused : (n : ℕ) → checkOf m w ≡ Refused n → r ≡ n
   pub past : r ≡ 0 → drop written′ o′ ≡ drop written′ o
   pub untouched : r ≢ 0 → (o′ ≡ o) × (written′ ≡ written)
 
 -- How many bytes a listing needs: 0 for every map that the check accepts, else the check's numbers.
 pub record Needs (m : List ℕ) (w r : ℕ) (entry exit : List ℕ) : Type 0 where
-  pub numbers : r ≤ 10
+  pub numbers : (r ≡ 0) ⊎ CheckNumber r
   pub accepted : (c d : ℕ) → checkOf m w ≡ Accepted c d → r ≡ 0
   pub refused : (n : ℕ) → checkOf m w ≡ Refused n → r ≡ n
   pub untouched : Untouched r entry exit
 
 -- Two maps compared, m the old one and n the new one: the old map's numbers, the new one's with 100 more, else 14.
 pub record Changes (m n : List ℕ) (w : ℕ) (o o′ : List ℕ) (r written written′ : ℕ) : Type 0 where
-  pub numbers : (r ≤ 10) ⊎ ((r ≡ 14) ⊎ ((101 ≤ r) × (r ≤ 110)))
+  pub numbers : (r ≡ 0) ⊎ (CheckNumber r ⊎ ((r ≡ 14) ⊎ NewMapNumber r))
   pub old-refused : (k : ℕ) → checkOf m w ≡ Refused k → r ≡ k
   pub new-refused : (c d k : ℕ) → checkOf m w ≡ Accepted c d → checkOf n w ≡ Refused k → r ≡ 100 + k
   pub past : r ≡ 0 → drop written′ o′ ≡ drop written′ o
@@ -128,7 +150,7 @@ pub record Changes (m n : List ℕ) (w : ℕ) (o o′ : List ℕ) (r written wri
 
 -- How many bytes that needs, with o lent for the first address that differs: the same numbers, and 14 exactly where fewer than 16 bytes are lent.
 pub record FindsFirst (m n : List ℕ) (w : ℕ) (o o′ : List ℕ) (r bytes bytes′ : ℕ) : Type 0 where
-  pub numbers : (r ≤ 10) ⊎ ((r ≡ 14) ⊎ ((101 ≤ r) × (r ≤ 110)))
+  pub numbers : (r ≡ 0) ⊎ (CheckNumber r ⊎ ((r ≡ 14) ⊎ NewMapNumber r))
   pub old-refused : (k : ℕ) → checkOf m w ≡ Refused k → r ≡ k
   pub new-refused : (c d k : ℕ) → checkOf m w ≡ Accepted c d → checkOf n w ≡ Refused k → r ≡ 100 + k
   pub answered : (c d c′ d′ : ℕ) → checkOf m w ≡ Accepted c d → checkOf n w ≡ Accepted c′ d′ → 16 ≤ length o → r ≡ 0
@@ -170,14 +192,14 @@ Usable has m = has ≢ 0 → (c : ℕ) × (d : ℕ) × (checkOf m 128 ≡ Accept
 
 -- A group: 13, and always for what has not 20 bytes; then with a map the check's numbers; and 0 where nothing is wrong.
 pub record Groups (has : ℕ) (m candidate : List ℕ) (r : ℕ) (entry exit : List ℕ) : Type 0 where
-  pub numbers : (r ≡ 0) ⊎ ((r ≡ 13) ⊎ ((has ≢ 0) × ((1 ≤ r) × (r ≤ 10))))
+  pub numbers : (r ≡ 0) ⊎ ((r ≡ 13) ⊎ ((has ≢ 0) × CheckNumber r))
   pub no-candidate : length candidate ≢ 20 → r ≡ 13
   pub answered : length candidate ≡ 20 → Candidate candidate 0 → Usable has m → r ≡ 0
   pub untouched : Untouched r entry exit
 
 -- The same by a map that the caller checks first: the check's numbers come before 13.
 pub record LoadedGroups (r : ℕ) (entry exit : List ℕ) : Type 0 where
-  pub numbers : (r ≡ 0) ⊎ ((r ≡ 13) ⊎ ((1 ≤ r) × (r ≤ 10)))
+  pub numbers : (r ≡ 0) ⊎ ((r ≡ 13) ⊎ CheckNumber r)
   pub untouched : Untouched r entry exit
 
 -- The occupied scan for the group g: 12 exactly for more than 4,096 groups. What it says is so: at `place` stands the group and at no
@@ -195,7 +217,7 @@ pub record Scans (g : ℕ) (occupied : List ℕ) (r : ℕ) (entry : List ℕ) (f
 -- A pick: 13 for bytes that are no whole candidates, then 12 for more than 4,096 of them or of occupied groups; 14 where an output has
 -- less than min(max, candidates) places, so 0 only where both have; and 0 where nothing is wrong.
 pub record Picks (has : ℕ) (m candidates occupied : List ℕ) (max r : ℕ) (entry exit picks picks′ groups groups′ : List ℕ) : Type 0 where
-  pub numbers : (r ≡ 0) ⊎ ((r ≡ 12) ⊎ ((r ≡ 13) ⊎ ((r ≡ 14) ⊎ ((has ≢ 0) × ((1 ≤ r) × (r ≤ 10))))))
+  pub numbers : (r ≡ 0) ⊎ ((r ≡ 12) ⊎ ((r ≡ 13) ⊎ ((r ≡ 14) ⊎ ((has ≢ 0) × CheckNumber r))))
   pub no-candidates : length candidates % 20 ≢ 0 → r ≡ 13
   pub too-many : length candidates % 20 ≡ 0 → 4096 < length candidates / 20 → r ≡ 12
   pub too-occupied : length candidates % 20 ≡ 0 → length candidates / 20 ≤ 4096 → 4096 < length occupied → r ≡ 12
@@ -209,7 +231,7 @@ pub record Picks (has : ℕ) (m candidates occupied : List ℕ) (max r : ℕ) (e
 
 -- The same by a map that the caller checks first.
 pub record LoadedPicks (r : ℕ) (entry exit picks picks′ groups groups′ : List ℕ) : Type 0 where
-  pub numbers : (r ≡ 0) ⊎ ((r ≡ 12) ⊎ ((r ≡ 13) ⊎ ((r ≡ 14) ⊎ ((1 ≤ r) × (r ≤ 10)))))
+  pub numbers : (r ≡ 0) ⊎ ((r ≡ 12) ⊎ ((r ≡ 13) ⊎ ((r ≡ 14) ⊎ CheckNumber r)))
   pub untouched : Untouched r entry exit
   pub picks-untouched : Untouched r picks picks′
   pub groups-untouched : Untouched r groups groups′
@@ -217,7 +239,7 @@ pub record LoadedPicks (r : ℕ) (entry exit picks picks′ groups groups′ : L
 -- A page: 13 for bytes that are no whole candidates, then 12 for more than 4,096 of them; and 0 where nothing is wrong and the output has 25 bytes
 -- for each candidate, which is enough for any groups.
 pub record Pages (has : ℕ) (m candidates o o′ : List ℕ) (r written written′ : ℕ) : Type 0 where
-  pub numbers : (r ≡ 0) ⊎ ((r ≡ 12) ⊎ ((r ≡ 13) ⊎ ((r ≡ 14) ⊎ ((has ≢ 0) × ((1 ≤ r) × (r ≤ 10))))))
+  pub numbers : (r ≡ 0) ⊎ ((r ≡ 12) ⊎ ((r ≡ 13) ⊎ ((r ≡ 14) ⊎ ((has ≢ 0) × CheckNumber r))))
   pub no-candidates : length candidates % 20 ≢ 0 → r ≡ 13
   pub too-many : length candidates % 20 ≡ 0 → 4096 < length candidates / 20 → r ≡ 12
   pub answered : length candidates % 20 ≡ 0 → length candidates / 20 ≤ 4096 → ((i : ℕ) → i < length candidates / 20 → Candidate candidates i) → Usable has m
@@ -227,7 +249,7 @@ pub record Pages (has : ℕ) (m candidates o o′ : List ℕ) (r written written
 
 -- The same by a map that the caller checks first.
 pub record LoadedPages (o o′ : List ℕ) (r written written′ : ℕ) : Type 0 where
-  pub numbers : (r ≡ 0) ⊎ ((r ≡ 12) ⊎ ((r ≡ 13) ⊎ ((r ≡ 14) ⊎ ((1 ≤ r) × (r ≤ 10)))))
+  pub numbers : (r ≡ 0) ⊎ ((r ≡ 12) ⊎ ((r ≡ 13) ⊎ ((r ≡ 14) ⊎ CheckNumber r)))
   pub past : r ≡ 0 → drop written′ o′ ≡ drop written′ o
   pub untouched : r ≢ 0 → (o′ ≡ o) × (written′ ≡ written)
 

@@ -22,7 +22,7 @@ pub record EndsAt (read : List Instruction) (kind number : ℕ) : Type 0 where
   pub at-match : kind ≡ 2 → final .opcode ≡ 2
 
 -- The numbers of a walk of the map m by w bits of the address a, against the defined walk (`walkOf m a w`). It ended at a RETURN, 1, or at a MATCH
--- that differs, 2: there is no third kind, so it did not abort. Number, count and bits are the defined walk's, the count being how many
+-- that differs, 2, and so it did not abort. Number, count and bits are the defined walk's, the count being how many
 -- instructions that walk reads. A number 0 is that of a difference before any DEFAULT, opcode 3, was read. Each instruction read is in
 -- the map's unpacked list, the same in opcode, operand, place and length.
 pub record Walked (m a : List ℕ) (w kind number count bits : ℕ) : Type 0 where

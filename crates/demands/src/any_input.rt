@@ -6,7 +6,7 @@ ghost use Prim.Native.Nat.{_≤_};
 ghost use lib.ListN.{length};
 ghost use Rattle.asmap_codes.specs.Core.{fileOf};
 ghost use Rattle.demand_statements.specs.Same.{CoreReads};
-ghost use Rattle.demand_statements.specs.AnyInput.{Reads, Writes, WritesInstruction, Checks, Stops, Walks, Unpacks, Lists, Needs, Changes, FindsFirst, Packs, Scans, Filters, Relays};
+ghost use Rattle.demand_statements.specs.AnyInput.{Reads, ReadsInstruction, Writes, WritesInstruction, Checks, Stops, Walks, Unpacks, Lists, Needs, Changes, FindsFirst, Packs, Scans, Filters, Relays};
 use corbastrigo::codes::corbastrigo_decode_asn;
 use corbastrigo::codes::corbastrigo_decode_instruction;
 use corbastrigo::codes::corbastrigo_decode_jump;
@@ -34,7 +34,7 @@ use corbastrigo::maps::corbastrigo_unpack;
 
 // An opcode.
 pub fn opcode_read(map: &[u8], at: usize, value: &mut u32, next: &mut usize) -> u8
-    ensures { λ r. ⌜ Reads (now (map .entry)) at r (now (value .entry) ∷ now (next .entry) ∷ []) (now (value .exit) ∷ now (next .exit) ∷ []) ⌝ }
+    ensures { λ r. ⌜ Reads 4 (now (map .entry)) at r (now (value .entry) ∷ now (next .entry) ∷ []) (now (value .exit) ∷ now (next .exit) ∷ []) ⌝ }
     ensures core { λ r. ⌜ CoreReads (now (map .entry)) at r (now (value .exit)) (now (next .exit)) (fileOf (now (map .entry)) .decodeType at) ⌝ }
 {
     corbastrigo_decode_type(map, at, value, next)
@@ -42,7 +42,7 @@ pub fn opcode_read(map: &[u8], at: usize, value: &mut u32, next: &mut usize) -> 
 
 // An AS number.
 pub fn asn_read(map: &[u8], at: usize, value: &mut u32, next: &mut usize) -> u8
-    ensures { λ r. ⌜ Reads (now (map .entry)) at r (now (value .entry) ∷ now (next .entry) ∷ []) (now (value .exit) ∷ now (next .exit) ∷ []) ⌝ }
+    ensures { λ r. ⌜ Reads 19 (now (map .entry)) at r (now (value .entry) ∷ now (next .entry) ∷ []) (now (value .exit) ∷ now (next .exit) ∷ []) ⌝ }
     ensures core { λ r. ⌜ CoreReads (now (map .entry)) at r (now (value .exit)) (now (next .exit)) (fileOf (now (map .entry)) .decodeASN at) ⌝ }
 {
     corbastrigo_decode_asn(map, at, value, next)
@@ -50,7 +50,7 @@ pub fn asn_read(map: &[u8], at: usize, value: &mut u32, next: &mut usize) -> u8
 
 // A MATCH operand.
 pub fn match_read(map: &[u8], at: usize, value: &mut u32, next: &mut usize) -> u8
-    ensures { λ r. ⌜ Reads (now (map .entry)) at r (now (value .entry) ∷ now (next .entry) ∷ []) (now (value .exit) ∷ now (next .exit) ∷ []) ⌝ }
+    ensures { λ r. ⌜ Reads 19 (now (map .entry)) at r (now (value .entry) ∷ now (next .entry) ∷ []) (now (value .exit) ∷ now (next .exit) ∷ []) ⌝ }
     ensures core { λ r. ⌜ CoreReads (now (map .entry)) at r (now (value .exit)) (now (next .exit)) (fileOf (now (map .entry)) .decodeMatch at) ⌝ }
 {
     corbastrigo_decode_match(map, at, value, next)
@@ -58,7 +58,7 @@ pub fn match_read(map: &[u8], at: usize, value: &mut u32, next: &mut usize) -> u
 
 // A JUMP operand.
 pub fn jump_read(map: &[u8], at: usize, value: &mut u32, next: &mut usize) -> u8
-    ensures { λ r. ⌜ Reads (now (map .entry)) at r (now (value .entry) ∷ now (next .entry) ∷ []) (now (value .exit) ∷ now (next .exit) ∷ []) ⌝ }
+    ensures { λ r. ⌜ Reads 19 (now (map .entry)) at r (now (value .entry) ∷ now (next .entry) ∷ []) (now (value .exit) ∷ now (next .exit) ∷ []) ⌝ }
     ensures core { λ r. ⌜ CoreReads (now (map .entry)) at r (now (value .exit)) (now (next .exit)) (fileOf (now (map .entry)) .decodeJump at) ⌝ }
 {
     corbastrigo_decode_jump(map, at, value, next)
@@ -72,7 +72,7 @@ pub fn instruction_read(
     operand: &mut u32,
     size: &mut usize,
 ) -> u8
-    ensures { λ r. ⌜ Reads (now (map .entry)) at r (now (opcode .entry) ∷ now (operand .entry) ∷ now (size .entry) ∷ []) (now (opcode .exit) ∷ now (operand .exit) ∷ now (size .exit) ∷ []) ⌝ }
+    ensures { λ r. ⌜ ReadsInstruction (now (map .entry)) at r (now (opcode .entry) ∷ now (operand .entry) ∷ now (size .entry) ∷ []) (now (opcode .exit) ∷ now (operand .exit) ∷ now (size .exit) ∷ []) ⌝ }
 {
     corbastrigo_decode_instruction(map, at, opcode, operand, size)
 }

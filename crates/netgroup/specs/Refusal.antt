@@ -20,7 +20,7 @@ abbrev pub verdictRefusal : Verdict → Refusal
 verdictRefusal (Accepted count depth) = None
 verdictRefusal (Refused n) = Number n
 
--- a map that the call checks: the check's reason, 1 to 10
+-- a map that the call checks: the check's reason, 1 to 10 or 19
 abbrev pub checkRefusal : Numbering → Refusal
 checkRefusal (byMap m) = verdictRefusal (checkOf m 128)
 checkRefusal byPrefixes = None

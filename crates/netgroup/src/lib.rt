@@ -96,7 +96,7 @@ pub fn limit_refusal(grouping: Grouping, map: &[u8]) -> Refusal
     }
 }
 
-// Why the check refuses the map of a call: 1 to 10. It reads the whole map.
+// Why the check refuses the map of a call: 1 to 10 or 19. It reads the whole map.
 pub fn check_refusal(grouping: Grouping, map: &[u8]) -> Refusal
     ensures { λ r. ⌜ r ≡ checkRefusal (numbering grouping (now (map .entry))) ⌝ }
 {
@@ -138,7 +138,7 @@ pub fn netgroup_unchecked(candidate: &[u8], grouping: Grouping, map: &[u8]) -> G
     GroupAnswer::Group(grouped.group)
 }
 
-// The group of one candidate, with a map or none. Refusals 13, then with a map the check's, 1 to 10.
+// The group of one candidate, with a map or none. Refusals 13, then with a map the check's, 1 to 10 and 19.
 pub fn netgroup(candidate: &[u8], grouping: Grouping, map: &[u8]) -> GroupAnswer
     ensures { λ r. ⌜ r ≡ netgroupOf (numbering grouping (now (map .entry))) (now (candidate .entry)) ⌝ }
     ensures unaborted { λ r. ⌜ Whole (numbering grouping (now (map .entry))) (now (candidate .entry)) r ⌝ }

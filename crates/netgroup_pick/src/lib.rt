@@ -98,7 +98,7 @@ pub fn select_diverse_unchecked(
     })
 }
 
-// The pick, with a map or none. Refusals 13, 12, 13, with a map the check's, 1 to 10, then 14; a refusal writes nothing.
+// The pick, with a map or none. Refusals 13, 12, 13, with a map the check's, 1 to 10 and 19, then 14; a refusal writes nothing.
 pub fn select_diverse(
     candidates: &[u8],
     occupied: &[u64],

@@ -45,7 +45,9 @@ fn kind_number(kind: Kind) -> u8 {
     match kind {
         Kind::Returned => 1,
         Kind::Differed => 2,
-        Kind::Aborted => 3,
+        Kind::TooFewBits => 3,
+        Kind::OpcodeCut => 4,
+        Kind::OperandCut => 19,
     }
 }
 

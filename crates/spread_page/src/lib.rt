@@ -104,7 +104,7 @@ pub fn page_unchecked(candidates: &[u8], grouping: Grouping, map: &[u8], out: &m
 }
 
 // The page of a list of candidates, with a map or none: a line of 25 bytes for each group, groups rising. 25 bytes for each candidate are
-// always enough. Refusals 13, 12, 13, with a map the check's, 1 to 10, then 14; a refusal writes nothing.
+// always enough. Refusals 13, 12, 13, with a map the check's, 1 to 10 and 19, then 14; a refusal writes nothing.
 pub fn page(candidates: &[u8], grouping: Grouping, map: &[u8], out: &mut [u8]) -> Answer
     ensures { λ r. ⌜ Hands (spreadPage (numbering grouping (now (map .entry))) (now (candidates .entry))) (now (out .entry)) (now (out .exit)) r ⌝ }
     ensures told { λ r. ⌜ Told (numbering grouping (now (map .entry))) (now (candidates .entry)) r ⌝ }

@@ -1,9 +1,10 @@
 -- The limit, the end, then the code, by its two cases.
 -- Assumes nothing.
-use mathlib.Core.Path.{_≡_, _∙_, sym}
+use mathlib.Core.Path.{_≡_, _∙_, sym, ap}
 use native.Mathlib.Omega.{arith}
 use Rattle.asmap_codes.specs.Row.{Row}
 use Rattle.asmap_codes.specs.Code.{codeAt}
+use Rattle.asmap_codes.specs.declared.Decoded.the-variants.{Refused}
 use Rattle.asmap_codes.proofs.Inside.{past-end, read-long, read-at, read-cut}
 use Rattle.asmap_row_decoder.proofs.WindowLaws.{row-window, window-holds}
 use borrow.Author.Needs.{needs}
@@ -25,10 +26,15 @@ returns c = let a = c .before .before .before .args in sym (read-long (a .map .n
 mul-if2 : tie.Need-mul-if2
 mul-if2 c = search needs
 
+cut-reason-requires : tie.Need-cut-reason-requires
+cut-reason-requires c κs = tt
+
 returns-2 : tie.Need-returns-2
 returns-2 c =
-    let a = c .before .before .before .before .args in
-    sym (read-cut (a .map .now) (a .at) (record { least = a .least; sizes = a .sizes .now }) (omega arith) (past-end (a .map .now) (a .at) (record { least = a .least; sizes = a .sizes .now }) (c .before .before .before .before .pre .0 .many) (omega arith)))
+    let a = c .before .before .before .before .before .args in
+    let row : Row = record { least = a .least; sizes = a .sizes .now } in
+    ap Refused (c .cut-reason .ensures)
+    ∙ sym (read-cut (a .map .now) (a .at) row (omega arith) (past-end (a .map .now) (a .at) row (c .before .before .before .before .before .pre .0 .many) (omega arith)))
 
 window-requires : tie.Need-window-requires
 window-requires c κs = search needs
@@ -45,10 +51,14 @@ enum-known-got c = search needs
 enum-told : tie.Need-enum-told
 enum-told c = search needs
 
+cut-reason-requires-2 : tie.Need-cut-reason-requires-2
+cut-reason-requires-2 c κs = tt
+
 returns-3 : tie.Need-returns-3
 returns-3 c =
-    let a = c .before .before .before .before .before .before .before .before .args in
-    sym (read-cut (a .map .now) (a .at) (record { least = a .least; sizes = a .sizes .now }) (omega arith) (read (c .before .before) ∙ c .enum-told .given .1))
+    let a = c .before .before .before .before .before .before .before .before .before .args in
+    ap Refused (c .cut-reason2 .ensures)
+    ∙ sym (read-cut (a .map .now) (a .at) (record { least = a .least; sizes = a .sizes .now }) (omega arith) (read (c .before .before .before) ∙ c .before .enum-told .given .1))
 
 returns-4 : tie.Need-returns-4
 returns-4 c =
@@ -61,11 +71,13 @@ decode-row-spec =
     (tie.spec
     returns
     mul-if2
+    cut-reason-requires
     returns-2
     window-requires
     mul-decode-bits
     decode-bits-requires
     enum-known-got
     enum-told
+    cut-reason-requires-2
     returns-3
     returns-4)
