@@ -17,3 +17,4 @@ pub mod FilterAnswers
 pub mod CoreAnswers
 pub mod CompareAnswers
 pub mod WidthAnswers
+pub mod CutAnswers

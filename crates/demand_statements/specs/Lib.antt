@@ -5,3 +5,4 @@ pub mod Same
 pub mod Listed
 pub mod Agreed
 pub mod Printed
+pub mod Cut

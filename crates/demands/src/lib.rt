@@ -31,9 +31,13 @@
 // Request 4, the spread on a printed page: `pages`. Each byte of a line is read off the output: its group, rising from line to line, how many
 // candidates have it, their per cent, spaces and line feed. Every candidate's group has a line, and with a map no walk of a candidate aborts.
 //
+// Request 5, cut opcode or cut operand: `cuts`. An instruction is refused 4 where no opcode can be read at its bit, and 19 where one can; and where the
+// check refuses a map with the one or the other, so does reading the instruction at the place where it stops.
+//
 // Two maps compared: `comparisons`. Where a comparison needs no byte, the two walks by any address end with the same number.
 pub mod any_input;
 pub mod comparisons;
+pub mod cuts;
 pub mod lists;
 pub mod pages;
 pub mod picks;
