@@ -7,11 +7,14 @@ static const uint8_t none[1] = {0};
 /* One byte over the limit. */
 static uint8_t too_long[CORBASTRIGO_MAX_MAP_BYTES + 1];
 
+/* In any row two ones are the beginning of a longer code. */
+static const uint8_t ones[1] = {0xff};
+
 typedef uint8_t encode(uint32_t, uint64_t *, size_t *);
 
 /* A row: its least value is written, read again from the fourth bit on, read where it is cut, and a number below or above the row is
- * refused. */
-static void row(decode *reads, encode *writes, uint32_t least, size_t len, uint32_t outside) {
+ * refused. A code is cut behind one bit or two, and from the map's end on. */
+static void row(decode *reads, encode *writes, uint32_t least, size_t len, uint32_t outside, uint8_t cut) {
     uint32_t value = BEFORE(1);
     size_t next = BEFORE(2), length = BEFORE(2);
     uint64_t bits = BEFORE(1);
@@ -23,9 +26,13 @@ static void row(decode *reads, encode *writes, uint32_t least, size_t len, uint3
     IS(length, len);
     for (int i = 0; i < 8; i++)
         bytes[i] = (uint8_t)(bits << 3 >> (8 * i));
-    IS(reads(bytes, 0, 0, &value, &next), CORBASTRIGO_CUT);
-    IS(reads(bytes, 8, 64, &value, &next), CORBASTRIGO_CUT);
-    IS(reads(bytes, 8, SIZE_MAX, &value, &next), CORBASTRIGO_CUT);
+    IS(reads(bytes, 0, 0, &value, &next), cut);
+    IS(reads(bytes, 0, 1, &value, &next), cut);
+    IS(reads(bytes, 8, 64, &value, &next), cut);
+    IS(reads(bytes, 8, 65, &value, &next), cut);
+    IS(reads(bytes, 8, SIZE_MAX, &value, &next), cut);
+    IS(reads(ones, 1, 7, &value, &next), cut);
+    IS(reads(ones, 1, 6, &value, &next), cut);
     IS(reads(too_long, sizeof too_long, 0, &value, &next), CORBASTRIGO_MAP_TOO_LONG);
     IS(value, BEFORE(1));
     IS(next, BEFORE(2));
@@ -34,15 +41,36 @@ static void row(decode *reads, encode *writes, uint32_t least, size_t len, uint3
     IS(next, 3 + len);
 }
 
+/* Instructions whose opcode is cut after two bits, after one, and from the map's end on; then those whose opcode is whole, RETURN, RETURN,
+ * MATCH, JUMP and DEFAULT, and the operand is cut. */
+static void cut_instructions(void) {
+    uint32_t opcode = BEFORE(1), operand = BEFORE(2);
+    size_t size = BEFORE(3);
+    IS(corbastrigo_decode_instruction(ones, 1, 6, &opcode, &operand, &size), CORBASTRIGO_CUT_OPCODE);
+    IS(corbastrigo_decode_instruction(cut_opcode, 1, 7, &opcode, &operand, &size), CORBASTRIGO_CUT_OPCODE);
+    IS(corbastrigo_decode_instruction(lone_jump, 1, 8, &opcode, &operand, &size), CORBASTRIGO_CUT_OPCODE);
+    IS(corbastrigo_decode_instruction(lone_jump, 1, 9, &opcode, &operand, &size), CORBASTRIGO_CUT_OPCODE);
+    IS(corbastrigo_decode_instruction(lone_jump, 1, SIZE_MAX, &opcode, &operand, &size), CORBASTRIGO_CUT_OPCODE);
+    IS(corbastrigo_decode_instruction(none, 0, 0, &opcode, &operand, &size), CORBASTRIGO_CUT_OPCODE);
+    IS(corbastrigo_decode_instruction(lone_jump, 1, 1, &opcode, &operand, &size), CORBASTRIGO_CUT_OPERAND);
+    IS(corbastrigo_decode_instruction(lone_jump, 1, 7, &opcode, &operand, &size), CORBASTRIGO_CUT_OPERAND);
+    IS(corbastrigo_decode_instruction(cut_operand, 1, 0, &opcode, &operand, &size), CORBASTRIGO_CUT_OPERAND);
+    IS(corbastrigo_decode_instruction(cut_operand, 1, 1, &opcode, &operand, &size), CORBASTRIGO_CUT_OPERAND);
+    IS(corbastrigo_decode_instruction(ones, 1, 5, &opcode, &operand, &size), CORBASTRIGO_CUT_OPERAND);
+    IS(opcode, BEFORE(1));
+    IS(operand, BEFORE(2));
+    IS(size, BEFORE(3));
+}
+
 static void codes(void) {
     uint32_t opcode = BEFORE(1), operand = BEFORE(2);
     size_t size = BEFORE(3), length = BEFORE(2);
     uint64_t bits = BEFORE(1);
-    row(corbastrigo_decode_type, corbastrigo_encode_type, 0, 1, 4);
-    row(corbastrigo_decode_asn, corbastrigo_encode_asn, 1, 16, 0);
-    row(corbastrigo_decode_match, corbastrigo_encode_match, 2, 2, 512);
-    row(corbastrigo_decode_jump, corbastrigo_encode_jump, 17, 6, 16);
-    IS(corbastrigo_decode_instruction(lone_jump, 1, 1, &opcode, &operand, &size), CORBASTRIGO_CUT);
+    row(corbastrigo_decode_type, corbastrigo_encode_type, 0, 1, 4, CORBASTRIGO_CUT_OPCODE);
+    row(corbastrigo_decode_asn, corbastrigo_encode_asn, 1, 16, 0, CORBASTRIGO_CUT_OPERAND);
+    row(corbastrigo_decode_match, corbastrigo_encode_match, 2, 2, 512, CORBASTRIGO_CUT_OPERAND);
+    row(corbastrigo_decode_jump, corbastrigo_encode_jump, 17, 6, 16, CORBASTRIGO_CUT_OPERAND);
+    cut_instructions();
     IS(corbastrigo_decode_instruction(too_long, sizeof too_long, 0, &opcode, &operand, &size), CORBASTRIGO_MAP_TOO_LONG);
     IS(opcode, BEFORE(1));
     IS(operand, BEFORE(2));
@@ -64,7 +92,9 @@ static void check(void) {
     uint32_t count = BEFORE(1);
     uint8_t depth = BEFORE(2);
     IS(corbastrigo_sanity_check(none, 0, &count, &depth), CORBASTRIGO_MAP_ENDS);
-    IS(corbastrigo_sanity_check(two_prefixes, 34, &count, &depth), CORBASTRIGO_CUT);
+    IS(corbastrigo_sanity_check(two_prefixes, 34, &count, &depth), CORBASTRIGO_CUT_OPERAND);
+    IS(corbastrigo_sanity_check(cut_operand, 1, &count, &depth), CORBASTRIGO_CUT_OPERAND);
+    IS(corbastrigo_sanity_check(cut_opcode, 1, &count, &depth), CORBASTRIGO_CUT_OPCODE);
     IS(corbastrigo_sanity_check(too_long, sizeof too_long, &count, &depth), CORBASTRIGO_MAP_TOO_LONG);
     IS(count, BEFORE(1));
     IS(depth, BEFORE(2));
@@ -76,7 +106,7 @@ static void check(void) {
     IS(depth, 0);
 }
 
-/* The jump of lone_jump is whole, so its map ends at bit 8; two_prefixes is cut in its last RETURN. */
+/* The jump of lone_jump is whole, so its map ends at bit 8; two_prefixes is cut in the number of its last RETURN. */
 static void stop(void) {
     uint8_t reason = BEFORE(1);
     size_t place = BEFORE(2);
@@ -87,8 +117,11 @@ static void stop(void) {
     IS(reason, CORBASTRIGO_MAP_ENDS);
     IS(place, 8);
     IS(corbastrigo_sanity_check_stop(two_prefixes, 34, &reason, &place), 0);
-    IS(reason, CORBASTRIGO_CUT);
+    IS(reason, CORBASTRIGO_CUT_OPERAND);
     IS(place, 256);
+    IS(corbastrigo_sanity_check_stop(cut_opcode, 1, &reason, &place), 0);
+    IS(reason, CORBASTRIGO_CUT_OPCODE);
+    IS(place, 7);
     IS(corbastrigo_sanity_check_stop(two_prefixes, 35, &reason, &place), 0);
     IS(reason, 0);
     IS(place, 256);
@@ -116,10 +149,75 @@ static void walk(void) {
     IS(count, 13);
     IS(bits, 101);
     IS(corbastrigo_interpret(lone_jump, 1, address, 16, &kind, &number, &count, &bits), 0);
-    IS(kind, CORBASTRIGO_ABORTED);
+    IS(kind, CORBASTRIGO_CUT_OPCODE);
     IS(number, 0);
     IS(count, 1);
     IS(bits, 1);
+}
+
+/* Walks by an address of one byte over and over, at both widths alike: each kind of end, and each way to it that the map's end has. */
+static const struct {
+    size_t len;
+    uint8_t map[5], fill, kind, number, count, bits;
+} walks[] = {
+    {3, {0x00, 0x00, 0x00}, 0x00, CORBASTRIGO_RETURNED, 1, 1, 0},
+    {3, {0x03, 0x00, 0x00}, 0xff, CORBASTRIGO_DIFFERED, 0, 1, 1},               /* at a MATCH of 0, before any DEFAULT */
+    {5, {0x07, 0x00, 0x18, 0x00, 0x00}, 0xff, CORBASTRIGO_DIFFERED, 1, 2, 1},   /* the same behind a DEFAULT */
+    {0, {0}, 0x00, CORBASTRIGO_CUT_OPCODE, 0, 0, 0},                            /* the map is empty */
+    {1, {0x01}, 0x00, CORBASTRIGO_CUT_OPCODE, 0, 1, 1},                         /* at the map's end, behind a JUMP that is not taken */
+    {1, {0x01}, 0xff, CORBASTRIGO_CUT_OPCODE, 0, 1, 1},                         /* past the map's end, by a JUMP that is */
+    {4, {0x01, 0xff, 0xff, 0xff}, 0xff, CORBASTRIGO_CUT_OPERAND, 0, 1, 1},      /* by a JUMP to bit 25: DEFAULT, without its number */
+    {4, {0xa1, 0x00, 0x00, 0xc0}, 0xff, CORBASTRIGO_CUT_OPCODE, 0, 1, 1},       /* by a JUMP to bit 30: two bits of an opcode */
+    {1, {0x8b}, 0x00, CORBASTRIGO_CUT_OPCODE, 0, 1, 2},                         /* one bit of an opcode, behind a MATCH */
+    {1, {0x00}, 0x00, CORBASTRIGO_CUT_OPERAND, 0, 0, 0},                        /* RETURN, JUMP, MATCH, DEFAULT without the end of theirs */
+    {1, {0x05}, 0x00, CORBASTRIGO_CUT_OPERAND, 0, 0, 0},
+    {1, {0xfb}, 0x00, CORBASTRIGO_CUT_OPERAND, 0, 0, 0},
+    {2, {0x07, 0x00}, 0x00, CORBASTRIGO_CUT_OPERAND, 0, 0, 0},
+};
+
+static void kinds(void) {
+    uint8_t address[16], kind, bits;
+    uint32_t number, count;
+    for (size_t i = 0; i < sizeof walks / sizeof *walks; i++)
+        for (uint32_t width = 0; width <= 128; width += width == 0 ? 32 : 96) {
+            memset(address, walks[i].fill, sizeof address);
+            kind = bits = BEFORE(1);
+            number = count = BEFORE(2);
+            if (width == 0)
+                IS(corbastrigo_interpret(walks[i].map, walks[i].len, address, 16, &kind, &number, &count, &bits), 0);
+            else
+                IS(corbastrigo_interpret_bits(walks[i].map, walks[i].len, address, width / 8, width, &kind, &number, &count, &bits), 0);
+            IS(kind, walks[i].kind);
+            IS(number, walks[i].number);
+            IS(count, walks[i].count);
+            IS(bits, walks[i].bits);
+            IS(corbastrigo_aborted(kind), walks[i].kind >= CORBASTRIGO_TOO_FEW_BITS);
+        }
+}
+
+/* Too few address bits for a JUMP, and for a MATCH of 2 that has one left. What it could not read no map's end cuts. */
+static void too_few_bits(void) {
+    uint8_t map[128] = {0}, address[16] = {0}, kind = BEFORE(1), bits = BEFORE(4);
+    uint32_t number = BEFORE(2), count = BEFORE(3);
+    memset(map, 0x01, sizeof map);
+    IS(corbastrigo_interpret_bits(map, 33, address, 4, 32, &kind, &number, &count, &bits), 0);
+    IS(kind, CORBASTRIGO_TOO_FEW_BITS);
+    IS(number, 0);
+    IS(count, 33);
+    IS(bits, 32);
+    IS(corbastrigo_interpret_bits(map, 32, address, 4, 32, &kind, &number, &count, &bits), 0);
+    IS(kind, CORBASTRIGO_CUT_OPCODE);
+    IS(count, 32);
+    map[127] = 0x8b;
+    IS(corbastrigo_interpret(map, 128, address, 16, &kind, &number, &count, &bits), 0);
+    IS(kind, CORBASTRIGO_TOO_FEW_BITS);
+    IS(number, 0);
+    IS(count, 128);
+    IS(bits, 127);
+    map[127] = 0x05;
+    IS(corbastrigo_interpret(map, 128, address, 16, &kind, &number, &count, &bits), 0);
+    IS(kind, CORBASTRIGO_CUT_OPERAND);
+    IS(count, 127);
 }
 
 static void records(void) {
@@ -163,7 +261,8 @@ static const struct {
 } refused[] = {
     {CORBASTRIGO_MAP_ENDS, 1, {0x01}},
     {CORBASTRIGO_PAST_TARGET, 4, {0x01, 0xfb, 0x03, 0x00}},
-    {CORBASTRIGO_CUT, 1, {0xfb}},
+    {CORBASTRIGO_CUT_OPCODE, 1, {0x8b}},
+    {CORBASTRIGO_CUT_OPERAND, 1, {0xfb}},
     {CORBASTRIGO_AFTER_DEFAULT, 3, {0x07, 0x00, 0x00}},
     {CORBASTRIGO_PADDING, 3, {0x00, 0x00, 0x02}},
     {CORBASTRIGO_NOT_AT_TARGET, 5, {0xfd, 0x71, 0x3a, 0x00, 0x00}},
@@ -173,6 +272,19 @@ static const struct {
     {CORBASTRIGO_TARGETS_CROSS, 2, {0x01, 0x01}},
     {CORBASTRIGO_SHORT_MATCHES, 4, {0x63, 0x00, 0x00, 0x00}},
 };
+
+/* What unpack refuses, and that it has written nothing then. */
+static void refused_records(void) {
+    uint8_t list[256];
+    size_t written = BEFORE(2);
+    memset(list, BEFORE(1), sizeof list);
+    for (size_t i = 0; i < sizeof refused / sizeof *refused; i++) {
+        IS(corbastrigo_unpack(refused[i].map, refused[i].len, list, sizeof list, &written), refused[i].reason);
+        IS(corbastrigo_unpack(refused[i].map, refused[i].len, list, 0, &written), refused[i].reason);
+    }
+    IS(untouched(list, sizeof list), sizeof list);
+    IS(written, BEFORE(2));
+}
 
 /* What the list refuses, and that it has written nothing then. */
 static void refused_lists(void) {
@@ -361,8 +473,11 @@ static void checks_at_a_width(void) {
     IS(reason, 0);
     IS(place, 40);
     IS(corbastrigo_sanity_check_stop_bits(two_prefixes, 34, 128, &reason, &place), 0);
-    IS(reason, CORBASTRIGO_CUT);
+    IS(reason, CORBASTRIGO_CUT_OPERAND);
     IS(place, 256);
+    IS(corbastrigo_sanity_check_stop_bits(cut_opcode, 1, 32, &reason, &place), 0);
+    IS(reason, CORBASTRIGO_CUT_OPCODE);
+    IS(place, 7);
 }
 
 static void walks_at_a_width(void) {
@@ -396,7 +511,7 @@ static void walks_at_a_width(void) {
     IS(count, 15);
     IS(bits, 103);
     IS(corbastrigo_interpret_bits(two_prefixes, 35, zeros, 4, 32, &kind, &number, &count, &bits), 0);
-    IS(kind, CORBASTRIGO_ABORTED);
+    IS(kind, CORBASTRIGO_TOO_FEW_BITS);
     IS(number, 0);
     IS(count, 5);
     IS(bits, 32);
@@ -516,6 +631,8 @@ static void groups(void) {
     IS(corbastrigo_prefix_group(peer, 19, &group), CORBASTRIGO_CANDIDATE);
     IS(corbastrigo_netgroup(peer, 21, 0, none, 0, &group), CORBASTRIGO_CANDIDATE);
     IS(corbastrigo_netgroup(peer, 20, 1, lone_jump, 1, &group), CORBASTRIGO_MAP_ENDS);
+    for (size_t i = 0; i < sizeof refused / sizeof *refused; i++)
+        IS(corbastrigo_netgroup(peer, 20, 1, refused[i].map, refused[i].len, &group), refused[i].reason);
     IS(corbastrigo_netgroup_unchecked(peer, 20, 1, too_long, sizeof too_long, &group), CORBASTRIGO_MAP_TOO_LONG);
     IS(group, BEFORE(1));
     IS(corbastrigo_netgroup_unchecked(peer, 20, 1, lone_jump, 1, &group), 0);
@@ -561,6 +678,26 @@ static void scan(void) {
     scanned(9, six, 0, 0, 0, 0);
     scanned(CORBASTRIGO_MAX_CANDIDATES, many, CORBASTRIGO_MAX_CANDIDATES, 1, CORBASTRIGO_MAX_CANDIDATES - 1, CORBASTRIGO_MAX_CANDIDATES);
     scanned(CORBASTRIGO_MAX_CANDIDATES + 1, many, CORBASTRIGO_MAX_CANDIDATES, 0, 0, CORBASTRIGO_MAX_CANDIDATES);
+}
+
+/* A pick with each map that the check refuses: its reason, before the outputs are looked at, and nothing is written. */
+static void refused_pick(void) {
+    uint8_t peers[20];
+    uint16_t places[1] = {BEFORE(1)};
+    uint64_t taken[1] = {BEFORE(2)}, instructions = BEFORE(6);
+    size_t total = BEFORE(3), first = BEFORE(4), examined = BEFORE(5);
+    candidate(peers, 3, 4, 0, 1);
+    for (size_t i = 0; i < sizeof refused / sizeof *refused; i++)
+        for (size_t room = 0; room <= 1; room++)
+            IS(corbastrigo_select_diverse(peers, 20, NULL, 0, 1, 1, refused[i].map, refused[i].len, places, room, taken, room, &total,
+                                          &first, &examined, &instructions),
+               refused[i].reason);
+    IS(places[0], BEFORE(1));
+    IS(taken[0], BEFORE(2));
+    IS(total, BEFORE(3));
+    IS(first, BEFORE(4));
+    IS(examined, BEFORE(5));
+    IS(instructions, BEFORE(6));
 }
 
 /* Four peers, two of group 2, one of 1, one of 0; group 0 is occupied, so the last is a fill. By their prefixes none is occupied. */
@@ -722,7 +859,10 @@ int main(void) {
     check();
     stop();
     walk();
+    kinds();
+    too_few_bits();
     records();
+    refused_records();
     refused_lists();
     lists();
     refused_comparisons();
@@ -731,6 +871,7 @@ int main(void) {
     at_a_width();
     groups();
     scan();
+    refused_pick();
     pick(corbastrigo_select_diverse, CORBASTRIGO_MAP_ENDS);
     pick(corbastrigo_select_diverse_unchecked, 0);
     refused_page(corbastrigo_page, 1);

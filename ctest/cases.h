@@ -26,6 +26,9 @@ static const uint8_t two_prefixes[35] = {0xfb, 0x03, 0xec, 0x0f, 0xb0, 0x3f, 0xc
 static const uint8_t two_narrow[8] = {0xfb, 0x80, 0x00, 0x00, 0x00, 0x00, 0x00, 0x01};
 static const uint8_t lone_return[3] = {0, 0, 0};
 static const uint8_t lone_jump[1] = {1};
+/* Cut by the map's end: an opcode, of which one bit stands behind a MATCH of 00; and the operand of a MATCH. */
+static const uint8_t cut_opcode[1] = {0x8b};
+static const uint8_t cut_operand[1] = {0xfb};
 
 static void mapped(uint8_t *address, uint8_t a, uint8_t b, uint8_t c, uint8_t d) {
     const uint8_t bytes[16] = {0, 0, 0, 0, 0, 0, 0, 0, 0, 0, 0xff, 0xff, a, b, c, d};

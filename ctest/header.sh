@@ -1,7 +1,8 @@
 #!/bin/sh
 # The header by itself. It compiles without a warning in every standard of C and C++ that the compilers of this machine know, with its
-# inline function used or not; its version is that of rust/Cargo.toml, as text and as numbers; and its words for the refusals are those of
-# the safe crate, each number's, and of a new map's refusals those of the check's.
+# inline functions used or not; its version is that of rust/Cargo.toml, as text and as numbers; its words for the refusals are those of
+# the safe crate, each number's, and of a new map's refusals those of the check's; and a walk's end is no abort at a RETURN and at a
+# difference alone.
 cd "$(dirname "$0")" || exit 2
 work=$(mktemp -d) || exit 2
 trap 'rm -rf "$work"' EXIT
@@ -37,21 +38,34 @@ version() {
     [ "$numbers" = "$ours" ] || complain "its version's numbers are $numbers, and the version $ours"
 }
 
-# The words of 0, of the refusals that the header numbers, of a new map's, and of all other numbers.
+# refusal NAME: its number.
+refusal() {
+    sed -n "s/^ *CORBASTRIGO_$1 = \([0-9]*\).*/\1/p" $header
+}
+
+# The words of 0, of the refusals that the header numbers, of a new map's, and of all other numbers. The check's are all up to the short
+# MATCHes, and the cut operand.
 words() {
     cc words.c -o "$work/words" || exit 1
-    sed -n 's/^ *CORBASTRIGO_[A-Z_]* = \([0-9]*\).*/\1/p' $header > "$work/numbers"
+    refusal '[A-Z_]*' > "$work/numbers"
     "$work/words" | awk -v numbers="$work/numbers" -v known="$work/known" -v others="$work/others" -v ofnew="$work/new" \
-        -v new="$(./macro.sh CORBASTRIGO_NEW_MAP)" -v last="$(sed -n 's/^ *CORBASTRIGO_SHORT_MATCHES = \([0-9]*\).*/\1/p' $header)" '
+        -v ofcheck="$work/check" -v ended="$work/ended" -v new="$(./macro.sh CORBASTRIGO_NEW_MAP)" -v last="$(refusal SHORT_MATCHES)" \
+        -v operand="$(refusal CUT_OPERAND)" '
+        function checks(number) { return (0 < number && number <= last + 0) || number == operand + 0 }
         BEGIN { while ((getline number < numbers) > 0) has[number] = 1 }
-        new + 0 < $1 + 0 && $1 + 0 <= new + last { $1 -= new; print > ofnew; next }
+        $1 == "ended" { print $2 > ended; next }
+        checks($1 - new) { $1 -= new; print > ofnew; next }
+        checks($1 + 0) { print > ofcheck }
         { print > (($1 in has) ? known : others) }'
     sed -n 's/^.*[^0-9]\([0-9][0-9]*\)\(:\| =>\) "\(.*\)",$/\1 \3/p' ../rust/corbastrigo/src/refusal.rs > "$work/rust"
     diff "$work/rust" "$work/known" || complain "its words (>) are not those of rust/corbastrigo/src/refusal.rs (<)"
-    head -n "$(wc -l < "$work/new")" "$work/known" | diff - "$work/new" || complain "a new map's refusals (>) say other words than the check's (<)"
+    diff "$work/check" "$work/new" || complain "a new map's refusals (>) say other words than the check's (<)"
+    [ "$(wc -l < "$work/check")" -eq 11 ] || complain "the check has not eleven refusals"
     [ "$(head -n 1 "$work/others")" = "0 done" ] || complain "0 does not say done"
     others=$(sed '1d; s/^[0-9]* //' "$work/others" | sort -u)
     [ "$others" = "a reason that this version does not know" ] || complain "numbers that are no refusal say: $others"
+    ended=$(tr '\n' ' ' < "$work/ended")
+    [ "$ended" = "1 2 " ] || complain "the kinds of end that are no abort are: $ended"
 }
 
 echo 'int knows;' > "$work/knows.c"

@@ -29,7 +29,7 @@ placed() {
     # shellcheck disable=SC2046
     cc ctest/installed.c $(pkg-config --cflags --libs corbastrigo) -o "$work/installed" || complain "$1: the program does not compile"
     answer=$("$work/installed")
-    [ "$answer" = "$(pkg-config --modversion corbastrigo): a code is cut by the map's end" ] || complain "$1: the program says $answer"
+    [ "$answer" = "$(pkg-config --modversion corbastrigo): an operand is cut by the map's end" ] || complain "$1: the program says $answer"
     make uninstall PREFIX="$2" DESTDIR="$3" > "$work/said" || complain "$1: make uninstall failed"
     left=$(find "$root" ! -type d)
     [ -z "$left" ] || complain "$1: left behind are $left"

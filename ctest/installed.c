@@ -1,4 +1,4 @@
-/* A program of somebody who has only the installed files: prints the version, and what the check says of a map that lost its end. */
+/* A program of somebody who has only the installed files: prints the version, and what the check says of a map that is cut. */
 #include <corbastrigo.h>
 #include <stdio.h>
 

@@ -142,7 +142,7 @@ static void short_at_32(void) {
     uint8_t *const last = (uint8_t *)end_of_lent - 4;
     memset(last, 0, 4);
     IS(corbastrigo_interpret_bits(two_prefixes, 35, last, 4, 32, &small, &number, &count, &other), 0);
-    IS(small, CORBASTRIGO_ABORTED);
+    IS(small, CORBASTRIGO_TOO_FEW_BITS);
     IS(other, 32);
     IS(corbastrigo_unpack_bits(two_narrow, 8, 32, barred, 63, &size), CORBASTRIGO_OUTPUT_TOO_SHORT);
     IS(corbastrigo_list_bits(two_narrow, 8, 32, barred, 191, &size), CORBASTRIGO_OUTPUT_TOO_SHORT);
@@ -200,7 +200,7 @@ static void empty_at_32(void) {
     IS(corbastrigo_sanity_check_stop_bits(NULL, 0, 31, &small, &size), CORBASTRIGO_WIDTH);
     IS(corbastrigo_interpret_bits(two_narrow, 8, NULL, 0, 32, &small, &number, &count, &other), CORBASTRIGO_ADDRESS_LENGTH);
     IS(corbastrigo_interpret_bits(NULL, 0, address, 4, 32, &small, &number, &count, &other), 0);
-    IS(small, CORBASTRIGO_ABORTED);
+    IS(small, CORBASTRIGO_CUT_OPCODE);
     IS(corbastrigo_unpack_bits(NULL, 0, 32, NULL, 0, &size), CORBASTRIGO_MAP_ENDS);
     IS(corbastrigo_list_bits(two_narrow, 8, 32, NULL, 0, &size), CORBASTRIGO_OUTPUT_TOO_SHORT);
     IS(corbastrigo_list_bytes_bits(NULL, 0, 32, &size), CORBASTRIGO_MAP_ENDS);
@@ -256,13 +256,13 @@ static void empty_pages(void) {
 
 static void empty_lists(void) {
     for (size_t i = 0; i < 4; i++)
-        IS(decoders[i](NULL, 0, 0, &number, &size), CORBASTRIGO_CUT);
-    IS(corbastrigo_decode_instruction(NULL, 0, 0, &count, &operand, &size), CORBASTRIGO_CUT);
+        IS(decoders[i](NULL, 0, 0, &number, &size), i == 0 ? CORBASTRIGO_CUT_OPCODE : CORBASTRIGO_CUT_OPERAND);
+    IS(corbastrigo_decode_instruction(NULL, 0, 0, &count, &operand, &size), CORBASTRIGO_CUT_OPCODE);
     IS(corbastrigo_sanity_check(NULL, 0, &count, &small), CORBASTRIGO_MAP_ENDS);
     IS(corbastrigo_sanity_check_stop(NULL, 0, &small, &size), 0);
     IS(corbastrigo_interpret(two_prefixes, 35, NULL, 0, &small, &number, &count, &other), CORBASTRIGO_ADDRESS_LENGTH);
     IS(corbastrigo_interpret(NULL, 0, address, 16, &small, &number, &count, &other), 0);
-    IS(small, CORBASTRIGO_ABORTED);
+    IS(small, CORBASTRIGO_CUT_OPCODE);
     IS(corbastrigo_unpack(NULL, 0, NULL, 0, &size), CORBASTRIGO_MAP_ENDS);
     IS(corbastrigo_unpack(two_prefixes, 35, NULL, 0, &size), CORBASTRIGO_OUTPUT_TOO_SHORT);
     IS(corbastrigo_pack(NULL, 0, NULL, 0, &size), 0);

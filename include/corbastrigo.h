@@ -1,9 +1,10 @@
 /* Bitcoin's address map (asmap), peer groups and address filters: the calls of libcorbastrigo.a.
  *
- * Every call answers 0 when it is done, or the number of its refusal (below; corbastrigo_reason says it in words). Of a call that takes two
- * maps a number over 100 is the new map's refusal: CORBASTRIGO_NEW_MAP and the number that it has below, 101 to 110. A refused call has
- * written nothing: every number and every place that was lent holds what it held before. Any bytes, lengths and numbers may be handed
- * over. No call keeps a pointer, allocates, or waits.
+ * Every call answers 0 when it is done, or the number of its refusal (below; corbastrigo_reason says it in words). The check of a map refuses
+ * with 1 to 10 and 19, and "the check's" below are these. Of a call that takes two maps a number over 100 is the new map's refusal:
+ * CORBASTRIGO_NEW_MAP and the number that it has below, 101 to 110 and 119. A refused call has written nothing: every number and every
+ * place that was lent holds what it held before. Any bytes, lengths and numbers may be handed over. No call keeps a pointer, allocates, or
+ * waits.
  *
  * Pointers. A list is a pointer and a number of elements. The pointer is aligned for its elements and has as many behind it; where the
  * number is 0, nothing is read or written through it, and it may be NULL. A pointer to a single number is never NULL. What a call
@@ -58,7 +59,7 @@ enum corbastrigo_refusal {
     CORBASTRIGO_MAP_TOO_LONG = 1,        /* a map over 16,777,216 bytes, given or packed */
     CORBASTRIGO_MAP_ENDS = 2,            /* the map ends where an instruction must start */
     CORBASTRIGO_PAST_TARGET = 3,         /* an instruction at or past the innermost open jump's target */
-    CORBASTRIGO_CUT = 4,                 /* a code cut by the map's end */
+    CORBASTRIGO_CUT_OPCODE = 4,          /* an opcode cut by the map's end */
     CORBASTRIGO_AFTER_DEFAULT = 5,       /* RETURN or DEFAULT straight after DEFAULT */
     CORBASTRIGO_PADDING = 6,             /* more than 7 bits, or a 1 among them, after the last RETURN */
     CORBASTRIGO_NOT_AT_TARGET = 7,       /* a RETURN that does not end at the innermost open jump's target */
@@ -72,22 +73,24 @@ enum corbastrigo_refusal {
     CORBASTRIGO_OUT_OF_RANGE = 15,       /* an opcode or operand out of its range */
     CORBASTRIGO_RECORD = 16,             /* records not of 16 bytes, or a zero, place or length wrong */
     CORBASTRIGO_RELAY_LENGTH = 17,       /* an addrv2 address of a length that its network has not */
-    CORBASTRIGO_WIDTH = 18               /* a width that is neither 32 nor 128 */
+    CORBASTRIGO_WIDTH = 18,              /* a width that is neither 32 nor 128 */
+    CORBASTRIGO_CUT_OPERAND = 19         /* an operand cut by the map's end */
 };
 
-/* Added to the check's refusal, 1 to 10, where a call takes two maps and the new one is refused. */
+/* Added to the check's refusal where a call takes two maps and the new one is refused. */
 #define CORBASTRIGO_NEW_MAP 100
 
-/* What a call's answer says, in English, with no full stop: text for a log or a person. It never is NULL. Of 101 to 110 it says what it says
- * of 1 to 10: which of two maps is meant the number tells. */
+/* What a call's answer says, in English, with no full stop: text for a log or a person. It never is NULL. Of 101 to 110 and 119 it says what
+ * it says of 1 to 10 and 19: which of two maps is meant the number tells. */
 CORBASTRIGO_INLINE const char *corbastrigo_reason(uint8_t answer) {
-    const int of_new = CORBASTRIGO_NEW_MAP < answer && answer <= CORBASTRIGO_NEW_MAP + CORBASTRIGO_SHORT_MATCHES;
+    const int of_new = (CORBASTRIGO_NEW_MAP < answer && answer <= CORBASTRIGO_NEW_MAP + CORBASTRIGO_SHORT_MATCHES) ||
+                       answer == CORBASTRIGO_NEW_MAP + CORBASTRIGO_CUT_OPERAND;
     switch (of_new ? answer - CORBASTRIGO_NEW_MAP : answer) {
     case 0: return "done";
     case CORBASTRIGO_MAP_TOO_LONG: return "the map has more than 16,777,216 bytes";
     case CORBASTRIGO_MAP_ENDS: return "the map ends where an instruction must start";
     case CORBASTRIGO_PAST_TARGET: return "an instruction starts at or past the innermost open jump's target";
-    case CORBASTRIGO_CUT: return "a code is cut by the map's end";
+    case CORBASTRIGO_CUT_OPCODE: return "an opcode is cut by the map's end";
     case CORBASTRIGO_AFTER_DEFAULT: return "a RETURN or a DEFAULT comes straight after a DEFAULT";
     case CORBASTRIGO_PADDING: return "more than 7 bits, or a bit that is 1, follow the last RETURN";
     case CORBASTRIGO_NOT_AT_TARGET: return "a RETURN does not end at the innermost open jump's target";
@@ -102,10 +105,10 @@ CORBASTRIGO_INLINE const char *corbastrigo_reason(uint8_t answer) {
     case CORBASTRIGO_RECORD: return "a record's length, zeros, place or size is wrong";
     case CORBASTRIGO_RELAY_LENGTH: return "the address has a length that its network does not have";
     case CORBASTRIGO_WIDTH: return "the width is neither 32 nor 128";
+    case CORBASTRIGO_CUT_OPERAND: return "an operand is cut by the map's end";
     default: return "a reason that this version does not know";
     }
 }
-#undef CORBASTRIGO_INLINE
 
 #define CORBASTRIGO_MAX_MAP_BYTES 16777216
 #define CORBASTRIGO_MAX_CANDIDATES 4096
@@ -133,14 +136,15 @@ CORBASTRIGO_INLINE const char *corbastrigo_reason(uint8_t answer) {
 
 /* ---- Codes. A map's bits run from the lowest of each byte upward.
  *
- * Reading: the code of a row that starts at bit `at`. Writes its value and the bit after it. Refusals 1, then 4, also where `at` is
- * at or past the map's end. */
+ * Reading: the code of a row that starts at bit `at`. Writes its value and the bit after it. Refusals 1, then where the map's end cuts the
+ * code 4 of an opcode (decode_type) and 19 of an operand (the other three), also where `at` is at or past the map's end. */
 uint8_t corbastrigo_decode_type(const uint8_t *map, size_t map_len, size_t at, uint32_t *value, size_t *next);
 uint8_t corbastrigo_decode_asn(const uint8_t *map, size_t map_len, size_t at, uint32_t *value, size_t *next);
 uint8_t corbastrigo_decode_match(const uint8_t *map, size_t map_len, size_t at, uint32_t *value, size_t *next);
 uint8_t corbastrigo_decode_jump(const uint8_t *map, size_t map_len, size_t at, uint32_t *value, size_t *next);
 
-/* The instruction that starts at bit `at`: its opcode, its operand and its length in bits. Refusals 1, then 4. */
+/* The instruction that starts at bit `at`: its opcode, its operand and its length in bits. Refusals 1, then where the map's end cuts it 4 in
+ * its opcode, also where `at` is at or past the map's end, and 19 in its operand. */
 uint8_t corbastrigo_decode_instruction(const uint8_t *map, size_t map_len, size_t at, uint32_t *opcode, uint32_t *operand,
                                        size_t *size);
 
@@ -156,22 +160,29 @@ uint8_t corbastrigo_encode_instruction(uint32_t opcode, uint32_t operand, uint64
 /* ---- Maps */
 
 /* Whether a map is sane over 128 address bits. Writes its number of instructions and how many jumps were open at most. Refusals 1 to
- * 10. No map that is accepted here can abort a walk by 16 bytes. */
+ * 10 and 19. No map that is accepted here can abort a walk by 16 bytes. */
 uint8_t corbastrigo_sanity_check(const uint8_t *map, size_t map_len, uint32_t *count, uint8_t *depth);
 
-/* Where the check of a map stops, and why. Writes the reason, 0 where the check accepts and else the number of its refusal, 2 to 10; and the
- * place, a bit of the map: the first of the instruction at which the check accepts or refuses, or 8 * map_len where the map ends before
- * one. 0 says that both are written, not that the map is sane. Refusal 1. */
+/* Where the check of a map stops, and why. Writes the reason, 0 where the check accepts and else the number of its refusal, 2 to 10 or 19; and
+ * the place, a bit of the map: the first of the instruction at which the check accepts or refuses, also where its operand is cut, or
+ * 8 * map_len where the map ends before one. 0 says that both are written, not that the map is sane. Refusal 1. */
 uint8_t corbastrigo_sanity_check_stop(const uint8_t *map, size_t map_len, uint8_t *reason, size_t *place);
 
-/* How a walk ended. */
-#define CORBASTRIGO_RETURNED 1 /* at a RETURN */
-#define CORBASTRIGO_DIFFERED 2 /* at a MATCH that differs, with the default, 0 until a DEFAULT was read */
-#define CORBASTRIGO_ABORTED 3  /* at a cut code or with too few address bits, number 0; only of maps refused at that width */
+/* How a walk ended: one of these, or CORBASTRIGO_CUT_OPCODE, also where it came to the map's end or past it, or CORBASTRIGO_CUT_OPERAND. */
+#define CORBASTRIGO_RETURNED 1     /* at a RETURN */
+#define CORBASTRIGO_DIFFERED 2     /* at a MATCH that differs, with the default, 0 until a DEFAULT was read */
+#define CORBASTRIGO_TOO_FEW_BITS 3 /* at a JUMP or MATCH that needs more address bits than are left */
+
+/* Whether a walk that ended so was aborted: 0 at a RETURN or a difference, else 1, also of a kind that this version does not know. An aborted
+ * walk has the number 0, and only a map that is refused at the walk's width aborts one. */
+CORBASTRIGO_INLINE int corbastrigo_aborted(uint8_t kind) {
+    return kind != CORBASTRIGO_RETURNED && kind != CORBASTRIGO_DIFFERED;
+}
+#undef CORBASTRIGO_INLINE
 
 /* Walks a map by an address of 16 bytes, IPv4 in its mapped form (ten zeros, ff ff, its four). Any map will do. Writes how the walk
- * ended, the number (0 alone does not tell how), the instructions that were read whole, and the address bits read. Refusals 11, then
- * 1. */
+ * ended (its kind, above), the number (0 alone does not tell how), the instructions that were read whole, and the address bits read.
+ * Refusals 11, then 1. */
 uint8_t corbastrigo_interpret(const uint8_t *map, size_t map_len, const uint8_t *address, size_t address_len, uint8_t *kind,
                               uint32_t *number, uint32_t *count, uint8_t *bits);
 
@@ -201,8 +212,8 @@ uint8_t corbastrigo_list_bytes(const uint8_t *map, size_t map_len, size_t *bytes
  * each). Records rise by address and are not joined: an address walks to the same number by both maps just where it lies in none, and
  * else to the two numbers of the one that it lies in. `out` needs as many bytes as corbastrigo_compare_bytes says. With 28 bytes for each
  * prefix of both lists, which is always enough, the maps are gone through once after their checks; with fewer the records are counted
- * first, in one time more. Writes the bytes written; those behind them remain. Refusals: the check's of the old map, 1 to 10, then of the
- * new one, 101 to 110, then 14. */
+ * first, in one time more. Writes the bytes written; those behind them remain. Refusals: the check's of the old map, then of the new one,
+ * 100 more, then 14. */
 uint8_t corbastrigo_compare(const uint8_t *old_map, size_t old_map_len, const uint8_t *new_map, size_t new_map_len, uint8_t *out,
                             size_t out_len, size_t *written);
 
@@ -223,8 +234,8 @@ uint8_t corbastrigo_compare_bytes(const uint8_t *old_map, size_t old_map_len, co
  * at 128 too, but a walk there asks the first bits of the mapped form, not those of the IPv4 address. Groups, picks and pages keep
  * 128. */
 
-/* The check over `width` bits. Refusals 18, then 1 to 10. No map that is accepted here can abort a walk at the same width, and no such walk
- * reads more than 2 * width + 1 instructions. */
+/* The check over `width` bits. Refusals 18, then the check's. No map that is accepted here can abort a walk at the same width, and no such
+ * walk reads more than 2 * width + 1 instructions. */
 uint8_t corbastrigo_sanity_check_bits(const uint8_t *map, size_t map_len, uint32_t width, uint32_t *count, uint8_t *depth);
 
 /* Where that check stops, and why. Refusals 18, then 1. */
@@ -245,7 +256,7 @@ uint8_t corbastrigo_list_bits(const uint8_t *map, size_t map_len, uint32_t width
 uint8_t corbastrigo_list_bytes_bits(const uint8_t *map, size_t map_len, uint32_t width, size_t *bytes);
 
 /* Two maps compared, both at the one width. `out` needs as many bytes as corbastrigo_compare_bytes_bits says. Refusals 18, then at that
- * width the check's of the old map, 1 to 10, and of the new one, 101 to 110, then 14. */
+ * width the check's of the old map and of the new one, 100 more, then 14. */
 uint8_t corbastrigo_compare_bits(const uint8_t *old_map, size_t old_map_len, const uint8_t *new_map, size_t new_map_len, uint32_t width,
                                  uint8_t *out, size_t out_len, size_t *written);
 

@@ -35,7 +35,9 @@ pub struct Arguments {
 #[derive(Debug, Subcommand)]
 pub enum Command {
     /// Say whether maps are sane, and where and why not
-    #[command(after_help = "Example:\n  asmap check before.asmap after.asmap")]
+    #[command(
+        after_help = "A map that its end cuts:\n  refused 4   within an opcode: usually a page was lost, or a copy broke off\n  refused 19  within an operand: usually the map was edited; a lost end may be there too\n\nExample:\n  asmap check before.asmap after.asmap"
+    )]
     Check(Check),
     /// Walk a map by addresses: the number that each is sent to, and how its walk ended
     #[command(

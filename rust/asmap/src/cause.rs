@@ -3,6 +3,9 @@
 use crate::files::MapFile;
 use corbastrigo::Refusal;
 
+/// What a file system writes at a time: a file that lost its last one has a size in whole pages.
+const PAGE: u64 = 4_096;
+
 /// What usually causes a refusal. Changed bytes are met at the first instruction that fits no longer: there, or anywhere behind them.
 pub fn usual_cause(refusal: Refusal, file: &MapFile) -> &'static str {
     match refusal {
@@ -10,7 +13,13 @@ pub fn usual_cause(refusal: Refusal, file: &MapFile) -> &'static str {
         Refusal::MapEnds if file.size == 0 => "the file was created and never written",
         Refusal::MapEnds => "the map lost its end, between two instructions: a copy broken off, or a last page not written",
         Refusal::PastTarget => "bytes in the middle were lost or overwritten, so that a jump before this no longer fits",
-        Refusal::Cut => "the map lost its end: a copy broken off, or a last page not written",
+        Refusal::CutOpcode => "the map lost its end: a last page not written, or a copy broken off; an edit hardly ever leads to this",
+        Refusal::CutOperand if file.size % PAGE == 0 => {
+            "a last page not written, since its size is in whole pages; else the map was edited, so that its last operand runs past the end"
+        }
+        Refusal::CutOperand => {
+            "the map was edited, so that its last operand runs past the end; or a copy broke off, which is mostly within an operand"
+        }
         Refusal::AfterDefault => {
             "a page was overwritten with zeros, ones or other bytes; or it is no map but a program or an archive"
         }
@@ -38,6 +47,9 @@ pub fn advice(refusal: Refusal, file: &MapFile) -> &'static str {
         Refusal::NoBits if file.width.is_ipv4() => "check it without --width 32, and use it without, if it is accepted there",
         Refusal::MapTooLong | Refusal::AfterDefault | Refusal::Padding => {
             "look whether this is the file that was meant; if it is, restore it from a whole copy"
+        }
+        Refusal::CutOperand => {
+            "restore it from a whole copy, with the same digest, and edit maps only by asmap unpack and asmap pack"
         }
         Refusal::NoBits | Refusal::ShortMatches => {
             "make it again, with another program or a newer one, or restore it from a whole copy"

@@ -2,7 +2,7 @@
 //! instruction with the library's decoder, and [`replay`] hands out none that does not come to the same.
 use crate::failure::Failure;
 use crate::words;
-use corbastrigo::{codes, End, Walk};
+use corbastrigo::{codes, End, Refusal, Walk};
 
 /// The default in force: its number, and the bit of the map at which it was set.
 #[derive(Clone, Copy, Debug, PartialEq, Eq)]
@@ -50,8 +50,17 @@ pub struct Replay {
     pub walk: Walk,
     /// Why its number is 0, where it is.
     pub why_zero: Option<String>,
-    /// The bit of the map where no whole instruction could be read, if that ended it.
-    pub cut: Option<usize>,
+    /// Where no whole instruction could be read, if that ended it.
+    pub cut: Option<Cut>,
+}
+
+/// An instruction that the map's end cuts.
+#[derive(Clone, Copy, Debug)]
+pub struct Cut {
+    /// The bit of the map at which it starts, or would: the map's end, or past it, is such a bit too.
+    pub place: usize,
+    /// Its opcode, where that is whole and the operand is cut; none where the opcode is cut.
+    pub opcode: Option<u32>,
 }
 
 /// Replays a walk that the library made by these address bytes, of whichever width, and hands out each step.
@@ -59,7 +68,10 @@ pub fn replay(map: &[u8], address: &[u8], walk: Walk, mut see: impl FnMut(Step))
     let mut state = State { map, address, place: 0, bit: 0, count: 0, default: None };
     // Every step leads onward in the map, so that this ends.
     let end = loop {
-        let Some(step) = state.step() else { break Ending::Cut(state.place) };
+        let step = match state.step() {
+            Ok(step) => step,
+            Err(cut) => break Ending::Cut(cut),
+        };
         let ending = Ending::of(&step);
         see(step);
         if let Some(ending) = ending {
@@ -74,7 +86,7 @@ pub fn replay(map: &[u8], address: &[u8], walk: Walk, mut see: impl FnMut(Step))
              please report this with the map and the address"
         )));
     }
-    let cut = if let Ending::Cut(place) = end { Some(place) } else { None };
+    let cut = if let Ending::Cut(cut) = end { Some(cut) } else { None };
     Ok(Replay { walk, why_zero: (number == 0).then(|| end.why_zero(map)), cut })
 }
 
@@ -83,7 +95,7 @@ enum Ending {
     Returned(u32),
     Differed(Option<InForce>),
     TooFewBits { opcode: u32, place: usize, needed: usize, left: usize },
-    Cut(usize),
+    Cut(Cut),
 }
 
 impl Ending {
@@ -102,7 +114,9 @@ impl Ending {
         match self {
             Ending::Returned(number) => (End::Returned, *number),
             Ending::Differed(default) => (End::Differed, default.map_or(0, |default| default.number)),
-            Ending::TooFewBits { .. } | Ending::Cut(_) => (End::Aborted, 0),
+            Ending::TooFewBits { .. } => (End::TooFewBits, 0),
+            Ending::Cut(Cut { opcode: None, .. }) => (End::CutOpcode, 0),
+            Ending::Cut(Cut { opcode: Some(_), .. }) => (End::CutOperand, 0),
         }
     }
 
@@ -116,10 +130,15 @@ impl Ending {
                 "the walk was aborted: the {} at bit {place} needs {needed} of the address bits, and {left} are left",
                 words::opcode(*opcode)
             ),
-            Ending::Cut(place) if *place < end => {
-                format!("the walk was aborted: the map ends within the instruction at bit {place}")
+            Ending::Cut(Cut { place, opcode: Some(opcode) }) => {
+                format!("the walk was aborted: the map ends within the operand of the {} at bit {place}", words::opcode(*opcode))
             }
-            Ending::Cut(place) => format!("the walk was aborted: it came to bit {place}, and the map ends at bit {end}"),
+            Ending::Cut(Cut { place, .. }) if *place < end => {
+                format!("the walk was aborted: the map ends within the opcode at bit {place}")
+            }
+            Ending::Cut(Cut { place, .. }) => {
+                format!("the walk was aborted: it came to bit {place} for an opcode, and the map ends at bit {end}")
+            }
         }
     }
 }
@@ -136,10 +155,10 @@ struct State<'a> {
 }
 
 impl State<'_> {
-    /// The next step, or none where no whole instruction is left to read.
-    fn step(&mut self) -> Option<Step> {
+    /// The next step, or what is cut where no whole instruction is left to read.
+    fn step(&mut self) -> Result<Step, Cut> {
         let (place, first_bit, default) = (self.place, self.bit, self.default);
-        let (opcode, operand, size) = codes::decode_instruction(self.map, place).ok()?;
+        let (opcode, operand, size) = codes::decode_instruction(self.map, place).map_err(|refusal| self.cut(refusal))?;
         self.place += size;
         self.count += 1;
         let next = match opcode {
@@ -152,7 +171,13 @@ impl State<'_> {
             }
         };
         let bits = (first_bit..self.bit).map(|bit| self.address_bit(bit)).collect();
-        Some(Step { place, opcode, operand, first_bit, bits, default, next })
+        Ok(Step { place, opcode, operand, first_bit, bits, default, next })
+    }
+
+    /// What is cut of the instruction here, by the library's refusal to read it.
+    fn cut(&self, refusal: Refusal) -> Cut {
+        let whole = if refusal == Refusal::CutOperand { codes::decode_type(self.map, self.place).ok() } else { None };
+        Cut { place: self.place, opcode: whole.map(|opcode| opcode.value) }
     }
 
     fn jump(&mut self, operand: u32) -> Next {
@@ -215,23 +240,22 @@ mod tests {
         let mut runner = TestRunner::deterministic();
         // Few ones make RETURNs likely, many ones MATCHes and DEFAULTs.
         let bytes = (vec(any::<u8>(), 0..256), vec(any::<u8>(), 256), 0..3_usize);
-        let mut met = [[0; 3]; 2];
+        let mut met = [[0; 5]; 2];
         for _ in 0..10_000 {
             let (a, b, kind) = bytes.new_tree(&mut runner).expect("bytes").current();
             let map: Vec<u8> = a.iter().zip(b).map(|(a, b)| [a & b, *a, a | b][kind]).collect();
             let address = any::<[u8; 16]>().new_tree(&mut runner).expect("an address").current();
             for (ends, length) in met.iter_mut().zip([16, 4]) {
                 let replay = walked(&map, &address[..length]);
-                match replay.walk.end {
-                    End::Returned => ends[0] += 1,
-                    End::Differed => ends[1] += 1,
-                    _ => ends[2] += 1,
-                }
+                let kinds = [End::Returned, End::Differed, End::TooFewBits, End::CutOpcode, End::CutOperand];
+                ends[kinds.iter().position(|&kind| kind == replay.walk.end).expect("a kind that is known")] += 1;
                 assert_eq!(replay.why_zero.is_some(), replay.walk.number == 0);
+                assert!(!replay.walk.end.is_abort() || replay.walk.number == 0);
             }
         }
-        for [returned, differed, aborted] in met {
-            assert!(returned > 1_000 && differed > 1_000 && aborted > 100, "{returned} {differed} {aborted}");
+        for [returned, differed, too_few_bits, cut_opcode, cut_operand] in met {
+            assert!(returned > 1_000 && differed > 1_000, "{met:?}");
+            assert!(too_few_bits > 0 && cut_opcode > 100 && cut_operand > 100, "{met:?}");
         }
     }
 
@@ -247,6 +271,14 @@ mod tests {
             assert!(matches!(failure, Failure::Said(message) if message.contains("please report")));
         }
         assert_eq!(walked(&map, &[0; 16]).walk, walk);
+        // An abort of another kind is another answer.
+        for (map, other) in [(&[0x00][..], End::CutOpcode), (&[0x8b], End::CutOperand), (&[], End::TooFewBits)] {
+            let walk = interpret_bits(map, &[0; 16], 128).expect("walked");
+            assert!(replay(map, &[0; 16], walk, drop).is_ok() && walk.end != other);
+            let mut wrong = walk;
+            wrong.end = other;
+            assert!(replay(map, &[0; 16], wrong, drop).is_err());
+        }
     }
 
     #[test]
@@ -254,10 +286,16 @@ mod tests {
         let why = |map: &[u8]| walked(map, &[0xff; 16]).why_zero.expect("0");
         // A MATCH of a 0, then RETURN 1.
         assert_eq!(why(&[0x03, 0, 0]), "the walk differed before any DEFAULT was met");
-        assert_eq!(why(&[0xfb]), "the walk was aborted: the map ends within the instruction at bit 0");
-        assert_eq!(why(&[]), "the walk was aborted: it came to bit 0, and the map ends at bit 0");
+        // A MATCH without its bits, a RETURN and a DEFAULT without their numbers, a JUMP that is not whole.
+        assert_eq!(why(&[0xfb]), "the walk was aborted: the map ends within the operand of the MATCH at bit 0");
+        assert_eq!(why(&[0x00]), "the walk was aborted: the map ends within the operand of the RETURN at bit 0");
+        assert_eq!(why(&[0x07, 0x00]), "the walk was aborted: the map ends within the operand of the DEFAULT at bit 0");
+        assert_eq!(why(&[0x05]), "the walk was aborted: the map ends within the operand of the JUMP at bit 0");
+        // A MATCH of two ones, and behind it the first bit of an opcode.
+        assert_eq!(why(&[0xeb]), "the walk was aborted: the map ends within the opcode at bit 7");
+        assert_eq!(why(&[]), "the walk was aborted: it came to bit 0 for an opcode, and the map ends at bit 0");
         // A JUMP of 17 bits past the end.
-        assert_eq!(why(&[1]), "the walk was aborted: it came to bit 25, and the map ends at bit 8");
+        assert_eq!(why(&[1]), "the walk was aborted: it came to bit 25 for an opcode, and the map ends at bit 8");
         // A MATCH of eight ones for each byte of the address, and one of one more.
         let ones = codes::encode_instruction(2, 511).expect("an instruction");
         let one = codes::encode_instruction(2, 3).expect("an instruction");

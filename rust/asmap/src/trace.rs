@@ -3,7 +3,7 @@ use crate::args::Trace;
 use crate::failure::{Failure, Outcome, Status};
 use crate::files;
 use crate::out::{Out, Style};
-use crate::replay::{replay, InForce, Next, Replay, Step};
+use crate::replay::{replay, Cut, InForce, Next, Replay, Step};
 use crate::walk::{end, object, Walkable};
 use crate::width::Width;
 use crate::words::{self, counted};
@@ -140,7 +140,7 @@ fn foot(map: &Walkable, replay: &Replay, out: &mut Out) -> Result<(), Failure> {
 
 /// The path downward, and beside it what was not taken.
 fn picture(steps: &[Step], replay: &Replay, out: &mut Out) -> Result<(), Failure> {
-    let last = replay.cut.or(steps.last().map(|step| step.place)).unwrap_or(0);
+    let last = replay.cut.map(|cut| cut.place).or(steps.last().map(|step| step.place)).unwrap_or(0);
     let width = last.to_string().len();
     out.line("")?;
     out.line("The path is |, and what was not taken is `- -.")?;
@@ -156,11 +156,19 @@ fn picture(steps: &[Step], replay: &Replay, out: &mut Out) -> Result<(), Failure
         }
     }
     match (steps.last(), replay.cut) {
-        (_, Some(place)) => out.line(&format!("bit {place:<width$}  no whole instruction: aborted, number 0")),
+        (_, Some(cut)) => out.line(&format!("bit {:<width$}  {}: aborted, number 0", cut.place, whats_cut(cut))),
         (Some(Step { next: Next::Differs(_), default: in_force, .. }), _) => {
             out.line(&format!("ends with the default, {}", default(*in_force)))
         }
         _ => Ok(()),
+    }
+}
+
+/// What the map's end cuts.
+fn whats_cut(cut: Cut) -> String {
+    match cut.opcode {
+        Some(opcode) => format!("{}, its operand cut by the map's end", words::opcode(opcode)),
+        None => String::from("no whole opcode, by the map's end"),
     }
 }
 

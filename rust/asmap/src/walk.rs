@@ -48,12 +48,23 @@ fn not_walked(path: &Path, refusal: Refusal, width: Width) -> Failure {
     }
 }
 
-/// A kind of end in a word.
+/// How a walk ended, in a word. Every abort has one word, and [`aborted_by`] says which it was.
 pub fn end(walk: &Walk) -> &'static str {
     match walk.end {
         End::Returned => "returned",
         End::Differed => "differed",
         _ => "aborted",
+    }
+}
+
+/// What aborted a walk, if anything did.
+fn aborted_by(walk: &Walk) -> Option<&'static str> {
+    match walk.end {
+        End::Returned | End::Differed => None,
+        End::TooFewBits => Some("too_few_bits"),
+        End::CutOpcode => Some("cut_opcode"),
+        End::CutOperand => Some("cut_operand"),
+        _ => Some("unknown"),
     }
 }
 
@@ -108,7 +119,8 @@ fn line(map: &Walkable, address: IpAddr, walk: &Walk, why: Option<String>, colum
 /// A walk as an object.
 pub fn object(map: &Walkable, address: IpAddr, walk: &Walk, why: Option<String>) -> Value {
     json!({
-        "address": address.to_string(), "number": walk.number, "end": end(walk), "instructions": walk.count, "bits": walk.bits,
-        "why_zero": why, "width": map.width.bits(), "checked": map.refusal.is_none(), "refusal": map.refusal.map(Refusal::number),
+        "address": address.to_string(), "number": walk.number, "end": end(walk), "aborted_by": aborted_by(walk),
+        "instructions": walk.count, "bits": walk.bits, "why_zero": why, "width": map.width.bits(), "checked": map.refusal.is_none(),
+        "refusal": map.refusal.map(Refusal::number),
     })
 }

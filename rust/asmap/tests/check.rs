@@ -4,16 +4,18 @@ use common::{stored, text, Folder};
 use serde_json::Value;
 
 /// A map for each refusal, most of them document 01's examples.
-const REFUSED: [(&str, &[u8]); 9] = [
+const REFUSED: [(&str, &[u8]); 10] = [
     ("02.asmap", &[0x01]),
     ("03.asmap", &[0x01, 0xfb, 0x03, 0x00]),
-    ("04.asmap", &[0xfb]),
+    // A MATCH of 00, and the first bit of an opcode.
+    ("04.asmap", &[0x8b]),
     ("05.asmap", &[0x07, 0x00, 0x00]),
     ("06.asmap", &[0x00, 0x00, 0x02]),
     ("07.asmap", &[0xfd, 0x71, 0x3a, 0x00, 0x00]),
     ("08.asmap", &MATCH_PAST_END),
     ("09.asmap", &[0x01, 0x01]),
     ("10.asmap", &[0x63, 0x00, 0x00, 0x00]),
+    ("19.asmap", &[0xfb]),
 ];
 
 /// Sixteen MATCHes of a byte, then one of a bit more (the original's ASMAP_MATCH_PAST_END).
@@ -44,10 +46,11 @@ fn each_refusal_says_why_and_what_to_do() {
     let (folder, names) = refused();
     stored("check_refused", &folder.output(&[&["check"], &names[..]].concat()));
     stored("check_refused_json", &folder.output(&[&["--json", "check"], &names[..]].concat()));
-    for (place, name) in names.iter().enumerate() {
+    for name in names {
         let output = folder.output(&["--json", "check", name]);
         let answer: Value = serde_json::from_slice(&output.stdout).expect("one object");
-        assert_eq!((output.status.code(), &answer["refusal"]), (Some(1), &Value::from(place + 1)));
+        let number: u8 = name[..2].parse().expect("a name that tells the number");
+        assert_eq!((output.status.code(), &answer["refusal"]), (Some(1), &Value::from(number)));
     }
 }
 

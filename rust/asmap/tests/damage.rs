@@ -1,9 +1,9 @@
 //! To which refusals the usual damage to a file leads. `asmap check` names it as the cause, by src/cause.rs; a change of the causes there
 //! goes with one here.
 mod common;
-use common::{large_map, text, Draws, Folder};
+use common::{large_map, maps, text, Draws, Folder};
 use corbastrigo::{sanity_check, sanity_check_stop};
-use std::collections::BTreeSet;
+use std::collections::{BTreeMap, BTreeSet};
 
 const PAGE: usize = 4_096;
 
@@ -22,11 +22,88 @@ fn numbers(map: &[u8], damage: impl Fn(&mut Vec<u8>, usize)) -> BTreeSet<u8> {
     (0..map.len() / PAGE).map(damaged).collect()
 }
 
+/// How many of the maps have each number.
+fn counts(maps: impl Iterator<Item = Vec<u8>>) -> BTreeMap<u8, usize> {
+    let mut counts = BTreeMap::new();
+    maps.for_each(|map| *counts.entry(number(&map)).or_default() += 1);
+    counts
+}
+
+/// A map's copies, each with another of its bytes edited.
+fn edited<'a>(map: &'a [u8], edit: impl Fn(&mut Vec<u8>, usize) + 'a) -> impl Iterator<Item = Vec<u8>> + 'a {
+    (0..map.len()).map(move |place| {
+        let mut copy = map.to_vec();
+        edit(&mut copy, place);
+        copy
+    })
+}
+
 #[test]
-fn a_lost_end_is_2_or_4() {
+fn a_lost_end_is_2_or_4_or_19_and_mostly_19() {
     let map = large_map(15, 1);
     assert_eq!(map.len(), 156_045);
-    assert_eq!(numbers(&map, |map, place| map.truncate(place)), [2, 4].into());
+    assert_eq!(numbers(&map, |map, place| map.truncate(place)), [2, 4, 19].into());
+    // Most bits of a map are an operand's, so that most ends are within one, those of pages as any others.
+    let pages = counts((1..=map.len() / PAGE).map(|page| map[..page * PAGE].to_vec()));
+    assert_eq!(pages, [(2, 2), (4, 2), (19, 34)].into());
+    let map = large_map(10, 1);
+    let bytes = counts((0..map.len()).map(|end| map[..end].to_vec()));
+    assert_eq!(bytes.keys().copied().collect::<Vec<_>>(), [2, 4, 19]);
+    assert!(10 * bytes[&19] > 8 * map.len() && 100 * bytes[&4] > 2 * map.len(), "{bytes:?} of {}", map.len());
+}
+
+#[test]
+fn an_edit_of_the_last_bytes_is_19() {
+    // The last RETURN has 17 bits or more, and its opcode is the first of them.
+    for lost in 1..=2 {
+        assert_eq!(counts(maps().into_iter().map(|map| map[..map.len() - lost].to_vec())), [(19, maps().len())].into());
+    }
+    // The bits that tell the size of its number, all set: it would be a number of 24 bits.
+    let longest = |mut map: Vec<u8>| {
+        let last = sanity_check_stop(&map).expect("within the limit").place;
+        (last + 1..last + 10).for_each(|bit| map[bit / 8] |= 1 << (bit % 8));
+        map
+    };
+    assert_eq!(counts(maps().into_iter().map(longest)), [(19, maps().len())].into());
+    // A byte taken out there: what is behind it moves up, and the end is 8 bits nearer.
+    let map = large_map(12, 1);
+    let taken: Vec<u8> = edited(&map, |map, place| drop(map.remove(place))).skip(map.len() - 8).map(|map| number(&map)).collect();
+    assert!(taken.iter().all(|number| [6, 19].contains(number)) && taken[2..] == [19; 6], "{taken:?}");
+}
+
+#[test]
+fn an_edit_further_up_is_met_at_a_jump_and_none_cuts_an_opcode() {
+    let map = large_map(10, 1);
+    let last = 8;
+    let taken = edited(&map, |map, place| drop(map.remove(place)));
+    let put = edited(&map, |map, place| map.insert(place, b' '));
+    let ones = edited(&map, |map, place| map[place] = 0xff);
+    let zeros = edited(&map, |map, place| map[place] = 0);
+    let kinds: [Box<dyn Iterator<Item = Vec<u8>>>; 4] = [Box::new(taken), Box::new(put), Box::new(ones), Box::new(zeros)];
+    for (kind, copies) in kinds.into_iter().enumerate() {
+        let met = counts(copies.take(map.len() - last));
+        assert!(met.keys().all(|number| ![2, 4, 19].contains(number)), "{kind}: {met:?}");
+        assert!(met[&7] > 100, "{kind}: {met:?}");
+    }
+}
+
+#[test]
+fn the_cause_that_is_named_goes_by_the_cut_and_by_the_size() {
+    let folder = Folder::new();
+    let map = large_map(15, 1);
+    let usually = |map: &[u8]| {
+        folder.write("damaged.asmap", map);
+        let output = folder.output(&["check", "damaged.asmap"]);
+        let line = text(&output.stdout).lines().find_map(|line| line.strip_prefix("  usually  ")).map(String::from);
+        (number(map), line.expect("a cause"))
+    };
+    for page in 1..=map.len() / PAGE {
+        let (number, words) = usually(&map[..page * PAGE]);
+        let begins = if number == 19 { "a last page not written" } else { "the map lost its end" };
+        assert!(words.starts_with(begins) && words.contains("last page"), "{number}: {words}");
+    }
+    let (number, words) = usually(&map[..map.len() - 1]);
+    assert!(number == 19 && words.starts_with("the map was edited") && words.contains("broke off"), "{number}: {words}");
 }
 
 #[test]

@@ -140,7 +140,7 @@ fn the_page_names_every_field() {
 #[test]
 fn the_page_names_every_refusal_of_the_check() {
     let page = page("ASMAP.md");
-    for refusal in &Refusal::NAMED[..10] {
+    for refusal in Refusal::NAMED[..10].iter().chain([&Refusal::CutOperand]) {
         let row = format!("\n| {} | {} | ", refusal.number(), refusal.reason());
         assert!(page.contains(&row), "{row}");
     }

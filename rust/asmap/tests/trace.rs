@@ -28,6 +28,10 @@ fn walks_of_refused_maps() {
     let folder = Folder::new();
     stored("trace_refused", &folder.output(&["trace", "cut.asmap", "3.4.5.6"]));
     stored("trace_unchecked", &folder.output(&["trace", "--unchecked", "cut.asmap", "3.4.5.6"]));
+    stored("trace_unchecked_json", &folder.output(&["trace", "--json", "--unchecked", "cut.asmap", "3.4.5.6"]));
+    // A MATCH of 00, and the first bit of an opcode.
+    folder.write("opcode.asmap", [0x8b]);
+    stored("trace_cut_opcode", &folder.output(&["trace", "--unchecked", "opcode.asmap", "::"]));
     folder.write("empty.asmap", []);
     stored("trace_empty", &folder.output(&["trace", "--unchecked", "empty.asmap", "::"]));
     // Sixteen MATCHes of eight zeros, and one more.

@@ -131,7 +131,8 @@ fn a_map_cut_at_any_page_is_refused_and_never_used_quietly() {
         let check = folder.output(&["check", "page.asmap"]);
         assert_eq!(check.status.code(), Some(1), "{cut}");
         let words = text(&check.stdout);
-        let named = ["page.asmap: refused 2: the map ends where", "page.asmap: refused 4: a code is cut by"];
+        let named = ["refused 2: the map ends where", "refused 4: an opcode is cut by", "refused 19: an operand is cut by"]
+            .map(|reason| format!("page.asmap: {reason}"));
         assert!(named.iter().any(|reason| words.starts_with(reason)) && words.contains("\n  usually  "), "{cut}: {words}");
         assert!(met_at(words).is_some_and(|bit| bit <= 8 * cut && bit + 57 > 8 * cut), "{cut}: {words}");
         for subcommand in [

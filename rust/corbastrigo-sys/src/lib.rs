@@ -16,8 +16,23 @@ pub const CHANGE_RECORD_BYTES: usize = 28;
 /// The bytes of a line of `corbastrigo_page`: the group in 10 columns, a space, its candidates in 6, a space, the per cent in 6, a line feed.
 pub const PAGE_LINE_BYTES: usize = 25;
 
-/// What a comparison adds to the check's reason where it refuses the new map: 101 to 110.
+/// What a comparison adds to the check's reason where it refuses the new map: 101 to 110 and 119.
 pub const NEW_MAP: u8 = 100;
+
+/// The kind of a walk's end at a RETURN.
+pub const RETURNED: u8 = 1;
+
+/// The kind of a walk's end at a MATCH that differs, with the default.
+pub const DIFFERED: u8 = 2;
+
+/// The kind of a walk's end at a JUMP or MATCH that needs more address bits than are left. This end and the two below are aborts.
+pub const TOO_FEW_BITS: u8 = 3;
+
+/// The kind of a walk's end at an opcode that the map's end cuts, or from there on; the number of the refusal too.
+pub const CUT_OPCODE: u8 = 4;
+
+/// The kind of a walk's end at an operand that the map's end cuts; the number of the refusal too.
+pub const CUT_OPERAND: u8 = 19;
 
 /// A code read at a bit of a map.
 pub type Decode = unsafe extern "C" fn(*const u8, usize, usize, *mut u32, *mut usize) -> u8;

@@ -1,5 +1,5 @@
 //! What is written here twice: the header's calls, each with the types of its parameters in their order, and its numbers.
-use corbastrigo_sys::{CHANGE_RECORD_BYTES, NEW_MAP, PAGE_LINE_BYTES};
+use corbastrigo_sys::{CHANGE_RECORD_BYTES, CUT_OPCODE, CUT_OPERAND, DIFFERED, NEW_MAP, PAGE_LINE_BYTES, RETURNED, TOO_FEW_BITS};
 use std::collections::BTreeMap;
 
 const HEADER: &str = include_str!("../../../include/corbastrigo.h");
@@ -41,11 +41,23 @@ fn every_call_of_the_header_is_declared_with_its_types() {
 
 #[test]
 fn a_constant_has_the_headers_number() {
+    // What the header defines, or lists among the refusals; a comment may stand behind it.
     let defined = |name: &str| {
-        let line = HEADER.lines().find_map(|line| line.strip_prefix(&format!("#define CORBASTRIGO_{name} ")));
-        line.and_then(|number| number.parse().ok())
+        let (define, refusal) = (format!("#define CORBASTRIGO_{name} "), format!("CORBASTRIGO_{name} = "));
+        let number = |line: &'static str| line.trim().strip_prefix(&define).or(line.trim().strip_prefix(&refusal));
+        HEADER.lines().find_map(number)?.split([' ', ',']).next()?.parse::<usize>().ok()
     };
     assert_eq!(defined("CHANGE_RECORD_BYTES"), Some(CHANGE_RECORD_BYTES));
-    assert_eq!(defined("NEW_MAP"), Some(usize::from(NEW_MAP)));
     assert_eq!(defined("PAGE_LINE_BYTES"), Some(PAGE_LINE_BYTES));
+    for (name, number) in [
+        ("NEW_MAP", NEW_MAP),
+        ("RETURNED", RETURNED),
+        ("DIFFERED", DIFFERED),
+        ("TOO_FEW_BITS", TOO_FEW_BITS),
+        ("CUT_OPCODE", CUT_OPCODE),
+        ("CUT_OPERAND", CUT_OPERAND),
+    ] {
+        assert_eq!(defined(name), Some(usize::from(number)), "{name}");
+    }
+    assert_eq!(defined("ABORTED"), None);
 }

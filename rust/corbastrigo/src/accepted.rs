@@ -48,7 +48,7 @@ impl<const WIDTH: u32> Accepted<WIDTH> {
             width => interpret_bits(&self.bytes, address, width),
         };
         // An accepted map is within the limit, and its width and the address's length fit, so nothing is left to refuse.
-        walk.unwrap_or(Walk { end: End::Aborted, number: 0, count: 0, bits: 0 })
+        walk.unwrap_or(Walk { end: End::Other(0), number: 0, count: 0, bits: 0 })
     }
 }
 
@@ -76,7 +76,7 @@ impl AsMap {
     /// ```
     /// use corbastrigo::{AsMap, Refusal};
     ///
-    /// assert_eq!(AsMap::checked(vec![0, 0]), Err(Refusal::Cut));
+    /// assert_eq!(AsMap::checked(vec![0, 0]), Err(Refusal::CutOperand));
     /// ```
     pub fn checked(bytes: Vec<u8>) -> Result<AsMap, Refusal> {
         Accepted::checked(bytes).map(AsMap)
@@ -247,7 +247,7 @@ impl AsMap4 {
     /// use corbastrigo::{AsMap4, Refusal};
     ///
     /// assert_eq!(AsMap4::checked(vec![0, 0, 0])?.len(), 3);
-    /// assert_eq!(AsMap4::checked(vec![0, 0]), Err(Refusal::Cut));
+    /// assert_eq!(AsMap4::checked(vec![0, 0]), Err(Refusal::CutOperand));
     /// # Ok::<(), Refusal>(())
     /// ```
     pub fn checked(bytes: Vec<u8>) -> Result<AsMap4, Refusal> {

@@ -51,8 +51,8 @@ pub fn changes(records: &[u8]) -> impl Iterator<Item = Change> + '_ {
 /// use corbastrigo::{compare, CompareError, Refusal};
 ///
 /// let error = compare(&[0, 0, 0], &[0, 0]).unwrap_err();
-/// assert_eq!(error, CompareError::New(Refusal::Cut));
-/// assert_eq!((error.refusal().number(), error.number()), (4, 104));
+/// assert_eq!(error, CompareError::New(Refusal::CutOperand));
+/// assert_eq!((error.refusal().number(), error.number()), (19, 119));
 /// assert_eq!(error.to_string(), "the new map is refused");
 /// ```
 #[derive(Clone, Copy, Debug, PartialEq, Eq, Hash)]

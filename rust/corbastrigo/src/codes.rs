@@ -1,4 +1,5 @@
-//! Single codes and instructions: read at a bit of a map (refusals 1 and 4), written as bits (refusal 15).
+//! Single codes and instructions: read at a bit of a map (refusal 1; where the map's end cuts what is read, 4 of an opcode and 19 of an
+//! operand), written as bits (refusal 15).
 //!
 //! ```
 //! use corbastrigo::{codes, Refusal};
@@ -10,6 +11,10 @@
 //! let written = codes::encode_jump(17)?;
 //! assert_eq!((written.bits, written.len), (0, 6));
 //! assert_eq!(codes::encode_jump(16), Err(Refusal::OutOfRange));
+//!
+//! // From the map's end on each is cut: an opcode as an opcode, an operand as an operand.
+//! assert_eq!(codes::decode_type(&[1], 8), Err(Refusal::CutOpcode));
+//! assert_eq!(codes::decode_jump(&[1], 8), Err(Refusal::CutOperand));
 //! # Ok::<(), Refusal>(())
 //! ```
 use crate::Refusal;
@@ -89,7 +94,8 @@ pub fn encode_jump(value: u32) -> Result<Bits, Refusal> {
     encode(sys::corbastrigo_encode_jump, value)
 }
 
-/// The instruction that starts at a bit: its opcode, operand and length in bits.
+/// The instruction that starts at a bit: its opcode, operand and length in bits. Where the map's end cuts it the refusal tells in which of
+/// the two: 4, the opcode, also at the map's end or past it; 19, the operand.
 pub fn decode_instruction(map: &[u8], at: usize) -> Result<(u32, u32, usize), Refusal> {
     let (mut opcode, mut operand, mut size) = (0, 0, 0);
     // SAFETY: the slice gives its own pointer and length; the three numbers are borrowed for the call and are nobody else's.

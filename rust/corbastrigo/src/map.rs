@@ -12,7 +12,7 @@ pub struct Check {
     pub depth: u8,
 }
 
-/// Whether a map is sane, and the reason, 1 to 10, where it is not.
+/// Whether a map is sane, and the reason, 1 to 10 or 19, where it is not.
 ///
 /// ```
 /// use corbastrigo::{sanity_check, Refusal};
@@ -64,7 +64,7 @@ fn checked(call: impl FnOnce(&mut u32, &mut u8) -> u8) -> Result<Check, Refusal>
 #[derive(Clone, Copy, Debug, PartialEq, Eq)]
 #[non_exhaustive]
 pub struct Stop {
-    /// Why the check refuses the map, 2 to 10; none where it accepts.
+    /// Why the check refuses the map, 2 to 10 or 19; none where it accepts.
     pub reason: Option<Refusal>,
     /// The bit of the map at which the check stops: the first of the instruction at which it accepts or refuses, or the number of the map's
     /// bits where the map ends before one. Its byte is `place / 8`, and in it the bits run from the lowest upward.
@@ -115,9 +115,44 @@ pub enum End {
     Returned,
     /// At a MATCH that differs, with the default.
     Differed,
-    /// At a cut code, or with too few address bits. No map that the check accepts aborts a walk
-    /// by as many bits as it was checked over.
-    Aborted,
+    /// At a JUMP or MATCH that needs more address bits than are left.
+    TooFewBits,
+    /// At an opcode that the map's end cuts. So ends a walk too that comes to the map's end, or past it by a JUMP.
+    CutOpcode,
+    /// At an operand that the map's end cuts.
+    CutOperand,
+    /// A kind that this version has no name for, which counts as an abort.
+    Other(u8),
+}
+
+impl End {
+    /// Whether the walk was aborted: it ended neither at a RETURN nor at a difference. The number is 0 then and says nothing of the address.
+    /// No map that the check accepts aborts a walk by as many bits as it was checked over.
+    ///
+    /// ```
+    /// use corbastrigo::{interpret, End, Refusal};
+    ///
+    /// // A RETURN whose number is cut, and a MATCH of two bits, 00, with one bit of an opcode behind it.
+    /// let ends = [interpret(&[0x00], &[0; 16])?.end, interpret(&[0x8b], &[0; 16])?.end];
+    /// assert_eq!(ends, [End::CutOperand, End::CutOpcode]);
+    /// assert!(ends.iter().all(|end| end.is_abort()) && !End::Differed.is_abort());
+    /// # Ok::<(), Refusal>(())
+    /// ```
+    pub fn is_abort(self) -> bool {
+        !matches!(self, End::Returned | End::Differed)
+    }
+
+    /// The kind that the library tells by its number.
+    fn from_kind(kind: u8) -> End {
+        match kind {
+            sys::RETURNED => End::Returned,
+            sys::DIFFERED => End::Differed,
+            sys::TOO_FEW_BITS => End::TooFewBits,
+            sys::CUT_OPCODE => End::CutOpcode,
+            sys::CUT_OPERAND => End::CutOperand,
+            other => End::Other(other),
+        }
+    }
 }
 
 /// A walk of a map by an address.
@@ -140,7 +175,8 @@ pub struct Walk {
 /// use corbastrigo::{interpret, End, Refusal};
 ///
 /// let walk = interpret(&[1], &[0; 16])?;
-/// assert_eq!((walk.end, walk.number, walk.count, walk.bits), (End::Aborted, 0, 1, 1));
+/// // The JUMP is read, and the map ends behind it.
+/// assert_eq!((walk.end, walk.number, walk.count, walk.bits), (End::CutOpcode, 0, 1, 1));
 /// assert_eq!(interpret(&[1], &[0; 4]), Err(Refusal::AddressLength));
 /// # Ok::<(), Refusal>(())
 /// ```
@@ -177,12 +213,7 @@ pub fn interpret_bits(map: &[u8], address: &[u8], width: u32) -> Result<Walk, Re
 fn walked(call: impl FnOnce([&mut u8; 2], [&mut u32; 2]) -> u8) -> Result<Walk, Refusal> {
     let (mut kind, mut number, mut count, mut bits) = (0, 0, 0, 0);
     Refusal::check(call([&mut kind, &mut bits], [&mut number, &mut count]))?;
-    let end = match kind {
-        1 => End::Returned,
-        2 => End::Differed,
-        _ => End::Aborted,
-    };
-    Ok(Walk { end, number, count, bits })
+    Ok(Walk { end: End::from_kind(kind), number, count, bits })
 }
 
 /// The 16 bytes that a map is walked by: an IPv4 address in its mapped form.

@@ -45,7 +45,7 @@ pub fn prefixes(records: &[u8]) -> impl Iterator<Item = Prefix> + '_ {
 ///
 /// // A lone RETURN: one prefix, of no bits.
 /// assert_eq!(list_bytes(&[0, 0, 0]), Ok(PREFIX_BYTES));
-/// assert_eq!(list_bytes(&[0, 0]), Err(Refusal::Cut));
+/// assert_eq!(list_bytes(&[0, 0]), Err(Refusal::CutOperand));
 /// ```
 pub fn list_bytes(map: &[u8]) -> Result<usize, Refusal> {
     // SAFETY: the slice gives its own pointer and length; the number is borrowed for the call and is nobody else's.

@@ -11,9 +11,9 @@ macro_rules! refusals {
         /// use corbastrigo::{sanity_check, Refusal};
         ///
         /// let refusal = sanity_check(&[0xfb]).unwrap_err();
-        /// assert_eq!(refusal, Refusal::Cut);
-        /// assert_eq!(refusal.number(), 4);
-        /// assert_eq!(refusal.to_string(), "a code is cut by the map's end (refusal 4)");
+        /// assert_eq!(refusal, Refusal::CutOperand);
+        /// assert_eq!(refusal.number(), 19);
+        /// assert_eq!(refusal.to_string(), "an operand is cut by the map's end (refusal 19)");
         /// ```
         #[derive(Clone, Copy, PartialEq, Eq, Hash)]
         #[non_exhaustive]
@@ -36,7 +36,7 @@ macro_rules! refusals {
                 }
             }
 
-            /// The number, which stays the same in every version: 1 to 18 of those that have a name.
+            /// The number, which stays the same in every version: 1 to 19 of those that have a name.
             pub fn number(self) -> u8 {
                 match self {
                     $(Refusal::$name => $number,)*
@@ -66,7 +66,7 @@ refusals! {
     MapTooLong = 1: "the map has more than 16,777,216 bytes",
     MapEnds = 2: "the map ends where an instruction must start",
     PastTarget = 3: "an instruction starts at or past the innermost open jump's target",
-    Cut = 4: "a code is cut by the map's end",
+    CutOpcode = 4: "an opcode is cut by the map's end",
     AfterDefault = 5: "a RETURN or a DEFAULT comes straight after a DEFAULT",
     Padding = 6: "more than 7 bits, or a bit that is 1, follow the last RETURN",
     NotAtTarget = 7: "a RETURN does not end at the innermost open jump's target",
@@ -81,6 +81,7 @@ refusals! {
     Record = 16: "a record's length, zeros, place or size is wrong",
     RelayLength = 17: "the address has a length that its network does not have",
     Width = 18: "the width is neither 32 nor 128",
+    CutOperand = 19: "an operand is cut by the map's end",
 }
 
 impl Refusal {

@@ -50,14 +50,15 @@ fn a_checked_map_is_walked() {
 #[test]
 fn a_refused_map_is_none_and_says_why() {
     assert_eq!(AsMap::from_bytes(TWO_PREFIXES[..34].to_vec()), None);
-    assert_eq!(AsMap::checked(TWO_PREFIXES[..34].to_vec()), Err(Refusal::Cut));
+    assert_eq!(AsMap::checked(TWO_PREFIXES[..34].to_vec()), Err(Refusal::CutOperand));
     let check = sanity_check(&[0, 0, 0]).expect("accepted");
     assert_eq!((check.count, check.depth), (1, 0));
     for (bytes, reason) in [
         (&vec![0; MAX_MAP_BYTES + 1][..], Refusal::MapTooLong),
         (&[], Refusal::MapEnds),
         (&[0x01, 0xfb, 0x03, 0x00], Refusal::PastTarget),
-        (&[0xfb], Refusal::Cut),
+        (&[0x8b], Refusal::CutOpcode),
+        (&[0xfb], Refusal::CutOperand),
         (&[0x07, 0, 0], Refusal::AfterDefault),
         (&[0, 0, 2], Refusal::Padding),
         (&[0xfd, 0x71, 0x3a, 0, 0], Refusal::NotAtTarget),
@@ -78,7 +79,8 @@ fn the_place_of_a_refusal_is_told() {
         (&[0x07, 0, 0], 5, 19),
         (&[0xfd, 0x71, 0x3a, 0, 0], 7, 22),
         (&[0x63, 0, 0, 0], 10, 5),
-        (&TWO_PREFIXES[..34], 4, 256),
+        (&[0x8b], 4, 7),
+        (&TWO_PREFIXES[..34], 19, 256),
     ] {
         let stop = sanity_check_stop(bytes).expect("within the limit");
         assert_eq!((stop.reason.map(Refusal::number), stop.place), (Some(reason), place));
@@ -91,9 +93,39 @@ fn the_place_of_a_refusal_is_told() {
 #[test]
 fn an_abort_has_the_number_0_and_is_told() {
     let walk = interpret(&[1], &[0; 16]).expect("any map is walked");
-    assert_eq!(parts(walk), (End::Aborted, 0, 1, 1));
+    assert_eq!(parts(walk), (End::CutOpcode, 0, 1, 1));
     assert_eq!(number(interpret(&[1], &[0; 15])), 11);
     assert_eq!(number(interpret(&vec![0; MAX_MAP_BYTES + 1], &[0; 16])), 1);
+}
+
+#[test]
+fn each_kind_of_end_is_told_apart() {
+    for (bytes, address, end, count, bits) in [
+        (&[0x00, 0x00, 0x00][..], 0x00, End::Returned, 1, 0),
+        // A MATCH of one bit, 0, and a RETURN.
+        (&[0x03, 0x00, 0x00], 0xff, End::Differed, 1, 1),
+        // Sixteen MATCHes of a byte and one of a bit more; as many JUMPs and one more.
+        (&sixteen_bytes_and_one_bit(), 0x00, End::TooFewBits, 17, 128),
+        (&[0x01; 129], 0x00, End::TooFewBits, 129, 128),
+        // A MATCH of two bits, 00, and the first bit of an opcode; a whole JUMP, at the map's end, and 17 bits past it.
+        (&[0x8b], 0x00, End::CutOpcode, 1, 2),
+        (&[0x01], 0x00, End::CutOpcode, 1, 1),
+        (&[0x01], 0xff, End::CutOpcode, 1, 1),
+        (&[], 0x00, End::CutOpcode, 0, 0),
+        // RETURN, JUMP, MATCH and DEFAULT without the end of their operands; the JUMP has an address bit left and does not use it.
+        (&[0x00], 0x00, End::CutOperand, 0, 0),
+        (&[0x05], 0x00, End::CutOperand, 0, 0),
+        (&[0xfb], 0x00, End::CutOperand, 0, 0),
+        (&[0x07, 0x00], 0x00, End::CutOperand, 0, 0),
+    ] {
+        let walk = interpret(bytes, &[address; 16]).expect("any map is walked");
+        assert_eq!((walk.end, walk.count, walk.bits), (end, count, bits), "{bytes:02x?}");
+        assert_eq!(walk.end.is_abort(), !matches!(end, End::Returned | End::Differed), "{bytes:02x?}");
+        assert_eq!(walk.number, u32::from(end == End::Returned), "{bytes:02x?}");
+        // Of those that are aborted here the check refuses each.
+        assert_eq!(sanity_check(bytes).is_err(), walk.end.is_abort(), "{bytes:02x?}");
+    }
+    assert!(End::Other(77).is_abort());
 }
 
 #[test]
@@ -111,9 +143,9 @@ fn a_map_is_read_from_a_file() {
 fn a_file_that_holds_no_map_is_named_with_the_reason() {
     let file = Scratch::new("refused", &TWO_PREFIXES[..34]);
     let error = AsMap::open(&file.0).expect_err("cut");
-    assert_eq!((error.path(), error.refusal()), (&*file.0, Some(Refusal::Cut)));
+    assert_eq!((error.path(), error.refusal()), (&*file.0, Some(Refusal::CutOperand)));
     assert_eq!(error.to_string(), format!("{} is no sane map", file.0.display()));
-    assert_eq!(error.source().expect("a reason").to_string(), Refusal::Cut.to_string());
+    assert_eq!(error.source().expect("a reason").to_string(), Refusal::CutOperand.to_string());
     std::fs::remove_file(&file.0).expect("the file is there");
     let error = AsMap::open(&file.0).expect_err("gone");
     assert_eq!((error.path(), error.refusal()), (&*file.0, None));
@@ -175,11 +207,12 @@ fn every_prefix_is_listed() {
     assert_eq!(prefixes(&records[1..]).count(), 103);
     let mut out = [7; 2_500];
     assert_eq!(number(list_into(&TWO_PREFIXES, &mut out[..2_495])), 14);
-    assert_eq!(number(list_into(&TWO_PREFIXES[..34], &mut out)), 4);
+    assert_eq!((number(list_into(&TWO_PREFIXES[..34], &mut out)), number(list_into(&[0x8b], &mut out))), (19, 4));
     assert_eq!(out, [7; 2_500]);
     assert_eq!(list_into(&TWO_PREFIXES, &mut out), Ok(2_496));
     assert_eq!((&out[..2_496], &out[2_496..]), (&records[..], &[7; 4][..]));
-    assert_eq!((number(list(&TWO_PREFIXES[..34])), number(list_bytes(&TWO_PREFIXES[..34]))), (4, 4));
+    assert_eq!((number(list(&TWO_PREFIXES[..34])), number(list_bytes(&TWO_PREFIXES[..34]))), (19, 19));
+    assert_eq!((number(list(&[0x8b])), number(list_bytes(&[0x8b]))), (4, 4));
 }
 
 /// The map of two prefixes with a RETURN of 3 in the place of that of 2.
@@ -219,9 +252,11 @@ fn a_map_that_is_refused_is_not_compared_and_it_is_said_which() {
     let (cut, over) = (&TWO_PREFIXES[..34], vec![0; MAX_MAP_BYTES + 1]);
     let mut out = [7; 4_000];
     for (old, new, error, number, words) in [
-        (cut, &TWO_PREFIXES[..], CompareError::Old(Refusal::Cut), 4, "the old map is refused"),
-        (&TWO_PREFIXES, cut, CompareError::New(Refusal::Cut), 104, "the new map is refused"),
-        (cut, &[], CompareError::Old(Refusal::Cut), 4, "the old map is refused"),
+        (cut, &TWO_PREFIXES[..], CompareError::Old(Refusal::CutOperand), 19, "the old map is refused"),
+        (&TWO_PREFIXES, cut, CompareError::New(Refusal::CutOperand), 119, "the new map is refused"),
+        (cut, &[], CompareError::Old(Refusal::CutOperand), 19, "the old map is refused"),
+        (&[0x8b], cut, CompareError::Old(Refusal::CutOpcode), 4, "the old map is refused"),
+        (&TWO_PREFIXES, &[0x8b], CompareError::New(Refusal::CutOpcode), 104, "the new map is refused"),
         (&over, cut, CompareError::Old(Refusal::MapTooLong), 1, "the old map is refused"),
         (&TWO_PREFIXES, &[0x63, 0, 0, 0], CompareError::New(Refusal::ShortMatches), 110, "the new map is refused"),
     ] {
@@ -247,10 +282,28 @@ fn codes_are_read_and_written() {
     assert_eq!(decode_match(&[0], 0), Ok(Code { value: 2, next: 2 }));
     assert_eq!(decode_jump(&[0], 0), Ok(Code { value: 17, next: 6 }));
     assert_eq!(decode_asn(&[0, 0], 0), Ok(Code { value: 1, next: 16 }));
-    assert_eq!(number(decode_asn(&[0, 0], 1)), 4);
     assert_eq!(decode_instruction(&[1], 0), Ok((1, 17, 8)));
     assert_eq!(encode_instruction(1, 17), Ok(Bits { bits: 1, len: 8 }));
     assert_eq!((encode_type(3), encode_match(2)), (Ok(Bits { bits: 7, len: 3 }), Ok(Bits { bits: 0, len: 2 })));
+}
+
+#[test]
+fn a_cut_opcode_is_told_from_a_cut_operand() {
+    use codes::*;
+    // The last bit of the byte begins an opcode other than RETURN; an operand that begins at the last or the last but one needs more.
+    assert_eq!((number(decode_type(&[0x80], 7)), number(decode_type(&[0xc0], 6))), (4, 4));
+    assert_eq!((number(decode_asn(&[0, 0], 1)), number(decode_match(&[0], 7)), number(decode_jump(&[0], 3))), (19, 19, 19));
+    // From the map's end on a code is cut as its row says.
+    for (map, at) in [(&[][..], 0), (&[], 1), (&[0], 8), (&[0], 9), (&[0xff, 0xff], 1_000), (&[0], usize::MAX)] {
+        assert_eq!((number(decode_type(map, at)), number(decode_asn(map, at))), (4, 19), "at {at}");
+        assert_eq!((number(decode_match(map, at)), number(decode_jump(map, at))), (19, 19), "at {at}");
+        assert_eq!(number(decode_instruction(map, at)), 4, "at {at}");
+    }
+    // An instruction: its opcode cut, its opcode at the end with nothing behind it, and its operand cut.
+    assert_eq!((number(decode_instruction(&[0x80], 7)), number(decode_instruction(&[0xc0], 6))), (4, 4));
+    assert_eq!((number(decode_instruction(&[0], 7)), number(decode_instruction(&[0x40], 6))), (19, 19));
+    assert_eq!((number(decode_instruction(&[0xe0], 5)), number(decode_instruction(&[0xfb], 0))), (19, 19));
+    assert_eq!(number(decode_instruction(&vec![0; MAX_MAP_BYTES + 1], usize::MAX)), 1);
 }
 
 #[test]
@@ -326,7 +379,7 @@ fn every_refusal_has_the_headers_name_and_number() {
         })
         .collect();
     assert_eq!(named, header());
-    assert_eq!(named.iter().map(|row| row.1).collect::<Vec<_>>(), (1..=18).collect::<Vec<u8>>());
+    assert_eq!(named.iter().map(|row| row.1).collect::<Vec<_>>(), (1..=19).collect::<Vec<u8>>());
 }
 
 #[test]
@@ -339,13 +392,15 @@ fn a_number_makes_its_refusal_and_each_has_its_own_words() {
         assert_eq!(Refusal::NAMED.contains(&refusal), refusal != Refusal::Other(number));
     }
     assert_eq!(Refusal::from_number(0), None);
-    assert_eq!(Refusal::from_number(19), Some(Refusal::Other(19)));
+    assert_eq!(Refusal::from_number(20), Some(Refusal::Other(20)));
 }
 
 #[test]
 fn a_refusal_is_shown_in_words() {
-    assert_eq!(Refusal::Cut.to_string(), "a code is cut by the map's end (refusal 4)");
-    assert_eq!(format!("{:?}", Refusal::Cut), "Cut (refusal 4: a code is cut by the map's end)");
+    assert_eq!(Refusal::CutOpcode.to_string(), "an opcode is cut by the map's end (refusal 4)");
+    assert_eq!(Refusal::CutOperand.to_string(), "an operand is cut by the map's end (refusal 19)");
+    assert_eq!(format!("{:?}", Refusal::CutOpcode), "CutOpcode (refusal 4: an opcode is cut by the map's end)");
+    assert_eq!(format!("{:?}", Refusal::CutOperand), "CutOperand (refusal 19: an operand is cut by the map's end)");
     assert_eq!(Refusal::Other(99).to_string(), "a reason that this version does not know (refusal 99)");
     assert_eq!(format!("{:?}", Refusal::Other(99)), "Other (refusal 99: a reason that this version does not know)");
 }

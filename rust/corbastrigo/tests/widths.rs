@@ -88,7 +88,8 @@ fn the_other_reasons_are_the_same_at_both_widths() {
         (&vec![0; MAX_MAP_BYTES + 1][..], Refusal::MapTooLong),
         (&[], Refusal::MapEnds),
         (&[0x01, 0xfb, 0x03, 0x00], Refusal::PastTarget),
-        (&[0xfb], Refusal::Cut),
+        (&[0x8b], Refusal::CutOpcode),
+        (&[0xfb], Refusal::CutOperand),
         (&[0x07, 0, 0], Refusal::AfterDefault),
         (&[0, 0, 2], Refusal::Padding),
         (&[0xfd, 0x71, 0x3a, 0, 0], Refusal::NotAtTarget),
@@ -125,10 +126,14 @@ fn an_accepted_map_takes_65_instructions_at_most_and_another_may_abort() {
     let map = one_by_one(32);
     assert_eq!(parts(interpret_bits(&map, &[0; 4], 32).expect("walked")), (End::Returned, 1, 65, 32));
     let over = one_by_one(33);
-    assert_eq!(parts(interpret_bits(&over, &[0; 4], 32).expect("walked")), (End::Aborted, 0, 66, 32));
+    assert_eq!(parts(interpret_bits(&over, &[0; 4], 32).expect("walked")), (End::TooFewBits, 0, 66, 32));
     assert_eq!(parts(interpret_bits(&over, &[0; 16], 128).expect("walked")), (End::Returned, 1, 67, 33));
     // A JUMP needs a bit too.
-    assert_eq!(parts(interpret_bits(&[0x01; 40], &[0; 4], 32).expect("walked")), (End::Aborted, 0, 33, 32));
+    assert_eq!(parts(interpret_bits(&[0x01; 40], &[0; 4], 32).expect("walked")), (End::TooFewBits, 0, 33, 32));
+    // With as many bits as JUMPs the map's end aborts it, and the operand of the last where that is cut.
+    assert_eq!(parts(interpret_bits(&[0x01; 32], &[0; 4], 32).expect("walked")), (End::CutOpcode, 0, 32, 32));
+    let cut = [&[0x01; 31][..], &[0x05]].concat();
+    assert_eq!(parts(interpret_bits(&cut, &[0; 4], 32).expect("walked")), (End::CutOperand, 0, 31, 31));
 }
 
 #[test]

@@ -10,16 +10,18 @@ struct Row {
     decode: sys::Decode,
     encode: sys::Encode,
     values: RangeInclusive<u32>,
+    /// The refusal of a code that is cut.
+    cut: u8,
 }
 
 /// The rows of an opcode, and of the operands of RETURN, JUMP, MATCH and DEFAULT.
 fn rows() -> [Row; 5] {
-    let asn = || Row { decode: sys::corbastrigo_decode_asn, encode: sys::corbastrigo_encode_asn, values: 1..=MOST_ASN };
+    let asn = || Row { decode: sys::corbastrigo_decode_asn, encode: sys::corbastrigo_encode_asn, values: 1..=MOST_ASN, cut: 19 };
     [
-        Row { decode: sys::corbastrigo_decode_type, encode: sys::corbastrigo_encode_type, values: 0..=3 },
+        Row { decode: sys::corbastrigo_decode_type, encode: sys::corbastrigo_encode_type, values: 0..=3, cut: 4 },
         asn(),
-        Row { decode: sys::corbastrigo_decode_jump, encode: sys::corbastrigo_encode_jump, values: 17..=2_147_483_632 },
-        Row { decode: sys::corbastrigo_decode_match, encode: sys::corbastrigo_encode_match, values: 2..=511 },
+        Row { decode: sys::corbastrigo_decode_jump, encode: sys::corbastrigo_encode_jump, values: 17..=2_147_483_632, cut: 19 },
+        Row { decode: sys::corbastrigo_decode_match, encode: sys::corbastrigo_encode_match, values: 2..=511, cut: 19 },
         asn(),
     ]
 }
@@ -55,7 +57,7 @@ fn a_code_that_was_written_is_read_again() {
         prop_assert_eq!(answer, 0);
         let map = with_bits(fill, at, bits, len);
         prop_assert_eq!(calls::decode(row.decode, &map, at), (0, value, at + len));
-        prop_assert_eq!(calls::decode(row.decode, &map[..map.len() - 1], at), (4, BEFORE32, BEFORE_SIZE));
+        prop_assert_eq!(calls::decode(row.decode, &map[..map.len() - 1], at), (row.cut, BEFORE32, BEFORE_SIZE));
         Ok(())
     });
 }
@@ -66,7 +68,7 @@ fn a_code_that_was_read_is_written_again() {
         let row = &rows()[row];
         let (answer, value, next) = calls::decode(row.decode, &map, at);
         if answer != 0 || at >= map.len() * 8 {
-            prop_assert_eq!((answer, value, next), (4, BEFORE32, BEFORE_SIZE));
+            prop_assert_eq!((answer, value, next), (row.cut, BEFORE32, BEFORE_SIZE));
             return Ok(());
         }
         prop_assert!(row.values.contains(&value) && next <= map.len() * 8);
@@ -93,8 +95,11 @@ fn an_instruction_is_its_opcode_and_its_operand() {
         prop_assert_eq!((answer, bits, len), (0, first.1 | second.1 << first.2, first.2 + second.2));
         let map = with_bits(fill, at, bits, len);
         prop_assert_eq!(calls::decode_instruction(&map, at), (0, opcode, operand, len));
-        let cut = calls::decode_instruction(&map[..map.len() - 1], at);
-        prop_assert_eq!(cut, (4, BEFORE32, BEFORE32, BEFORE_SIZE));
+        // Without its last bytes, down to none of it: cut in the operand as long as the opcode's bits are there, else in the opcode.
+        for end in at / 8..map.len() {
+            let wanted = if at + first.2 <= 8 * end { 19 } else { 4 };
+            prop_assert_eq!(calls::decode_instruction(&map[..end], at), (wanted, BEFORE32, BEFORE32, BEFORE_SIZE));
+        }
         Ok(())
     });
 }

@@ -1,13 +1,14 @@
 //! Accepted maps, maps that were accepted before a bit was turned or an end was lost, and their walks.
 use crate::holds;
 use crate::programs::{programs, walked_programs};
+use corbastrigo::codes::{decode_instruction, decode_type};
 use corbastrigo::{interpret, pack, sanity_check, unpack, AsMap, End, Refusal, Walk};
 use proptest::prelude::*;
 use proptest::test_runner::TestCaseResult;
 
 /// What is promised of every walk of an accepted map.
 fn ends_well(walk: Walk) -> TestCaseResult {
-    prop_assert_ne!(walk.end, End::Aborted);
+    prop_assert!(!walk.end.is_abort(), "{:?}", walk);
     prop_assert!(walk.bits <= 128);
     prop_assert!(walk.count <= 2 * u32::from(walk.bits) + 1, "{:?}", walk);
     Ok(())
@@ -89,7 +90,17 @@ fn a_map_that_lost_its_end_is_refused_and_so_is_a_longer_one() {
         let mut map = program.map();
         for end in 0..map.len() {
             let refusal = sanity_check(&map[..end]);
-            prop_assert!(matches!(refusal, Err(Refusal::MapEnds | Refusal::Cut)), "cut at {}: {:?}", end, refusal);
+            // Behind the last whole instruction stands nothing, a part of an opcode, or an opcode with a part of its operand.
+            let mut at = 0;
+            let cut = loop {
+                match decode_instruction(&map[..end], at) {
+                    Ok((_, _, size)) => at += size,
+                    Err(_) if at == 8 * end => break Refusal::MapEnds,
+                    Err(refusal) => break refusal,
+                }
+            };
+            prop_assert_eq!(cut == Refusal::CutOperand, decode_type(&map[..end], at).is_ok());
+            prop_assert_eq!(refusal, Err(cut), "cut at {}", end);
         }
         map.push(0);
         prop_assert_eq!(sanity_check(&map), Err(Refusal::Padding));

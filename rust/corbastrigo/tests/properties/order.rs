@@ -77,7 +77,7 @@ pub fn well_formed(candidate: &[u8]) -> bool {
 fn a_check_leaves_its_numbers_where_it_refuses() {
     holds(1_500, any_maps(), |map| {
         let (answer, count, depth) = calls::sanity_check(&map);
-        prop_assert!(answer <= 10);
+        prop_assert!(answer <= 10 || answer == 19);
         prop_assert!(answer == 0 || (count, depth) == (BEFORE32, BEFORE));
         prop_assert_eq!(answer == 1, map.len() == too_long().len());
         Ok(())
