@@ -253,9 +253,9 @@ mod tests {
                 assert!(!replay.walk.end.is_abort() || replay.walk.number == 0);
             }
         }
-        for [returned, differed, too_few_bits, cut_opcode, cut_operand] in met {
-            assert!(returned > 1_000 && differed > 1_000, "{met:?}");
-            assert!(too_few_bits > 0 && cut_opcode > 100 && cut_operand > 100, "{met:?}");
+        // No drawn map is long enough to use up an address; `every_zero_says_why` has those that are.
+        for [returned, differed, _, cut_opcode, cut_operand] in met {
+            assert!(returned > 1_000 && differed > 1_000 && cut_opcode > 100 && cut_operand > 100, "{met:?}");
         }
     }
 

@@ -167,8 +167,8 @@ fn picture(steps: &[Step], replay: &Replay, out: &mut Out) -> Result<(), Failure
 /// What the map's end cuts.
 fn whats_cut(cut: Cut) -> String {
     match cut.opcode {
-        Some(opcode) => format!("{}, its operand cut by the map's end", words::opcode(opcode)),
-        None => String::from("no whole opcode, by the map's end"),
+        Some(opcode) => format!("{}, no whole operand before the map's end", words::opcode(opcode)),
+        None => String::from("no whole opcode before the map's end"),
     }
 }
 

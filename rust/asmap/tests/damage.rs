@@ -72,18 +72,21 @@ fn an_edit_of_the_last_bytes_is_19() {
 }
 
 #[test]
-fn an_edit_further_up_is_met_at_a_jump_and_none_cuts_an_opcode() {
+fn an_edit_of_a_byte_is_met_at_a_jump_or_at_the_last_bytes_and_cuts_no_opcode() {
     let map = large_map(10, 1);
-    let last = 8;
-    let taken = edited(&map, |map, place| drop(map.remove(place)));
-    let put = edited(&map, |map, place| map.insert(place, b' '));
-    let ones = edited(&map, |map, place| map[place] = 0xff);
-    let zeros = edited(&map, |map, place| map[place] = 0);
-    let kinds: [Box<dyn Iterator<Item = Vec<u8>>>; 4] = [Box::new(taken), Box::new(put), Box::new(ones), Box::new(zeros)];
-    for (kind, copies) in kinds.into_iter().enumerate() {
-        let met = counts(copies.take(map.len() - last));
-        assert!(met.keys().all(|number| ![2, 4, 19].contains(number)), "{kind}: {met:?}");
-        assert!(met[&7] > 100, "{kind}: {met:?}");
+    let edits: [fn(&mut Vec<u8>, usize); 4] = [
+        |map, place| drop(map.remove(place)),
+        |map, place| map.insert(place, b' '),
+        |map, place| map[place] = 0xff,
+        |map, place| map[place] = 0,
+    ];
+    for (kind, edit) in edits.into_iter().enumerate() {
+        let met: Vec<u8> = edited(&map, edit).map(|map| number(&map)).collect();
+        let (before, last) = met.split_at(map.len() - 8);
+        assert!(before.iter().all(|number| ![2, 4, 19].contains(number)), "{kind}");
+        assert!(last.iter().all(|number| ![2, 4].contains(number)), "{kind}: {last:?}");
+        // A byte more or less, and all behind it has moved: most of these make a RETURN end elsewhere.
+        assert!(kind > 1 || 2 * met.iter().filter(|&&number| number == 7).count() > met.len(), "{kind}");
     }
 }
 

@@ -40,10 +40,11 @@ fn every_abort_says_what_aborted_it() {
     folder.write("past.asmap", [0x01]);
     // 129 JUMPs that are never taken, for an address of zeros: the last finds no bit.
     folder.write("jumps.asmap", [0x01; 129]);
-    // A JUMP by 17 bits. Where it is not taken, a MATCH of 00 and the first bit of an opcode; where it is, a DEFAULT without its number.
-    folder.write("cuts.asmap", [0x01, 0x8b]);
-    folder.write("cut_jumped_to.asmap", [0x01, 0x8b, 0x00, 0xff]);
-    for name in ["empty", "past", "jumps", "cuts", "cut_jumped_to"] {
+    // A JUMP by 17 bits. Where it is not taken there stands a MATCH of 00 and the first bit of an opcode, or a RETURN without its number;
+    // where it is, it leads past the end, or to a DEFAULT without its number.
+    folder.write("opcode.asmap", [0x01, 0x8b]);
+    folder.write("operand.asmap", [0x01, 0x00, 0x00, 0xff]);
+    for name in ["empty", "past", "jumps", "opcode", "operand"] {
         let map = format!("{name}.asmap");
         stored(&format!("walk_aborted_{name}"), &folder.output(&["walk", "--unchecked", &map, "::", "ffff::"]));
         stored(&format!("walk_aborted_{name}_json"), &folder.output(&["--json", "walk", "--unchecked", &map, "::", "ffff::"]));
