@@ -3,8 +3,13 @@
 use crate::files::MapFile;
 use corbastrigo::Refusal;
 
-/// What a file system writes at a time: a file that lost its last one has a size in whole pages.
+/// What a file system writes at a time.
 const PAGE: u64 = 4_096;
+
+/// Whether a file's size is in whole pages, as that of one that lost its last page; by chance one size in 4,096 is.
+fn in_whole_pages(file: &MapFile) -> bool {
+    file.size % PAGE == 0
+}
 
 /// What usually causes a refusal. Changed bytes are met at the first instruction that fits no longer: there, or anywhere behind them.
 pub fn usual_cause(refusal: Refusal, file: &MapFile) -> &'static str {
@@ -14,8 +19,8 @@ pub fn usual_cause(refusal: Refusal, file: &MapFile) -> &'static str {
         Refusal::MapEnds => "the map lost its end, between two instructions: a copy broken off, or a last page not written",
         Refusal::PastTarget => "bytes in the middle were lost or overwritten, so that a jump before this no longer fits",
         Refusal::CutOpcode => "the map lost its end: a last page not written, or a copy broken off; an edit hardly ever leads to this",
-        Refusal::CutOperand if file.size % PAGE == 0 => {
-            "a last page not written, since its size is in whole pages; else the map was edited, so that its last operand runs past the end"
+        Refusal::CutOperand if in_whole_pages(file) => {
+            "a last page not written, as its size is in whole pages; or else the map was edited, so that its last operand runs past the end"
         }
         Refusal::CutOperand => {
             "the map was edited, so that its last operand runs past the end; or a copy broke off, which is mostly within an operand"
@@ -48,7 +53,7 @@ pub fn advice(refusal: Refusal, file: &MapFile) -> &'static str {
         Refusal::MapTooLong | Refusal::AfterDefault | Refusal::Padding => {
             "look whether this is the file that was meant; if it is, restore it from a whole copy"
         }
-        Refusal::CutOperand => {
+        Refusal::CutOperand if !in_whole_pages(file) => {
             "restore it from a whole copy, with the same digest, and edit maps only by asmap unpack and asmap pack"
         }
         Refusal::NoBits | Refusal::ShortMatches => {
