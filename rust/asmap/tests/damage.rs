@@ -67,7 +67,8 @@ fn an_edit_of_the_last_bytes_is_19() {
     assert_eq!(counts(maps().into_iter().map(longest)), [(19, maps().len())].into());
     // A byte taken out there: what is behind it moves up, and the end is 8 bits nearer.
     let map = large_map(12, 1);
-    let taken: Vec<u8> = edited(&map, |map, place| drop(map.remove(place))).skip(map.len() - 8).map(|map| number(&map)).collect();
+    let taken: Vec<u8> =
+        edited(&map, |map, place| drop(map.drain(place..=place))).skip(map.len() - 8).map(|map| number(&map)).collect();
     assert!(taken.iter().all(|number| [6, 19].contains(number)) && taken[2..] == [19; 6], "{taken:?}");
 }
 
@@ -75,7 +76,7 @@ fn an_edit_of_the_last_bytes_is_19() {
 fn an_edit_of_a_byte_is_met_at_a_jump_or_at_the_last_bytes_and_cuts_no_opcode() {
     let map = large_map(10, 1);
     let edits: [fn(&mut Vec<u8>, usize); 4] = [
-        |map, place| drop(map.remove(place)),
+        |map, place| drop(map.drain(place..=place)),
         |map, place| map.insert(place, b' '),
         |map, place| map[place] = 0xff,
         |map, place| map[place] = 0,

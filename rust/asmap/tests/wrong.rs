@@ -1,7 +1,7 @@
-//! Wrong input for `asmap check`, `walk` and `trace`, and cut maps for `list` and `page`: files that are none, too large or cut, and
-//! addresses that are none.
+//! Wrong input for `asmap check`, `walk` and `trace`, and cut and edited maps for whatever takes a map: files that are none, too large, cut or
+//! edited, and addresses that are none.
 mod common;
-use common::{large_map, stored, text, Folder};
+use common::{large_map, stored, text, Folder, TWO_PREFIXES};
 use std::ffi::OsStr;
 use std::fs;
 use std::io::{BufRead, BufReader, Read, Write};
@@ -135,15 +135,47 @@ fn a_map_cut_at_any_page_is_refused_and_never_used_quietly() {
             .map(|reason| format!("page.asmap: {reason}"));
         assert!(named.iter().any(|reason| words.starts_with(reason)) && words.contains("\n  usually  "), "{cut}: {words}");
         assert!(met_at(words).is_some_and(|bit| bit <= 8 * cut && bit + 57 > 8 * cut), "{cut}: {words}");
-        for subcommand in [
-            &["walk", "page.asmap", "1.2.3.4"][..],
-            &["trace", "page.asmap", "1.2.3.4"],
-            &["list", "page.asmap"],
-            &["page", "--map", "page.asmap", "candidates.txt"],
-        ] {
-            let output = folder.output(subcommand);
-            assert_eq!((output.status.code(), text(&output.stdout)), (Some(1), ""), "{cut}");
-            assert!(text(&output.stderr).starts_with("asmap: page.asmap is refused, "), "{cut}");
-        }
+        never_used(&folder, "page.asmap", "");
+    }
+}
+
+/// Whatever takes a map refuses this one, in these words, and answers nothing. The folder has `candidates.txt`.
+fn never_used(folder: &Folder, map: &str, words: &str) {
+    for subcommand in [
+        &["walk", map, "1.2.3.4"][..],
+        &["trace", map, "1.2.3.4"],
+        &["list", map],
+        &["unpack", map],
+        &["group", "--map", map, "1.2.3.4"],
+        &["pick", "--max", "1", "--map", map, "candidates.txt"],
+        &["page", "--map", map, "candidates.txt"],
+    ] {
+        let output = folder.output(subcommand);
+        assert_eq!((output.status.code(), text(&output.stdout)), (Some(1), ""), "{subcommand:?}");
+        assert!(text(&output.stderr).starts_with(&format!("asmap: {map} is refused, {words}")), "{subcommand:?}");
+    }
+}
+
+#[test]
+fn a_map_edited_at_its_end_is_refused_and_never_used_quietly() {
+    let folder = Folder::new();
+    folder.write("candidates.txt", "1.2.3.4:8333\n");
+    // The bits behind the opcode of the last RETURN set to ones; its second byte taken out; a byte taken off the end.
+    let mut longer = TWO_PREFIXES.to_vec();
+    longer[32] = 0xfe;
+    let mut taken = TWO_PREFIXES.to_vec();
+    taken.remove(33);
+    for (kind, map) in [longer, taken, TWO_PREFIXES[..34].to_vec()].iter().enumerate() {
+        folder.write("edited.asmap", map);
+        let check = folder.output(&["check", "edited.asmap"]);
+        let words = text(&check.stdout);
+        assert!(words.starts_with("edited.asmap: refused 19: an operand is cut by the map's end\n"), "{kind}: {words}");
+        assert!(words.contains("\n  usually  the map was edited, ") && met_at(words) == Some(256), "{kind}: {words}");
+        never_used(&folder, "edited.asmap", "19: an operand is cut by the map's end; ");
+        // Two of three walks come out right all the same, and the third says what is cut.
+        let walks = folder.output(&["walk", "--unchecked", "edited.asmap", "1.2.0.0", "8.8.8.8", "3.4.0.0"]);
+        let ends: Vec<&str> = text(&walks.stdout).lines().filter_map(|line| line.split_whitespace().nth(2)).collect();
+        assert_eq!(ends, ["returned", "differed", "aborted"], "{kind}");
+        assert!(text(&walks.stdout).ends_with("the map ends within the operand of the RETURN at bit 256\n"), "{kind}");
     }
 }
