@@ -30,8 +30,8 @@
 //! Without it no crate of others is used.
 //!
 //! Two things to know before reading numbers. The number 0 is not "unmapped": a walk that aborts has it, and so has one that differs
-//! before it met a DEFAULT; [`Walk::end`] tells. And some addresses that come out right say nothing of a map: no map that
-//! [`sanity_check`] accepts can abort a walk by 16 bytes, and nothing is promised of any other.
+//! before it met a DEFAULT; [`Walk::end`] tells, and [`End::is_abort`]. And some addresses that come out right say nothing of a map: no
+//! map that [`sanity_check`] accepts can abort a walk by 16 bytes, and nothing is promised of any other.
 #![deny(missing_docs)]
 #![deny(clippy::undocumented_unsafe_blocks)]
 
