@@ -1,5 +1,6 @@
 //! The four rows of sizes, each with the original's decoder and writer.
 use crate::asmap::*;
+use crate::document::{Refusal, CUT_OPCODE, CUT_OPERAND};
 
 pub struct Row {
     /// Its number in the list.
@@ -43,6 +44,14 @@ impl Row {
         let mut pos = at;
         let value = (self.decode)(&mut pos, map);
         (value != INVALID).then_some((value, pos))
+    }
+
+    /// "A code read alone gives 4 for the opcode row and 19 for the other three, also from the map's end on" (document 02, CR 5).
+    pub fn cut(&self) -> Refusal {
+        match self.number {
+            0 => CUT_OPCODE,
+            _ => CUT_OPERAND,
+        }
     }
 
     pub fn write(&self, value: u32) -> Vec<bool> {

@@ -1,11 +1,16 @@
 //! Document 01's check and walk, worked through step by step from its text, on the original's decoders. They say what the original
 //! does not: reasons, counts, depth, kinds of end and bits. Where the original has a say, `bin/replay_vectors` holds them to it. Both take
-//! how many bits an address has (document 02, CR 3); document 01 has 128.
+//! how many bits an address has (document 02, CR 3); document 01 has 128. Both tell a cut opcode from a cut operand (document 02, CR 5);
+//! the original has one mark for both.
 use crate::asmap::*;
 use crate::width::{Width, W128};
 
 /// A number of document 01's table.
 pub type Refusal = u32;
+
+/// Where the map's end cuts an opcode, and where it cuts an operand: "both stand where 4 stood".
+pub const CUT_OPCODE: Refusal = 4;
+pub const CUT_OPERAND: Refusal = 19;
 
 #[derive(Clone, Copy, Debug, PartialEq)]
 pub enum Verdict {
@@ -39,7 +44,7 @@ impl Check<'_> {
             return Err(Verdict::Refused(5));
         }
         match decode_asn(&mut self.pos, self.map) {
-            INVALID => Err(Verdict::Refused(4)),
+            INVALID => Err(Verdict::Refused(CUT_OPERAND)),
             _ => Ok(()),
         }
     }
@@ -66,7 +71,7 @@ impl Check<'_> {
     fn step_jump(&mut self) -> Result<(), Verdict> {
         let operand = decode_jump(&mut self.pos, self.map);
         if operand == INVALID {
-            return Err(Verdict::Refused(4));
+            return Err(Verdict::Refused(CUT_OPERAND));
         }
         if self.left == 0 {
             return Err(Verdict::Refused(8));
@@ -86,7 +91,7 @@ impl Check<'_> {
     fn step_match(&mut self, short_before: bool) -> Result<(), Verdict> {
         let operand = decode_match(&mut self.pos, self.map);
         if operand == INVALID {
-            return Err(Verdict::Refused(4));
+            return Err(Verdict::Refused(CUT_OPERAND));
         }
         let length = bit_width(operand) - 1;
         if length < 8 && short_before {
@@ -122,7 +127,7 @@ impl Check<'_> {
             JUMP => self.step_jump(),
             MATCH => self.step_match(short_before),
             DEFAULT => self.step_default(),
-            _ => Err(Verdict::Refused(4)),
+            _ => Err(Verdict::Refused(CUT_OPCODE)),
         }
     }
 }
@@ -152,24 +157,84 @@ pub fn check_stop_bits(map: &[u8], width: Width) -> (Verdict, usize) {
     }
 }
 
+/// How a walk ends.
+#[derive(Clone, Copy, Debug, PartialEq)]
+pub enum End {
+    Returned,
+    Differed,
+    /// A JUMP or a MATCH needs more address bits than are left.
+    TooFewBits,
+    CutOpcode,
+    CutOperand,
+}
+
+impl End {
+    /// The kind of end as a number: a cut has its refusal's.
+    pub fn number(self) -> u8 {
+        match self {
+            End::Returned => 1,
+            End::Differed => 2,
+            End::TooFewBits => 3,
+            End::CutOpcode => 4,
+            End::CutOperand => 19,
+        }
+    }
+
+    pub fn name(self) -> &'static str {
+        match self {
+            End::Returned => "return",
+            End::Differed => "difference",
+            End::TooFewBits => "too few bits",
+            End::CutOpcode => "cut opcode",
+            End::CutOperand => "cut operand",
+        }
+    }
+
+    /// Whether the walk was aborted, which gives the number 0.
+    pub fn aborts(self) -> bool {
+        !matches!(self, End::Returned | End::Differed)
+    }
+
+    fn of_cut(reason: Refusal) -> End {
+        match reason {
+            CUT_OPCODE => End::CutOpcode,
+            _ => End::CutOperand,
+        }
+    }
+
+    /// The refusal that the check has for what ended the walk, where the map's end cut it.
+    pub fn cut(self) -> Option<Refusal> {
+        match self {
+            End::CutOpcode => Some(CUT_OPCODE),
+            End::CutOperand => Some(CUT_OPERAND),
+            _ => None,
+        }
+    }
+}
+
 #[derive(Debug)]
 pub struct Walk {
-    pub kind: &'static str,
+    pub end: End,
     pub number: u32,
     pub count: u32,
     pub bits: usize,
+    /// The bit at which the instruction stands that ends it.
+    pub place: usize,
 }
 
-/// The opcode and the operand at a place, INVALID where one of them is cut.
-pub fn instruction_at(pos: &mut usize, map: &[u8]) -> (u32, u32) {
+/// The opcode and the operand at a place, or which of them is cut. At the map's end and past it that is the opcode.
+pub fn instruction_at(pos: &mut usize, map: &[u8]) -> Result<(u32, u32), Refusal> {
     let opcode = decode_type(pos, map);
     let operand = match opcode {
         JUMP => decode_jump(pos, map),
         MATCH => decode_match(pos, map),
         RETURN | DEFAULT => decode_asn(pos, map),
-        _ => INVALID,
+        _ => return Err(CUT_OPCODE),
     };
-    (opcode, operand)
+    match operand {
+        INVALID => Err(CUT_OPERAND),
+        _ => Ok((opcode, operand)),
+    }
 }
 
 /// The walk of any map by 16 address bytes.
@@ -191,16 +256,17 @@ fn walk_all(map: &[u8], address: &[u8]) -> Walk {
     let bits = 8 * address.len();
     let (mut pos, mut used, mut default, mut count) = (0, 0, 0, 0);
     loop {
-        let (opcode, operand) = instruction_at(&mut pos, map);
-        let abort = |count, bits| Walk { kind: "abort", number: 0, count, bits };
-        if operand == INVALID {
-            return abort(count, used);
-        }
+        let place = pos;
+        let ended = |end, number, count, bits| Walk { end, number, count, bits, place };
+        let (opcode, operand) = match instruction_at(&mut pos, map) {
+            Err(reason) => return ended(End::of_cut(reason), 0, count, used),
+            Ok(instruction) => instruction,
+        };
         count += 1;
         match opcode {
-            RETURN => return Walk { kind: "return", number: operand, count, bits: used },
+            RETURN => return ended(End::Returned, operand, count, used),
             DEFAULT => default = operand,
-            JUMP if used == bits => return abort(count, used),
+            JUMP if used == bits => return ended(End::TooFewBits, 0, count, used),
             JUMP => {
                 pos += operand as usize * bit(used) as usize;
                 used += 1;
@@ -208,12 +274,12 @@ fn walk_all(map: &[u8], address: &[u8]) -> Walk {
             _ => {
                 let length = bit_width(operand) as usize - 1;
                 if used + length > bits {
-                    return abort(count, used);
+                    return ended(End::TooFewBits, 0, count, used);
                 }
                 for k in (0..length).rev() {
                     used += 1;
                     if bit(used - 1) != operand >> k & 1 {
-                        return Walk { kind: "difference", number: default, count, bits: used };
+                        return ended(End::Differed, default, count, used);
                     }
                 }
             }

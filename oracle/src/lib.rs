@@ -18,6 +18,7 @@ pub mod error {
 
 pub mod changes;
 pub mod codes;
+pub mod cuts;
 pub mod document;
 pub mod filters;
 pub mod listing;
@@ -47,6 +48,15 @@ pub const MAPS: [(&str, &[u8]); 11] = [
 /// Document 01's examples of what the check refuses, in hexadecimal.
 pub const EXAMPLES: [&str; 9] =
     ["", "01", "01 fb 03 00", "fb", "07 00 00", "00 00 00 00", "fd 71 3a 00 00", "01 01", "63 00 00 00"];
+
+/// A map cut in an opcode, which none of those is since document 02 (CR 5) tells it from `fb`: a MATCH of two zeros, and a one.
+pub const CUT_IN_AN_OPCODE: &str = "8b";
+
+/// The original's map of any bytes, past its check, so that its walk has a say on refused maps too: a struct of one field has the bytes
+/// of that field.
+pub fn past_its_check(map: &[u8]) -> asmap::AsMap {
+    unsafe { std::mem::transmute::<Vec<u8>, asmap::AsMap>(map.to_vec()) }
+}
 
 /// Bytes written in hexadecimal, with spaces between them.
 pub fn bytes(hex: &str) -> Vec<u8> {

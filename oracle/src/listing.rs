@@ -49,7 +49,7 @@ impl Prefix {
 /// What the instructions from a place on tell apart under a prefix.
 fn found_at(map: &[u8], place: usize, mut under: Prefix, found: &mut Vec<Prefix>) {
     let mut next = place;
-    let (opcode, operand) = instruction_at(&mut next, map);
+    let (opcode, operand) = instruction_at(&mut next, map).expect("an accepted map's instruction");
     match opcode {
         JUMP => {
             found_at(map, next, under.with(0), found);

@@ -24,7 +24,7 @@ pub fn unpack_bits(map: &[u8], width: Width) -> Result<Vec<u8>, Refusal> {
     let mut pos = 0;
     let records = (0..count).flat_map(|_| {
         let place = pos;
-        let (opcode, operand) = instruction_at(&mut pos, map);
+        let (opcode, operand) = instruction_at(&mut pos, map).expect("an accepted map's instruction");
         record(opcode, operand, place, pos - place)
     });
     Ok(records.collect())
@@ -33,7 +33,7 @@ pub fn unpack_bits(map: &[u8], width: Width) -> Result<Vec<u8>, Refusal> {
 /// An accepted map as a program that can be rewritten.
 pub fn program(map: &[u8]) -> Program {
     let mut place = 0;
-    Program::read(&mut repeat_with(|| instruction_at(&mut place, map)))
+    Program::read(&mut repeat_with(|| instruction_at(&mut place, map).expect("an accepted map's instruction")))
 }
 
 pub fn pack(records: &[u8]) -> Result<Vec<u8>, Refusal> {

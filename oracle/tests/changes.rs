@@ -4,7 +4,7 @@ use maps::rewrite::Program::{self, Default, Jump, Match, Return};
 use maps::{shapes, Random};
 use oracle::changes::{compare, hold, Change};
 use oracle::listing::{assert_tiling, list, prefix_of, Prefix};
-use oracle::{bytes, records};
+use oracle::{bytes, records, CUT_IN_AN_OPCODE};
 
 fn jump(zero: Program, one: Program) -> Program {
     Jump(Box::new([zero, one]))
@@ -51,7 +51,10 @@ fn defaults_count_by_what_they_do() {
 fn the_old_map_is_refused_before_the_new_one() {
     let answer = |old: &str, new: &str| compare(&bytes(old), &bytes(new));
     assert_eq!(answer("01 01", "fb"), Err(9));
-    assert_eq!(answer("00 00 00", "fb"), Err(104));
+    assert_eq!(answer("00 00 00", "fb"), Err(119));
+    assert_eq!(answer("00 00 00", CUT_IN_AN_OPCODE), Err(104));
+    assert_eq!(answer("fb", CUT_IN_AN_OPCODE), Err(19));
+    assert_eq!(answer(CUT_IN_AN_OPCODE, "fb"), Err(4));
     assert_eq!(answer("01 01", "00 00 00"), Err(9));
     assert_eq!(answer("00 00 00", "00 00 00"), Ok(vec![]));
 }

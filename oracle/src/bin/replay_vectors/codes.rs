@@ -45,12 +45,17 @@ fn instructions(list: &mut List, tables: &mut Tables, name: &str, map: &[u8]) {
     list.heading(&format!("the instructions of {name}"));
     tables.row("instructions", name.into());
     let mut at = 0;
-    while let Some((opcode, operand, next)) = list.read_instruction(map, at) {
-        list.write_instruction(opcode, operand);
-        tables.row("instructions", format!("  {at}: {} {operand}, {} bits", OPCODES[opcode as usize], next - at));
-        at = next;
-    }
-    tables.row("instructions", format!("  {at}: refused 4"));
+    let reason = loop {
+        match list.read_instruction(map, at) {
+            Err(reason) => break reason,
+            Ok((opcode, operand, next)) => {
+                list.write_instruction(opcode, operand);
+                tables.row("instructions", format!("  {at}: {} {operand}, {} bits", OPCODES[opcode as usize], next - at));
+                at = next;
+            }
+        }
+    };
+    tables.row("instructions", format!("  {at}: refused {reason}"));
 }
 
 /// What no instruction is: each operand out of its opcode's range, and opcodes that there are not.

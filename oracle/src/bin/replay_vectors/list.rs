@@ -1,17 +1,17 @@
 //! The list: a method for each kind of line, which asks the original and document 01 for the answer.
 use crate::word;
 use maps::Random;
-use oracle::asmap::{self, consume_bit_le, AsMap, INVALID};
+use oracle::asmap::{self, consume_bit_le};
 use oracle::changes::{self, Change};
 use oracle::codes::{in_range, instruction, Row, ROWS};
-use oracle::document::{self, Refusal, Verdict, Walk};
+use oracle::document::{self, End, Refusal, Verdict, Walk, CUT_OPCODE};
 use oracle::filters::message;
 use oracle::listing::{self, Prefix, RECORD};
 use oracle::page;
 use oracle::picks::{self, By, Groups, Pick};
 use oracle::scan::{self, Scan};
 use oracle::width::{Width, W128};
-use oracle::{netaddr, records};
+use oracle::{cuts, netaddr, past_its_check, records};
 use std::net::{IpAddr, Ipv4Addr, Ipv6Addr};
 use std::panic;
 
@@ -158,7 +158,7 @@ impl List {
 
     pub fn read_code(&mut self, row: &Row, map: &[u8], at: usize) -> Option<(u32, usize)> {
         let got = row.read(map, at);
-        self.add('d', &[&[row.number], map, &word::number(at as u64), &answered(&decoded(got))]);
+        self.add('d', &[&[row.number], map, &word::number(at as u64), &answered(&decoded(got, row.cut()))]);
         got
     }
 
@@ -173,15 +173,15 @@ impl List {
         bits
     }
 
-    /// Opcode and operand, and the bit after them; none where one of them is cut.
-    pub fn read_instruction(&mut self, map: &[u8], at: usize) -> Option<(u32, u32, usize)> {
+    /// Opcode and operand, and the bit after them, or which of the two is cut.
+    pub fn read_instruction(&mut self, map: &[u8], at: usize) -> Result<(u32, u32, usize), Refusal> {
         let mut next = at;
-        let (opcode, operand) = document::instruction_at(&mut next, map);
-        let got = (operand != INVALID).then_some((opcode, operand, next));
+        let got = document::instruction_at(&mut next, map).map(|(opcode, operand)| (opcode, operand, next));
+        assert_eq!(got.err(), cuts::cut_at(map, at), "bit {at} of {map:?}");
         let results = |(opcode, operand, next): (u32, u32, usize)| {
             [le([opcode, operand].map(u32::to_le_bytes)), le([at, next - at].map(usize::to_le_bytes))].concat()
         };
-        self.add('i', &[map, &word::number(at as u64), &answered(&got.map(results).ok_or(4))]);
+        self.add('i', &[map, &word::number(at as u64), &answered(&got.map(results))]);
         got
     }
 
@@ -194,16 +194,17 @@ impl List {
     /// The original's functions move a cursor. A code that the map's end cuts leaves it at the end, where a reader stays at the code's
     /// first bit.
     pub fn read_item(&mut self, item: u8, map: &[u8], at: usize) -> Option<(u32, usize)> {
-        let got = match item {
+        let (got, cut) = match item {
             BIT => {
                 let mut next = at;
-                consume_bit_le(&mut next, map).map(|bit| (u32::from(bit), next))
+                // A bit is no operand.
+                (consume_bit_le(&mut next, map).map(|bit| (u32::from(bit), next)), CUT_OPCODE)
             }
-            row => ROWS[row as usize].read(map, at),
+            row => (ROWS[row as usize].read(map, at), ROWS[row as usize].cut()),
         };
         let place = got.map_or(at, |(_, next)| next);
         let left = (8 * map.len()).saturating_sub(place);
-        let answer = [answered(&decoded(got)), le([place, left].map(usize::to_le_bytes))].concat();
+        let answer = [answered(&decoded(got, cut)), le([place, left].map(usize::to_le_bytes))].concat();
         self.add('b', &[&[item], map, &word::number(at as u64), &answer]);
         got
     }
@@ -227,8 +228,7 @@ impl List {
     pub fn walk(&mut self, map: &[u8], address: &[u8]) -> Result<Walk, Refusal> {
         let walked = self.width().and_then(|width| walked(map, address, width));
         let results = walked.as_ref().map_err(|&reason| reason).map(|walk| {
-            let kind = ["return", "difference", "abort"].iter().position(|&kind| kind == walk.kind).expect("a kind of end") + 1;
-            [&[kind as u8][..], &le([walk.number, walk.count].map(u32::to_le_bytes)), &[walk.bits as u8]].concat()
+            [&[walk.end.number()][..], &le([walk.number, walk.count].map(u32::to_le_bytes)), &[walk.bits as u8]].concat()
         });
         self.add_at_width('w', &[map, address, &answered(&results)]);
         walked
@@ -378,8 +378,8 @@ impl List {
     }
 }
 
-fn decoded(got: Option<(u32, usize)>) -> Answer {
-    got.map(|(value, next)| [&value.to_le_bytes()[..], &next.to_le_bytes()].concat()).ok_or(4)
+fn decoded(got: Option<(u32, usize)>, cut: Refusal) -> Answer {
+    got.map(|(value, next)| [&value.to_le_bytes()[..], &next.to_le_bytes()].concat()).ok_or(cut)
 }
 
 fn written(bits: Option<&[bool]>) -> Answer {
@@ -404,6 +404,7 @@ fn checked(map: &[u8], width: Width) -> (Verdict, usize) {
     let accepted = matches!(verdict, Verdict::Accepted { .. });
     assert_eq!(accepted, asmap::sanity_check_bits(map, width.bits() as i32), "the original's verdict on {map:?} at {width:?}");
     assert!(!accepted || document::check_stop(map) == (verdict, place), "{map:?} is accepted at {width:?}, and otherwise at 128");
+    cuts::hold_check(map, verdict, place);
     (verdict, place)
 }
 
@@ -414,14 +415,18 @@ fn with_zeros(address: &[u8]) -> [u8; 16] {
     bytes
 }
 
-/// Of a map that is accepted at that width the number is held to the original's, and no walk of it aborts or reads more than it may. The
-/// original has no walk at 32; but such a walk ends before it asks for a bit behind the address, so the original's goes the same way.
+/// The number is held to the original's, put past its check; and no walk of a map that is accepted at that width aborts or reads more than
+/// it may. The original has no walk at 32; but a walk that there are enough bits for asks for none behind the address, and so the original's
+/// goes the same way, to a cut too.
 fn walked(map: &[u8], address: &[u8], width: Width) -> Result<Walk, Refusal> {
     let walk = document::walk_bits(map, address, width)?;
+    cuts::hold_walk(map, &walk);
+    if width == W128 || walk.end != End::TooFewBits {
+        let original = past_its_check(map).interpret_ip16(&with_zeros(address));
+        assert_eq!(walk.number, original, "the original's number for {address:?} by {map:?}");
+    }
     if asmap::sanity_check_bits(map, width.bits() as i32) {
-        let accepted = AsMap::from_bytes(map.to_vec()).expect("accepted at 128 too");
-        assert_eq!(walk.number, accepted.interpret_ip16(&with_zeros(address)), "the original's number for {address:?} by {map:?}");
-        assert_ne!(walk.kind, "abort", "{address:?} by {map:?}");
+        assert!(!walk.end.aborts(), "{address:?} by {map:?}");
         assert!(walk.count <= 2 * width.bits() + 1, "{address:?} by {map:?}");
     }
     Ok(walk)

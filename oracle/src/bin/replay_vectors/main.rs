@@ -27,7 +27,8 @@
 //!                                        stands (8) and how many bits are left (8)
 //!     c MAP ANSWER                       check: count (4), depth (1)
 //!     k MAP ANSWER                       where a check stops: reason (1), 0 where it accepts, and the bit (8)
-//!     w MAP ADDRESS ANSWER               walk: kind of end (1: RETURN 1, difference 2, abort 3), number (4), count (4), bits (1)
+//!     w MAP ADDRESS ANSWER               walk: kind of end (1: RETURN 1, difference 2, too few address bits 3, cut opcode 4, cut operand
+//!                                        19), number (4), count (4), bits (1)
 //!     u MAP ANSWER RECORDS               unpack: bytes written (4)
 //!     p RECORDS ANSWER MAP               pack: bytes written (4)
 //!     l MAP ANSWER PREFIXES              list: bytes written (4)

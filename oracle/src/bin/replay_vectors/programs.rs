@@ -83,7 +83,7 @@ pub fn nested(n: usize) -> Vec<u8> {
 }
 
 fn said(walk: &Walk) -> String {
-    format!("{} {} {} {}", walk.kind, walk.number, walk.count, walk.bits)
+    format!("{} {} {} {}", walk.end.name(), walk.number, walk.count, walk.bits)
 }
 
 /// How a walk ended, or why there was none.
