@@ -9,7 +9,7 @@ use oracle::MAPS;
 const OPCODES: [&str; 4] = ["RETURN", "JUMP", "MATCH", "DEFAULT"];
 
 /// The bits from bit `at` of the first byte on, ones around them, in as many bytes as they reach into.
-fn placed(bits: &[bool], at: usize) -> Vec<u8> {
+pub fn placed(bits: &[bool], at: usize) -> Vec<u8> {
     let end = (at + bits.len()).next_multiple_of(8);
     pack_le(&[&vec![true; at], bits, &vec![true; end - at - bits.len()]].concat())
 }

@@ -65,6 +65,7 @@ mod addresses;
 mod codes;
 mod comparisons;
 mod crowded;
+mod cuts;
 mod list;
 mod listings;
 mod pages;
@@ -98,6 +99,7 @@ fn main() {
     crowded::cases(&mut list);
     scans::cases(&mut list, &mut tables);
     pages::cases(&mut list, &mut tables);
+    cuts::cases(&mut list, &mut tables);
     addresses::cases(&mut list, &mut tables);
     sample::cases(&mut list);
     let words: Vec<String> = std::env::args().skip(1).collect();

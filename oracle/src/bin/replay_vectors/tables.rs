@@ -1,7 +1,7 @@
 //! The tables that teach something, as text: docs/tables/NAME.txt.
 
 /// Each with its first lines, which say what a row holds.
-const TABLES: [(&str, &str); 12] = [
+const TABLES: [(&str, &str); 13] = [
     (
         "codes",
         "The code of the first and the last value of each size of the four rows (document 01, Codes), and of values around each row.\n\
@@ -49,6 +49,15 @@ const TABLES: [(&str, &str); 12] = [
          one width.\n\
          Map: the check at both widths, as in check.txt. Address: the walk at both, with how it ends, the number, the instructions read\n\
          whole and the address bits read. Then a map's prefixes at 32 with their numbers, addresses of other lengths, other widths.",
+    ),
+    (
+        "cuts",
+        "Maps whose end cuts an instruction (document 02, CR 5); check.txt says how they are written as text. Of a cut opcode (4) nothing, a\n\
+         one or two ones are left; where it is whole and the rest is not, the operand is cut (19). A map that ends between two instructions\n\
+         is refused 2, and a walk that goes on there, or past the end, finds the opcode cut. What the check asks before it reads comes first:\n\
+         3 at a target, 5 behind a DEFAULT.\n\
+         Map: the check, as in check.txt; the walk by zeros, with how it ends, the number, the instructions read whole and the address bits\n\
+         read. Then walks by 8000::, whose first bit takes a jump, and maps that lost their last bytes.",
     ),
     (
         "groups",
