@@ -9,7 +9,7 @@ use maps::{shapes, Random};
 use oracle::changes::{self, Change, NEW_MAP, RECORD};
 use oracle::document::{Refusal, Verdict};
 use oracle::listing::{self, Prefix};
-use oracle::{bytes, records, EXAMPLES, MAPS};
+use oracle::{bytes, records, CUT_IN_AN_OPCODE, EXAMPLES, MAPS};
 
 /// A map with its listing, or the check's refusal.
 pub struct Listed<'a> {
@@ -132,7 +132,7 @@ impl<'a> Pair<'a> {
 }
 
 /// Two maps in both orders.
-fn both_orders(tally: &mut Tally, random: &mut Random, maps: [&[u8]; 2], same: bool, every: bool) {
+pub fn both_orders(tally: &mut Tally, random: &mut Random, maps: [&[u8]; 2], same: bool, every: bool) {
     let [old, new] = maps.map(|map| known(tally, map));
     let [old, new] = [&old, &new].map(Listed::new);
     for pair in [Pair::new(&old, &new), Pair::new(&new, &old)] {
@@ -208,7 +208,8 @@ fn drawn(tally: &mut Tally, random: &mut Random, every: bool) {
 
 /// Each of the original's test maps and of document 01's refused ones beside each, then drawn ones.
 pub fn run(tally: &mut Tally, random: &mut Random, form: Form) {
-    let maps: Vec<Vec<u8>> = MAPS.iter().map(|(_, map)| map.to_vec()).chain(EXAMPLES.map(bytes)).collect();
+    let refused = EXAMPLES.into_iter().chain([CUT_IN_AN_OPCODE]).map(bytes);
+    let maps: Vec<Vec<u8>> = MAPS.iter().map(|(_, map)| map.to_vec()).chain(refused).collect();
     for old in &maps {
         for new in &maps {
             both_orders(tally, random, [old, new], false, true);

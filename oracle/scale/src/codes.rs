@@ -1,11 +1,12 @@
 //! Codes: all rows read at every bit of many maps, and written at all boundaries and many numbers between.
 use crate::calls::{self, Read, Written, BEFORE32, BEFORE64, BEFORE_SIZE};
+use crate::programs::number;
 use crate::tally::Tally;
 use crate::Form;
 use corbastrigo_sys as sys;
 use maps::Random;
 use oracle::asmap::*;
-use oracle::document::instruction_at;
+use oracle::document::{instruction_at, CUT_OPCODE, CUT_OPERAND};
 use oracle::records::in_range;
 
 /// A row: the library's two calls, the original's reader, least value and sizes.
@@ -35,10 +36,12 @@ impl Row {
         u64::from(self.least) + self.sizes.iter().map(|&size| 1u64 << size).sum::<u64>()
     }
 
+    /// "4 for the opcode row and 19 for the other three" where the map's end cuts it.
     fn expected_read(&self, map: &[u8], at: usize) -> Read {
         let mut pos = at;
         match (self.original)(&mut pos, map) {
-            INVALID => (4, BEFORE32, BEFORE_SIZE),
+            INVALID if self.name == "type" => (number(CUT_OPCODE), BEFORE32, BEFORE_SIZE),
+            INVALID => (number(CUT_OPERAND), BEFORE32, BEFORE_SIZE),
             value => (0, value, pos),
         }
     }
@@ -59,10 +62,9 @@ fn word(bits: &[bool]) -> Written {
 
 pub fn expected_instruction(map: &[u8], at: usize) -> (u8, u32, u32, usize) {
     let mut pos = at;
-    let (opcode, operand) = instruction_at(&mut pos, map);
-    match operand {
-        INVALID => (4, BEFORE32, BEFORE32, BEFORE_SIZE),
-        _ => (0, opcode, operand, pos - at),
+    match instruction_at(&mut pos, map) {
+        Err(reason) => (number(reason), BEFORE32, BEFORE32, BEFORE_SIZE),
+        Ok((opcode, operand)) => (0, opcode, operand, pos - at),
     }
 }
 

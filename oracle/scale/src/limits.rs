@@ -115,7 +115,7 @@ fn renumbered(map: &[u8], step: usize) -> Vec<u8> {
     let (mut copy, mut at, mut returns) = (map.to_vec(), 0, 0);
     // Fewer than 8 bits follow the last RETURN, and more any other instruction.
     while at + 8 <= 8 * map.len() {
-        let (opcode, _) = instruction_at(&mut at, map);
+        let (opcode, _) = instruction_at(&mut at, map).expect("an accepted map's instruction");
         returns += usize::from(opcode == RETURN);
         if opcode == RETURN && returns % step == 0 {
             copy[(at - 1) / 8] ^= 1 << ((at - 1) % 8);

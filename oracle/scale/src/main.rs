@@ -7,6 +7,7 @@ mod calls;
 mod changes;
 mod codes;
 mod crowded;
+mod cuts;
 mod filters;
 mod limits;
 mod listing;
@@ -62,7 +63,7 @@ fn main() {
     println!("scale: seed {seed}");
     let mut tally = Tally::default();
     type Part = fn(&mut Tally, &mut Random, Form);
-    let parts: [(&str, Part); 14] = [
+    let parts: [(&str, Part); 15] = [
         ("codes", codes::run),
         ("short strings", programs::short_strings),
         ("random bytes", programs::random_bytes),
@@ -77,13 +78,20 @@ fn main() {
         ("crowded picks", crowded::run),
         ("widths", widths::run),
         ("pages", pages::run),
+        ("cuts", cuts::run),
     ];
     for (number, (name, part)) in parts.into_iter().enumerate() {
         let (start, before) = (Instant::now(), tally.compared);
         part(&mut tally, &mut Random(seed.wrapping_add(number as u64)), form);
         println!("scale: {name}: {} comparisons, {:.1} s", tally.compared - before, start.elapsed().as_secs_f64());
     }
-    println!("scale: maps accepted {}, refused {}", tally.accepted, tally.refused);
+    let [opcode, operand] = tally.cut;
+    println!(
+        "scale: maps accepted {}, refused {}, of these {opcode} cut in an opcode, {operand} in an operand",
+        tally.accepted, tally.refused
+    );
+    let [returned, differed, short, opcode, operand] = tally.ended;
+    println!("scale: walks ended by RETURN {returned}, difference {differed}, too few bits {short}, cut opcode {opcode}, cut operand {operand}");
     println!("scale: {} comparisons, {} differences, seed {seed}", tally.compared, tally.different);
     std::process::exit(i32::from(tally.different != 0));
 }

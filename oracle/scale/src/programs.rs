@@ -6,8 +6,8 @@ use corbastrigo_sys as sys;
 use maps::{shapes, Random};
 use oracle::asmap::{self, AsMap};
 use oracle::document::{self, Refusal, Verdict, Walk};
-use oracle::records;
 use oracle::width::{Width, W128};
+use oracle::{cuts, past_its_check, records};
 
 /// The answer of a fallible call of the oracle, as a number.
 pub fn number(refusal: Refusal) -> u8 {
@@ -21,12 +21,6 @@ pub struct Known<'a> {
     pub original: AsMap,
 }
 
-/// The original's map of any bytes, past its check, so that its walk has a say on refused maps too: a struct of one field has the bytes
-/// of that field.
-fn past_its_check(map: &[u8]) -> AsMap {
-    unsafe { std::mem::transmute::<Vec<u8>, AsMap>(map.to_vec()) }
-}
-
 /// Document 01's verdict on a map within the limit at a width, held to the original's, and what the calls leave behind then.
 pub fn checked(tally: &mut Tally, map: &[u8], width: Width) -> (Verdict, calls::Check, calls::Stop) {
     let (verdict, place) = document::check_stop_bits(map, width);
@@ -36,7 +30,8 @@ pub fn checked(tally: &mut Tally, map: &[u8], width: Width) -> (Verdict, calls::
     };
     let theirs = asmap::sanity_check_bits(map, width.bits() as i32);
     assert_eq!(theirs, accepted, "document 01 and the original differ on {map:02x?} at {width:?}");
-    *(if accepted { &mut tally.accepted } else { &mut tally.refused }) += 1;
+    cuts::hold_check(map, verdict, place);
+    tally.verdict(verdict);
     (verdict, check, (0, check.0, place))
 }
 
@@ -49,14 +44,12 @@ pub fn known<'a>(tally: &mut Tally, map: &'a [u8]) -> Known<'a> {
 }
 
 /// What a walk leaves behind. No walk of a map that is accepted at its width aborts, or reads more instructions than it may.
-pub fn walk_left(walk: &Walk, accepted: bool, width: Width) -> calls::Walk {
-    let kind = match walk.kind {
-        "return" => 1,
-        "difference" => 2,
-        _ => 3,
-    };
-    assert!(!accepted || kind != 3 && walk.count <= 2 * width.bits() + 1, "an accepted map aborts, or its walk is too long");
-    (0, kind, walk.number, walk.count, walk.bits as u8)
+pub fn walk_left(tally: &mut Tally, map: &[u8], walk: &Walk, accepted: bool, width: Width) -> calls::Walk {
+    cuts::hold_walk(map, walk);
+    tally.end(walk.end);
+    let short = walk.count <= 2 * width.bits() + 1;
+    assert!(!accepted || !walk.end.aborts() && short, "an accepted map aborts, or its walk is too long");
+    (0, walk.end.number(), walk.number, walk.count, walk.bits as u8)
 }
 
 impl Known<'_> {
@@ -65,7 +58,7 @@ impl Known<'_> {
         let theirs = self.original.interpret_ip16(address);
         assert_eq!(theirs, walked.number, "document 01 and the original differ on {:02x?}", self.map);
         let accepted = matches!(self.verdict, Verdict::Accepted { .. });
-        let expected = walk_left(&walked, accepted, W128);
+        let expected = walk_left(tally, self.map, &walked, accepted, W128);
         tally.same("walk", &(self.map, address), calls::interpret(self.map, address), expected);
         self.group(tally, address, walked.number);
     }

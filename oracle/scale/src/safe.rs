@@ -1,8 +1,10 @@
 //! The safe crate, asked as a node asks, against the original asked with the same text.
-use crate::programs::followed;
+use crate::programs::{followed, number};
 use crate::tally::Tally;
 use crate::Form;
+use corbastrigo::{CompareError, End, Refusal};
 use maps::{shapes, Random};
+use oracle::document::{self, Verdict, CUT_OPCODE, CUT_OPERAND};
 use std::collections::HashSet;
 use std::net::{IpAddr, Ipv6Addr, SocketAddr};
 
@@ -52,6 +54,42 @@ fn from_file(tally: &mut Tally, map: &[u8]) {
     let (made, expected) = (ours::length_at(&path), original::length_at(&path));
     tally.same("safe file", &map, made.expect("readable"), expected.expect("readable"));
     std::fs::remove_file(&path).expect("the file is there");
+}
+
+/// The safe crate's name for a refusal.
+fn named(reason: document::Refusal) -> Refusal {
+    match reason {
+        CUT_OPCODE => Refusal::CutOpcode,
+        CUT_OPERAND => Refusal::CutOperand,
+        _ => Refusal::from_number(number(reason)).expect("0 is no refusal"),
+    }
+}
+
+fn end_of(end: document::End) -> End {
+    match end {
+        document::End::Returned => End::Returned,
+        document::End::Differed => End::Differed,
+        document::End::TooFewBits => End::TooFewBits,
+        document::End::CutOpcode => End::CutOpcode,
+        document::End::CutOperand => End::CutOperand,
+    }
+}
+
+/// The names that the safe crate has for why the check refuses a map, alone and as the new one of two, and for how a walk of it ends.
+pub fn reasons(tally: &mut Tally, map: &[u8], address: &[u8; 16]) {
+    let (verdict, place) = document::check_stop(map);
+    let reason = match verdict {
+        Verdict::Accepted { .. } => None,
+        Verdict::Refused(reason) => Some(named(reason)),
+    };
+    let stop = corbastrigo::sanity_check_stop(map).map(|stop| (stop.reason, stop.place));
+    tally.same("safe reason", &map, stop, Ok((reason, place)));
+    tally.same("safe map", &map, corbastrigo::AsMap::checked(map.to_vec()).err(), reason);
+    tally.same("safe compare", &map, corbastrigo::compare_bytes(&[0; 3], map).err(), reason.map(CompareError::New));
+    let walk = document::walk(map, address);
+    let ours = corbastrigo::interpret(map, address).map(|walk| (walk.end, walk.end.is_abort(), walk.number, walk.count, walk.bits));
+    let theirs = (end_of(walk.end), walk.end.aborts(), walk.number, walk.count, walk.bits as u8);
+    tally.same("safe walk", &(map, address), ours, Ok(theirs));
 }
 
 pub fn run(tally: &mut Tally, random: &mut Random, form: Form) {

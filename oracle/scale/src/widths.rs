@@ -8,15 +8,15 @@ use crate::tally::Tally;
 use crate::Form;
 use maps::{shapes, Random};
 use oracle::asmap::AsMap;
-use oracle::document::{self, Verdict};
+use oracle::document::{self, End, Verdict};
 use oracle::width::{Width, W32};
-use oracle::{bytes, changes, listing, records, EXAMPLES, MAPS};
+use oracle::{bytes, changes, listing, past_its_check, records, CUT_IN_AN_OPCODE, EXAMPLES, MAPS};
 
 /// A map with what is known of it at 32.
 struct Narrow<'a> {
     map: &'a [u8],
-    /// The original's, where it is accepted at 32.
-    original: Option<AsMap>,
+    accepted: bool,
+    original: AsMap,
 }
 
 /// Checks a map within the limit. What is accepted at 32 is so at 128, with the same numbers.
@@ -28,19 +28,18 @@ fn narrow<'a>(tally: &mut Tally, map: &'a [u8]) -> Narrow<'a> {
     if accepted {
         tally.same("check at 128 of a map accepted at 32", &map, calls::sanity_check(map), check);
     }
-    let original = accepted.then(|| AsMap::from_bytes(map.to_vec()).expect("accepted at 128 too"));
-    Narrow { map, original }
+    Narrow { map, accepted, original: past_its_check(map) }
 }
 
 impl Narrow<'_> {
-    /// By the first four of 16 bytes. The walk of a map that is accepted at 32 asks for no bit behind these, so the original's walk by all
-    /// 16 ends as it does.
+    /// By the first four of 16 bytes. A walk that these are enough for asks for no bit behind them, so the original's walk by all 16 ends as
+    /// it does, at a cut too.
     fn walk(&self, tally: &mut Tally, address: [u8; 16]) {
         let walked = document::walk_bits(self.map, &address[..4], W32).expect("four bytes");
-        if let Some(original) = &self.original {
-            assert_eq!(original.interpret_ip16(&address), walked.number, "the original walks elsewhere by {:02x?}", self.map);
+        if walked.end != End::TooFewBits {
+            assert_eq!(self.original.interpret_ip16(&address), walked.number, "the original walks elsewhere by {:02x?}", self.map);
         }
-        let expected = walk_left(&walked, self.original.is_some(), W32);
+        let expected = walk_left(tally, self.map, &walked, self.accepted, W32);
         tally.same("walk at 32", &(self.map, address), calls::interpret_bits(self.map, &address[..4], 32), expected);
     }
 
@@ -75,7 +74,7 @@ impl Narrow<'_> {
 }
 
 /// An accepted or a refused map: every call at 32, at 128 beside its namesake, and at a width that there is not.
-fn all_calls(tally: &mut Tally, random: &mut Random, map: &[u8], walks: usize) {
+pub fn all_calls(tally: &mut Tally, random: &mut Random, map: &[u8], walks: usize) {
     let narrow = narrow(tally, map);
     narrow.walks(tally, random, walks);
     narrow.written(tally);
@@ -149,7 +148,7 @@ pub fn no_width(tally: &mut Tally, random: &mut Random, maps: [&[u8]; 2]) {
 }
 
 /// Two maps compared in both orders, at 32 and, beside the namesakes, at 128. `same` says that they say the same by construction.
-fn compared(tally: &mut Tally, maps: [&[u8]; 2], same: bool) {
+pub fn compared(tally: &mut Tally, maps: [&[u8]; 2], same: bool) {
     for maps in [maps, [maps[1], maps[0]]] {
         let made = changes::compare_bits(maps[0], maps[1], W32);
         assert!(!same || made == Ok(vec![]), "maps that say the same in other words differ: {maps:02x?}");
@@ -214,7 +213,8 @@ pub fn run(tally: &mut Tally, random: &mut Random, form: Form) {
         let map = random.bytes(length);
         all_calls(tally, random, &map, 1);
     }
-    let maps: Vec<Vec<u8>> = MAPS.iter().map(|(_, map)| map.to_vec()).chain(EXAMPLES.map(bytes)).collect();
+    let refused = EXAMPLES.into_iter().chain([CUT_IN_AN_OPCODE]).map(bytes);
+    let maps: Vec<Vec<u8>> = MAPS.iter().map(|(_, map)| map.to_vec()).chain(refused).collect();
     for old in &maps {
         maps.iter().for_each(|new| compared(tally, [old, new], false));
         all_calls(tally, random, old, 8);
