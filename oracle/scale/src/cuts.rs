@@ -1,12 +1,13 @@
 //! Maps whose end cuts an opcode or an operand (document 02, CR 5), made so that both cuts are common: trees without their last bytes, trees
 //! with an operand near the end edited so that its code reaches past it, instructions of which the last is cut, and jumps that land around
-//! the end. Every call that has a reason or a kind of end to hand on is asked.
+//! the end. Beside them stand maps that are too deep, which abort a walk without a cut. Every call that has a reason or a kind of end to hand
+//! on is asked.
 use crate::changes::both_orders;
 use crate::programs::{followed, known, tree};
 use crate::tally::Tally;
 use crate::{codes, listing, pages, picks, safe, widths, Form};
 use maps::{shapes, Random};
-use oracle::asmap::{pack_le, JUMP};
+use oracle::asmap::{pack_le, JUMP, MATCH};
 use oracle::codes::{operand_row, ROWS};
 use oracle::cuts::cut_at;
 use oracle::document::CUT_OPCODE;
@@ -100,9 +101,22 @@ fn landing(random: &mut Random) -> Vec<u8> {
     }
 }
 
-fn cut(random: &mut Random) -> Vec<u8> {
+/// About as deep as addresses of either width are, by jumps or by MATCHes of a byte: all its turns are zeros, or all are ones.
+fn deep(random: &mut Random) -> Vec<u8> {
+    let (bytes, ones) = ([4, 16][random.below(2) as usize], random.percent(50));
+    if random.percent(50) {
+        let depth = 8 * bytes as u32 - 1 + random.below(3) as u32;
+        return shapes::comb(random, depth, ones);
+    }
+    let mut bits = instruction(MATCH, if ones { 511 } else { 256 }).repeat(bytes);
+    let opcode = random.below(4) as u32;
+    bits.extend(drawn_instruction(random, opcode));
+    pack_le(&bits)
+}
+
+fn cut_or_deep(random: &mut Random) -> Vec<u8> {
     let sane = if random.percent(50) { tree(random) } else { shapes::random(random, 8, 32) };
-    match random.below(6) {
+    match random.below(7) {
         0 => truncated(random, &sane),
         1 => cut_in_an_opcode(random, &sane),
         2 => edited(random, &sane),
@@ -111,7 +125,8 @@ fn cut(random: &mut Random) -> Vec<u8> {
             truncated(random, &copy)
         }
         4 => cut_behind(random),
-        _ => landing(random),
+        5 => landing(random),
+        _ => deep(random),
     }
 }
 
@@ -142,14 +157,16 @@ fn all_calls(tally: &mut Tally, random: &mut Random, map: &[u8], other: &[u8]) {
     pages::all_ways(tally, &candidates, map);
 }
 
+/// Every round has its share of each cut and of each kind of end.
 pub fn run(tally: &mut Tally, random: &mut Random, form: Form) {
     let rounds = form.choose(6_000, 90_000);
-    let counts = |tally: &Tally| [tally.cut[0], tally.cut[1], tally.ended[3], tally.ended[4]];
+    let counts = |tally: &Tally| tally.cut.into_iter().chain(tally.ended).collect::<Vec<u64>>();
     let before = counts(tally);
     for _ in 0..rounds {
-        let (map, other) = (cut(random), cut(random));
+        let (map, other) = (cut_or_deep(random), cut_or_deep(random));
         all_calls(tally, random, &map, &other);
     }
     let after = counts(tally);
-    assert!(before.iter().zip(&after).all(|(before, after)| after - before > rounds / 4), "few cuts: {before:?}, then {after:?}");
+    let often = before.iter().zip(&after).all(|(before, after)| after - before > rounds / 10);
+    assert!(often, "few of a kind: {before:?}, then {after:?}");
 }
