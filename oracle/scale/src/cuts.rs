@@ -101,7 +101,8 @@ fn landing(random: &mut Random) -> Vec<u8> {
     }
 }
 
-/// About as deep as addresses of either width are, by jumps or by MATCHes of a byte: all its turns are zeros, or all are ones.
+/// About as deep as addresses of either width are, by jumps or by MATCHes of a byte: all its turns are zeros, or all are ones. What follows the
+/// MATCHes is cut every other time: a cut comes before the lack of address bits.
 fn deep(random: &mut Random) -> Vec<u8> {
     let (bytes, ones) = ([4, 16][random.below(2) as usize], random.percent(50));
     if random.percent(50) {
@@ -111,7 +112,8 @@ fn deep(random: &mut Random) -> Vec<u8> {
     let mut bits = instruction(MATCH, if ones { 511 } else { 256 }).repeat(bytes);
     let opcode = random.below(4) as u32;
     bits.extend(drawn_instruction(random, opcode));
-    pack_le(&bits)
+    let kept = if random.percent(50) { bits.len() / 8 * 8 } else { bits.len() };
+    pack_le(&bits[..kept])
 }
 
 fn cut_or_deep(random: &mut Random) -> Vec<u8> {
