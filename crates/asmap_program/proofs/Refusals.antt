@@ -3,15 +3,14 @@
 -- Assumes nothing.
 use Prim.Native.Nat.{ℕ, zero, suc, _≤_}
 use mathlib.Core.Bool.{Bool, true, false, not, _&&_}
-use mathlib.Core.Path.{_≡_, refl, sym, ap, subst}
+use mathlib.Core.Path.{_≡_, refl, sym, subst}
 use mathlib.Core.List.{List, [], _∷_}
 use mathlib.Core.Logic.{_≢_}
 use native.Mathlib.Omega.{arith}
 use lib.Dec.{T, leb, eqb, leb→le}
 use borrow.Author.Tests.{eq-eqb}
 use Rattle.asmap_program.specs.declared.Instruction.{Instruction}
-use Rattle.asmap_program.specs.declared.Verdict.{Verdict}
-use Rattle.asmap_program.specs.declared.Verdict.the-variants.{Accepted, Refused}
+use Rattle.asmap_program.specs.declared.Verdict.the-variants.{Refused}
 use Rattle.asmap_program.specs.Map.{Opcode, Operand, cutReason, Fetched, Whole, CutOpcode, CutOperand, Map, Laws}
 use Rattle.asmap_program.specs.Check.{Open, State, Outcome, Next, Done, Refuse, guard, closing, stepWhole, stepOn, step, check, stopOf, Gives, StopsAt}
 use Rattle.asmap_program.proofs.Stop.{stops-at}

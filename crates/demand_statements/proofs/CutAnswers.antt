@@ -1,6 +1,6 @@
 -- Which of an instruction's two codes is cut, and that the check hands it on.
 -- Assumes nothing.
-use Prim.Native.Nat.{ℕ, _≤_, _<_}
+use Prim.Native.Nat.{ℕ, _≤_}
 use mathlib.Core.Path.{_≡_, _∙_, refl, sym, ap, subst}
 use mathlib.Core.Bool.{Bool, true, false}
 use mathlib.Core.Logic.{_≢_}
@@ -12,7 +12,7 @@ use lib.ListN.{length}
 use Rattle.asmap_program.specs.declared.Verdict.{Verdict}
 use Rattle.asmap_program.specs.declared.Verdict.the-variants.{Accepted, Refused}
 use Rattle.asmap_program.specs.Map.{limit, Opcode, Fetched, CutOpcode, CutOperand}
-use Rattle.asmap_program.specs.Check.{check, stopOf}
+use Rattle.asmap_program.specs.Check.{check}
 use Rattle.asmap_program.proofs.Refusals.{Shows, stops-at-a-cut}
 use Rattle.asmap_codes.specs.declared.Code.{Code}
 use Rattle.asmap_codes.specs.declared.Code.the-variants.{Value, Cut}
@@ -22,7 +22,7 @@ use Rattle.asmap_codes.specs.Instruction.{mapOf, withOperand, withOpcode, fetch
 use Rattle.asmap_codes.proofs.MapLaws.{laws, instruction-at}
 use Rattle.asmap_check.specs.Check.{checkOf}
 use Rattle.asmap_check.proofs.Limit.{checked}
-use Rattle.answer_outcome.specs.Outcome.{Outcome, Done, No, handed, IsDone, Hands}
+use Rattle.answer_outcome.specs.Outcome.{No, Hands}
 use Rattle.answer_codes.specs.Codes.{codeRead, instructionRead}
 use Rattle.demand_statements.specs.AnyInput.{Stops}
 use Rattle.demand_statements.specs.Cut.{WhichIsCut, HandedOn}

@@ -1,7 +1,7 @@
 -- By whether the row begins at 0.
 -- Assumes nothing.
 use Prim.Native.Nat.{ℕ, zero, suc}
-use mathlib.Core.Path.{_≡_, refl, ap}
+use mathlib.Core.Path.{_≡_, refl}
 use mathlib.Core.Logic.{_≢_}
 use Rattle.asmap_program.specs.Map.{Operand, cutReason}
 use Rattle.asmap_codes.specs.Code.{partFrom}
