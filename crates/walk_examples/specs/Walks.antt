@@ -1,9 +1,10 @@
--- Document 01's examples of the walk, as one list ("Examples to hold to").
+-- Document 01's examples of the walk, as one list ("Examples to hold to"). `8b` and `fb` are of document 02, CR 5: the one is cut in an
+-- opcode, behind a MATCH, the other in its operand.
 -- Assumes nothing.
 use Prim.Native.Nat.{ℕ, zero, suc}
 use mathlib.Core.List.{List, [], _∷_}
 use Rattle.asmap_program.specs.declared.Kind.{Kind}
-use Rattle.asmap_program.specs.declared.Kind.the-variants.{Returned, Differed, OpcodeCut, OperandCut, TooFewBits}
+use Rattle.asmap_program.specs.declared.Kind.the-variants.{Returned, Differed, OpcodeCut, OperandCut}
 use Rattle.asmap_program.specs.Map.{ipv4Mapped}
 use Rattle.asmap_walk.specs.Interpret.{interpretOf}
 use Rattle.asmap_walk.specs.declared.Interpreted.{Interpreted}
@@ -32,6 +33,8 @@ pairs (suc n) = 0x07 ∷ 0x00 ∷ 0x18 ∷ pairs n
 abbrev pub walks : List Example
 walks =
     record { bytes = 0x01 ∷ []; address = zeros; kind = OpcodeCut; number = 0; count = 1; bits = 1 }
+    ∷ record { bytes = 0x8b ∷ []; address = zeros; kind = OpcodeCut; number = 0; count = 1; bits = 2 }
+    ∷ record { bytes = 0xfb ∷ []; address = zeros; kind = OperandCut; number = 0; count = 0; bits = 0 }
     ∷ record { bytes = 0x00 ∷ 0x00 ∷ 0x00 ∷ []; address = zeros; kind = Returned; number = 1; count = 1; bits = 0 }
     ∷ record { bytes = twoPrefix; address = ipv4Mapped (1 ∷ 2 ∷ 0 ∷ 0 ∷ []); kind = Returned; number = 1; count = 15; bits = 103 }
     ∷ record { bytes = twoPrefix; address = ipv4Mapped (3 ∷ 4 ∷ 0 ∷ 0 ∷ []); kind = Returned; number = 2; count = 15; bits = 103 }
