@@ -2,3 +2,4 @@ pub mod ByteLaws
 pub mod InstructionBits
 pub mod WrittenLaws
 pub mod WriterLaws
+pub mod ToCome

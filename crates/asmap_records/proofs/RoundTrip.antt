@@ -31,6 +31,7 @@ use Rattle.asmap_records.proofs.RecordLaws.{and-both, length-records, z
 use Rattle.asmap_records.proofs.OutputLaws.{passed, made-same}
 use Rattle.asmap_records.proofs.PackLaws.{all-right, field-made, record-right, Split, records-split, pack-whole}
 use Rattle.asmap_bit_writer.proofs.InstructionBits.{bits-append, bits-instruction}
+use Rattle.asmap_bit_writer.proofs.ToCome.{ReadBack, read-back}
 use Rattle.asmap_records.proofs.Listing.{Listing, none, then, Stop, one-listing, accepted-lists}
 use Rattle.asmap_check.proofs.Limit.{accepted-within}
 use Rattle.asmap_records.proofs.UnpackLaws.{unpack-as}
@@ -53,10 +54,6 @@ zeros : (l : List ℕ) → allZero l ≡ true → l ≡ replicate (length l) 0
 zeros [] h = refl
 zeros (zero ∷ l) h = ap (_∷_ 0) (zeros l h)
 zeros (suc x ∷ l) h = let z : _≡_ {A = ℕ} 0 1 = cc in absurd (omega arith)
-
-zero-zeros : (n : ℕ) → allZero (replicate n 0) ≡ true
-zero-zeros zero = refl
-zero-zeros (suc n) = zero-zeros n
 
 -- a map whose bits from q on are fewer than 8 zeros is the bytes of the bits before q
 unpadded : (m : List ℕ) (q : ℕ) → AllBytes m → q ≤ 8 * length m → 8 * length m - q ≤ 7 → allZero (drop q (mapBits m)) ≡ true → bytesOf (take q (mapBits m)) ≡ m
@@ -258,23 +255,15 @@ chained (suc n) l at bs h k e =
 -- THE SECOND THEOREM: records of bytes that pack makes a map of, where the check accepts that map at w address bits, are what unpack
 -- makes of it.
 pub packed-then-unpacked : (rs m : List ℕ) (w count depth : ℕ) → AllBytes rs → packOf rs ≡ Made m → checkOf m w ≡ Accepted count depth → unpackOf m w ≡ Made rs
-unfolding bytesOf
 packed-then-unpacked rs m w count depth h e f =
     let p = packs rs m e in
     let s = accepted-within m w count depth f in
     let bs = p .bits in
     let c = chained (length rs / 16) rs 0 bs h (omega (arith, p .whole)) (p .made) in
-    let n = (length bs + 7) / 8 in
-    let pad : List ℕ = replicate (8 * n - length bs) 0 in
-    let t : mapBits m ≡ bs ++ pad = ap mapBits (p .bytes) ∙ map-toBytes n bs (chain-bits (c .chain)) (omega arith) in
-    let d : drop (length bs) (mapBits m) ≡ pad = ap (drop (length bs)) t ∙ drop-at bs pad (length bs) refl in
-    let k = length-replicate {A = ℕ} (8 * n - length bs) 0 in
+    let r : ReadBack bs m = subst (ReadBack bs) (sym (p .bytes)) (read-back bs (chain-bits (c .chain))) in
     let z : 0 + length bs ≡ length bs = omega arith in
-    let l : Listing (mapOf m) 0 (c .is) (length bs) = subst (λ (k : ℕ). Listing (mapOf m) 0 (c .is) k) z (chain-listing m pad (c .chain) t) in
-    let stop = stops m (length bs) record {
-      few = omega (arith, length-left m (length bs), ap length d, k);
-      blank = ap allZero d ∙ zero-zeros (8 * n - length bs);
-    } in
+    let l : Listing (mapOf m) 0 (c .is) (length bs) = subst (λ (k : ℕ). Listing (mapOf m) 0 (c .is) k) z (chain-listing m (r .pad) (c .chain) (r .whole)) in
+    let stop = stops m (length bs) record { few = r .few; blank = r .blank } in
     let a = accepted-lists (mapOf m) w (s .1) in
     unpack-as m w (Accepted count depth) (sym f)
     ∙ ap Made (ap recordsOf (one-listing (mapOf m) (a .all) l (stops m (a .end) (padded m (a .end) (a .tail))) stop) ∙ c .same)
