@@ -1,0 +1,4 @@
+pub mod LoadLaws
+pub mod ShapeLaws
+pub mod AddressLaws
+pub mod PassLaws
