@@ -4,3 +4,4 @@ pub mod NeverZeroCodes
 pub mod NeverZeroMaps
 pub mod NeverZeroGroups
 pub mod NeverZeroFilters
+pub mod NeverZeroLoads

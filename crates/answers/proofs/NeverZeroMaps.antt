@@ -79,7 +79,7 @@ module _ (P : ℕ → Type 0) where
   Makes (Made l) = Unit {0}
   Makes (No n) = P n
 
-  refused : (b : Bool) (n : ℕ) (r : Result) → P n → Makes r → Makes (refuse b n r)
+  pub refused : (b : Bool) (n : ℕ) (r : Result) → P n → Makes r → Makes (refuse b n r)
   unfolding refuse
   refused true n r h k = h
   refused false n r h k = k

@@ -9,6 +9,7 @@
 pub mod codes;
 pub mod filters;
 pub mod groups;
+pub mod loads;
 pub mod maps;
 pub mod pages;
 pub mod widths;
