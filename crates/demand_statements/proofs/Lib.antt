@@ -7,6 +7,7 @@ pub mod WalkLaws
 pub mod RecordAnswers
 pub mod ScanAnswers
 pub mod ListBytes
+pub mod LoadAnswers
 pub mod ListAnswers
 pub mod CandidateLaws
 pub mod PickLaws

@@ -3,6 +3,7 @@ pub mod Walked
 pub mod Picked
 pub mod Same
 pub mod Listed
+pub mod Loaded
 pub mod Agreed
 pub mod Printed
 pub mod Cut

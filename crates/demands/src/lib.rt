@@ -2,10 +2,10 @@
 // exported calls (`corbastrigo_…`) as a user would. This is the page to read first for whoever doubts the rest.
 //
 // A contract here uses no definition of the project but the check (`checkOf`), the place where it stops (`stopOf`, `StopsAt`), the walk
-// (`walkOf`), the unpacked list (`unpacked`), the first pass (`firstPass`) and Core's functions (`coreCheck`, `coreInterpret`, its four
-// decoders), with how these take bytes (`mapOf`, `fileOf`, `addressBit`). All else is numbers, bytes and equations, in
+// (`walkOf`), the unpacked list (`unpacked`), the first pass (`firstPass`), the draws (`next`, `draw`) with the load made of them (`loadOf`), and Core's
+// functions (`coreCheck`, `coreInterpret`, its four decoders), with how these take bytes (`mapOf`, `fileOf`, `addressBit`). All else is numbers, bytes and equations, in
 // `demand_statements/specs`. Each is proved from the contracts of the exported calls and from laws about those definitions
-// (`demand_statements/proofs`); no code below them is looked at. So what a contract there no longer says is refused here. All 37 exported
+// (`demand_statements/proofs`); no code below them is looked at. So what a contract there no longer says is refused here. All 39 exported
 // calls have a caller.
 //
 // Demand 1, any input: `any_input`, and `refused` in `picks` and `pages`. Maps, addresses, lists and lengths of every kind get an answer, 0, or one
@@ -34,11 +34,16 @@
 // Request 5, cut opcode or cut operand: `cuts`. An instruction is refused 4 where no opcode can be read at its bit, and 19 where one can; and where the
 // check refuses a map with the one or the other, so does reading the instruction at the place where it stops.
 //
+// Request 6, a load everyone can make again: `loads`. The bytes are those of the defined load from its seed; the check accepts them over every number of
+// address bits from the pairs on, and every address that begins with the MATCH bits walks each instruction. No draw is 0, so none is refused but
+// the seed.
+//
 // Two maps compared: `comparisons`. Where a comparison needs no byte, the two walks by any address end with the same number.
 pub mod any_input;
 pub mod comparisons;
 pub mod cuts;
 pub mod lists;
+pub mod loads;
 pub mod pages;
 pub mod picks;
 pub mod same;
