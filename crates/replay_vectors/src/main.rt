@@ -18,6 +18,8 @@ use crate::groups::group;
 use crate::groups::pick;
 use crate::groups::prefix_group;
 use crate::groups::scan;
+use crate::loads::draw;
+use crate::loads::load;
 use crate::maps::check;
 use crate::maps::check_stop;
 use crate::maps::list_bytes;
@@ -42,16 +44,17 @@ use std::num::wrapping_add_u64;
 mod addresses;
 mod codes;
 mod groups;
+mod loads;
 mod maps;
 mod pages;
 mod text;
 mod widths;
 
 // Room for the list. One that fills it is taken for too long.
-fn list_room() -> [u8; 1048576]
-    ensures { λ r. ⌜ 1048576 ≡ length r ⌝ }
+fn list_room() -> [u8; 2097152]
+    ensures { λ r. ⌜ 2097152 ≡ length r ⌝ }
 {
-    [0; 1048576]
+    [0; 2097152]
 }
 
 // Room for the bytes of a line's words. A line that has more cannot be read.
@@ -63,7 +66,8 @@ fn word_room() -> [u8; 262144]
 
 // ---- a line
 
-// The kinds of call by their letters, and 33 for any other letter. They are counted and printed in this order; the capitals are calls at a width.
+// The kinds of call by their letters, and 35 for any other letter. They are counted and printed in this order; the capitals are calls at a width, but for X,
+// which is a draw.
 fn kind_of(letter: u8) -> usize {
     match letter {
         b'd' => 0,
@@ -99,7 +103,9 @@ fn kind_of(letter: u8) -> usize {
         b'm' => 30,
         b'f' => 31,
         b'r' => 32,
-        _ => 33,
+        b'X' => 33,
+        b'x' => 34,
+        _ => 35,
     }
 }
 
@@ -122,6 +128,8 @@ fn shape_of(kind: usize) -> [u8; 9]
         27 => [8, 9, 9, 0, 0, 0, 0, 0, 0],
         28 | 29 => [1, 9, 9, 9, 9, 0, 0, 0, 0],
         32 => [1, 2, 9, 9, 0, 0, 0, 0, 0],
+        33 => [8, 9, 0, 0, 0, 0, 0, 0, 0],
+        34 => [8, 8, 9, 9, 0, 0, 0, 0, 0],
         _ => [9, 9, 0, 0, 0, 0, 0, 0, 0],
     }
 }
@@ -218,6 +226,13 @@ fn replay_address(kind: usize, bytes: &[u8], words: Words) -> Seen {
     }
 }
 
+fn replay_load(kind: usize, bytes: &[u8], words: Words) -> Seen {
+    match kind {
+        33 => draw(bytes, words),
+        _ => load(bytes, words),
+    }
+}
+
 // The call of a kind on its words.
 fn replay_words(kind: usize, bytes: &[u8], words: Words) -> Seen {
     if kind < 5 {
@@ -232,7 +247,10 @@ fn replay_words(kind: usize, bytes: &[u8], words: Words) -> Seen {
     if kind < 30 {
         return replay_peers(kind, bytes, words);
     }
-    replay_address(kind, bytes, words)
+    if kind < 33 {
+        return replay_address(kind, bytes, words);
+    }
+    replay_load(kind, bytes, words)
 }
 
 // The letter of a line, which a blank follows; 0 where there is none.
@@ -247,7 +265,7 @@ fn letter_of(line: &[u8]) -> u8 {
 }
 
 fn replay_line(kind: usize, line: &[u8], bytes: &mut [u8]) -> Seen {
-    if 32 < kind {
+    if 34 < kind {
         return Seen::Unread;
     }
     let words = read_words(line, bytes);
@@ -263,19 +281,19 @@ fn replay_line(kind: usize, line: &[u8], bytes: &mut [u8]) -> Seen {
 
 // ---- the list
 
-// Every line is counted at one of 69 places: for each kind of call the answers that are ours and, 33 places on, those that differ; then
+// Every line is counted at one of 73 places: for each kind of call the answers that are ours and, 35 places on, those that differ; then
 // headings, lines with a wrong count of words, and lines that could not be read.
 fn place_of(kind: usize, seen: Seen) -> usize
-    ensures { λ r. ⌜ r < 69 ⌝ }
+    ensures { λ r. ⌜ r < 73 ⌝ }
 {
-    if 32 < kind {
-        return 68;
+    if 34 < kind {
+        return 72;
     }
     match seen {
         Seen::Same => kind,
-        Seen::Differs => 33 + kind,
-        Seen::Count => 67,
-        Seen::Unread => 68,
+        Seen::Differs => 35 + kind,
+        Seen::Count => 71,
+        Seen::Unread => 72,
     }
 }
 
@@ -288,18 +306,18 @@ fn is_heading(line: &[u8]) -> bool {
 }
 
 fn line_place(line: &[u8], bytes: &mut [u8]) -> usize
-    ensures { λ r. ⌜ r < 69 ⌝ }
+    ensures { λ r. ⌜ r < 73 ⌝ }
 {
     if is_heading(line) {
-        return 66;
+        return 70;
     }
     let kind = kind_of(letter_of(line));
     place_of(kind, replay_line(kind, line, bytes))
 }
 
 // One line more. The list is far too short for a count to wrap.
-fn add_one(counts: &mut [u64; 69], place: usize)
-    requires { ⌜ place < 69 ⌝ }
+fn add_one(counts: &mut [u64; 73], place: usize)
+    requires { ⌜ place < 73 ⌝ }
 {
     counts[place] = wrapping_add_u64(counts[place], 1);
 }
@@ -314,16 +332,16 @@ fn say_number(n: u64) {
 
 // Names a line that is neither a heading nor has our answer, by the place where it is counted.
 fn say_line(line: u64, place: usize) {
-    if place < 33 || place == 66 {
+    if place < 35 || place == 70 {
         return;
     }
     say(b"line ");
     say_number(line);
-    if place < 66 {
+    if place < 70 {
         say(b" differs\n");
         return;
     }
-    if place < 68 {
+    if place < 72 {
         say(b" has a wrong count of words\n");
         return;
     }
@@ -331,7 +349,7 @@ fn say_line(line: u64, place: usize) {
 }
 
 // Hands back how many lines there are.
-fn replay_list(list: &[u8], bytes: &mut [u8], counts: &mut [u64; 69]) -> u64 {
+fn replay_list(list: &[u8], bytes: &mut [u8], counts: &mut [u64; 73]) -> u64 {
     let mut lines: u64 = 0;
     let mut at: usize = 0;
     while at < list.len() {
@@ -345,10 +363,10 @@ fn replay_list(list: &[u8], bytes: &mut [u8], counts: &mut [u64; 69]) -> u64 {
     lines
 }
 
-fn say_kind(name: &[u8], counts: &[u64; 69], kind: usize)
-    requires { ⌜ kind < 33 ⌝ }
+fn say_kind(name: &[u8], counts: &[u64; 73], kind: usize)
+    requires { ⌜ kind < 35 ⌝ }
 {
-    let differ = counts[kind + 33];
+    let differ = counts[kind + 35];
     say(name);
     say_number(wrapping_add_u64(counts[kind], differ));
     say(b" answers, ");
@@ -356,7 +374,7 @@ fn say_kind(name: &[u8], counts: &[u64; 69], kind: usize)
     say(b" differ\n");
 }
 
-fn say_codes(counts: &[u64; 69]) {
+fn say_codes(counts: &[u64; 73]) {
     say_kind(b"code read: ", counts, 0);
     say_kind(b"code written: ", counts, 1);
     say_kind(b"instruction read: ", counts, 2);
@@ -364,7 +382,7 @@ fn say_codes(counts: &[u64; 69]) {
     say_kind(b"bit reader: ", counts, 4);
 }
 
-fn say_maps(counts: &[u64; 69]) {
+fn say_maps(counts: &[u64; 73]) {
     say_kind(b"check: ", counts, 5);
     say_kind(b"where a check stops: ", counts, 6);
     say_kind(b"walk: ", counts, 7);
@@ -376,7 +394,7 @@ fn say_maps(counts: &[u64; 69]) {
     say_kind(b"bytes of a comparison: ", counts, 13);
 }
 
-fn say_widths(counts: &[u64; 69]) {
+fn say_widths(counts: &[u64; 73]) {
     say_kind(b"check at a width: ", counts, 14);
     say_kind(b"where a check at a width stops: ", counts, 15);
     say_kind(b"walk at a width: ", counts, 16);
@@ -387,7 +405,7 @@ fn say_widths(counts: &[u64; 69]) {
     say_kind(b"bytes of a comparison at a width: ", counts, 21);
 }
 
-fn say_peers(counts: &[u64; 69]) {
+fn say_peers(counts: &[u64; 73]) {
     say_kind(b"group by prefix: ", counts, 22);
     say_kind(b"group: ", counts, 23);
     say_kind(b"group, map unchecked: ", counts, 24);
@@ -398,20 +416,25 @@ fn say_peers(counts: &[u64; 69]) {
     say_kind(b"page, map unchecked: ", counts, 29);
 }
 
-fn say_addresses(counts: &[u64; 69]) {
+fn say_addresses(counts: &[u64; 73]) {
     say_kind(b"IPv4-mapped address: ", counts, 30);
     say_kind(b"unroutable: ", counts, 31);
     say_kind(b"relay skip: ", counts, 32);
 }
 
-fn say_lines(lines: u64, counts: &[u64; 69]) {
+fn say_loads(counts: &[u64; 73]) {
+    say_kind(b"draw: ", counts, 33);
+    say_kind(b"load: ", counts, 34);
+}
+
+fn say_lines(lines: u64, counts: &[u64; 73]) {
     say_number(lines);
     say(b" lines, ");
-    say_number(counts[66]);
+    say_number(counts[70]);
     say(b" of them headings, ");
-    say_number(counts[67]);
+    say_number(counts[71]);
     say(b" with a wrong count of words, ");
-    say_number(counts[68]);
+    say_number(counts[72]);
     say(b" not read\n");
 }
 
@@ -419,13 +442,14 @@ fn main() {
     let mut list = list_room();
     let mut bytes = word_room();
     let n = io::read_full(STDIN_FILENO, &mut list);
-    let mut counts = [0u64; 69];
+    let mut counts = [0u64; 73];
     let lines = replay_list(&list[..n], &mut bytes, &mut counts);
     say_codes(&counts);
     say_maps(&counts);
     say_widths(&counts);
     say_peers(&counts);
     say_addresses(&counts);
+    say_loads(&counts);
     say_lines(lines, &counts);
     if n == list.len() {
         say(b"the list is too long: what follows these bytes was not read\n");

@@ -7,7 +7,7 @@ use Rattle.replay_vectors.proofs.list_room.Statement.{statement}
 use Rattle.replay_vectors.proofs.list_room.Tie as tie
 
 returns : tie.Need-returns
-returns c = sym (length-replicate {A = ℕ} 1048576 0)
+returns c = sym (length-replicate {A = ℕ} 2097152 0)
 
 pub list-room-spec : {M : Type 1} → statement M
 list-room-spec = tie.close (tie.spec returns)
