@@ -1,4 +1,4 @@
-/* Bitcoin's address map (asmap), peer groups and address filters: the calls of libcorbastrigo.a.
+/* Bitcoin's address map (asmap), peer groups, address filters and loads: the calls of libcorbastrigo.a.
  *
  * Every call answers 0 when it is done, or the number of its refusal (below; corbastrigo_reason says it in words). The check of a map refuses
  * with 1 to 10 and 19, and "the check's" below are these. Of a call that takes two maps a number over 100 is the new map's refusal:
@@ -14,7 +14,7 @@
  * limit (1, 101), of addresses (11, 17), of one candidate (13), of candidates that are no multiple of 20 bytes (13), of too many candidates
  * or occupied groups (12), of records that are no multiple of 16 bytes (16) and of outputs that are too short (14). The number of
  * records has no limit of its own: they are read up to the first that is wrong. A width that is refused (18) is so before anything else is
- * looked at, lengths too.
+ * looked at, lengths too; a seed or a number of pairs (20) is so before the output's length.
  *
  * Threads. Any number of threads may be in any calls at once: the archive has no variables. Calls at once may read the same lists; what
  * one of them writes to is its own until it returns.
@@ -74,7 +74,8 @@ enum corbastrigo_refusal {
     CORBASTRIGO_RECORD = 16,             /* records not of 16 bytes, or a zero, place or length wrong */
     CORBASTRIGO_RELAY_LENGTH = 17,       /* an addrv2 address of a length that its network has not */
     CORBASTRIGO_WIDTH = 18,              /* a width that is neither 32 nor 128 */
-    CORBASTRIGO_CUT_OPERAND = 19         /* an operand cut by the map's end */
+    CORBASTRIGO_CUT_OPERAND = 19,        /* an operand cut by the map's end */
+    CORBASTRIGO_LOAD = 20                /* a seed of 0, or more than 128 pairs */
 };
 
 /* Added to the check's refusal where a call takes two maps and the new one is refused. */
@@ -106,6 +107,7 @@ CORBASTRIGO_INLINE const char *corbastrigo_reason(uint8_t answer) {
     case CORBASTRIGO_RELAY_LENGTH: return "the address has a length that its network does not have";
     case CORBASTRIGO_WIDTH: return "the width is neither 32 nor 128";
     case CORBASTRIGO_CUT_OPERAND: return "an operand is cut by the map's end";
+    case CORBASTRIGO_LOAD: return "the seed is 0, or there are more than 128 pairs";
     default: return "a reason that this version does not know";
     }
 }
@@ -121,6 +123,11 @@ CORBASTRIGO_INLINE const char *corbastrigo_reason(uint8_t answer) {
 #define CORBASTRIGO_PREFIX_RECORD_BYTES 24
 #define CORBASTRIGO_CHANGE_RECORD_BYTES 28
 #define CORBASTRIGO_PAGE_LINE_BYTES 25
+
+/* The seed that a load has where nobody names another, the most pairs of a load, and the bytes that are enough for every load. */
+#define CORBASTRIGO_DEFAULT_SEED 1
+#define CORBASTRIGO_MAX_PAIRS 128
+#define CORBASTRIGO_LOAD_BYTES 419
 
 /* More stack than a call takes, than a comparison of two maps takes, than a pick takes, and than a page takes. */
 #define CORBASTRIGO_STACK_BYTES 2048
@@ -326,6 +333,21 @@ uint8_t corbastrigo_clearnet_unroutable(const uint8_t *address, size_t address_l
 
 /* Whether an addrv2 entry must not be relayed, by its BIP155 network id, address and port. Writes 1 or 0. Refusal 17. */
 uint8_t corbastrigo_addrv2_skip_relay(uint8_t id, const uint8_t *address, size_t address_len, uint16_t port, uint8_t *skips);
+
+/* ---- Loads. A load is a map to measure with that everyone can make again from two numbers, a seed and a number of pairs. */
+
+/* The next draw after `s`, which is the seed or the draw before: `s` is xored with s * 2^13, then with s / 2^7 rounded down, then with
+ * s * 2^17, modulo 2^64 and each time from the s just made, and the draw is s. From the seed 1 the first is 1,082,269,761. No draw is 0, so
+ * that each has a next one. Refusal 20 for an `s` of 0. */
+uint8_t corbastrigo_next_draw(uint64_t s, uint64_t *draw);
+
+/* Writes the load of a seed: so many pairs of a DEFAULT and a MATCH of one bit, then a RETURN, and zeros to the end of the last byte. Each
+ * takes one draw, in the order written. Of a DEFAULT and of the RETURN the number is 1 + draw mod 65,536; of a MATCH the bit is draw mod 2. So
+ * a load has 2 * pairs + 1 instructions and is sane over 128 address bits, with at most 32 pairs over 32 bits too, and an address whose first
+ * bits are those of its MATCHes walks through all of them. It has at most (26 * pairs + 19) / 8 bytes, rounded up: `out` with
+ * CORBASTRIGO_LOAD_BYTES is always long enough. Writes the bytes written; those behind them remain. Refusals 20 for a seed of 0 or more than
+ * 128 pairs, then 14. */
+uint8_t corbastrigo_load(uint64_t seed, size_t pairs, uint8_t *out, size_t out_len, size_t *written);
 
 #ifdef __cplusplus
 }

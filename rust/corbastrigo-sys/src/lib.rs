@@ -34,6 +34,15 @@ pub const CUT_OPCODE: u8 = 4;
 /// The kind of a walk's end at an operand that the map's end cuts; the number of the refusal too.
 pub const CUT_OPERAND: u8 = 19;
 
+/// The seed that a load has where nobody names another.
+pub const DEFAULT_SEED: u64 = 1;
+
+/// The most pairs of a load.
+pub const MAX_PAIRS: usize = 128;
+
+/// Bytes that are enough for every load.
+pub const LOAD_BYTES: usize = 419;
+
 /// A code read at a bit of a map.
 pub type Decode = unsafe extern "C" fn(*const u8, usize, usize, *mut u32, *mut usize) -> u8;
 
@@ -295,4 +304,8 @@ extern "C" {
     pub fn corbastrigo_clearnet_unroutable(address: *const u8, address_len: usize, unroutable: *mut u8) -> u8;
     /// Whether an addrv2 entry must not be relayed.
     pub fn corbastrigo_addrv2_skip_relay(id: u8, address: *const u8, address_len: usize, port: u16, skips: *mut u8) -> u8;
+    /// The draw after a seed, or after the draw before.
+    pub fn corbastrigo_next_draw(s: u64, draw: *mut u64) -> u8;
+    /// Writes the load of a seed: a map of so many pairs of a DEFAULT and a MATCH of one bit, then a RETURN.
+    pub fn corbastrigo_load(seed: u64, pairs: usize, out: *mut u8, out_len: usize, written: *mut usize) -> u8;
 }

@@ -1,5 +1,8 @@
 //! What is written here twice: the header's calls, each with the types of its parameters in their order, and its numbers.
-use corbastrigo_sys::{CHANGE_RECORD_BYTES, CUT_OPCODE, CUT_OPERAND, DIFFERED, NEW_MAP, PAGE_LINE_BYTES, RETURNED, TOO_FEW_BITS};
+use corbastrigo_sys::{
+    CHANGE_RECORD_BYTES, CUT_OPCODE, CUT_OPERAND, DEFAULT_SEED, DIFFERED, LOAD_BYTES, MAX_PAIRS, NEW_MAP, PAGE_LINE_BYTES,
+    RETURNED, TOO_FEW_BITS,
+};
 use std::collections::BTreeMap;
 
 const HEADER: &str = include_str!("../../../include/corbastrigo.h");
@@ -49,6 +52,9 @@ fn a_constant_has_the_headers_number() {
     };
     assert_eq!(defined("CHANGE_RECORD_BYTES"), Some(CHANGE_RECORD_BYTES));
     assert_eq!(defined("PAGE_LINE_BYTES"), Some(PAGE_LINE_BYTES));
+    assert_eq!(defined("DEFAULT_SEED").map(|seed| seed as u64), Some(DEFAULT_SEED));
+    assert_eq!(defined("MAX_PAIRS"), Some(MAX_PAIRS));
+    assert_eq!(defined("LOAD_BYTES"), Some(LOAD_BYTES));
     for (name, number) in [
         ("NEW_MAP", NEW_MAP),
         ("RETURNED", RETURNED),

@@ -36,7 +36,7 @@ macro_rules! refusals {
                 }
             }
 
-            /// The number, which stays the same in every version: 1 to 19 of those that have a name.
+            /// The number, which stays the same in every version: 1 to 20 of those that have a name.
             pub fn number(self) -> u8 {
                 match self {
                     $(Refusal::$name => $number,)*
@@ -82,6 +82,7 @@ refusals! {
     RelayLength = 17: "the address has a length that its network does not have",
     Width = 18: "the width is neither 32 nor 128",
     CutOperand = 19: "an operand is cut by the map's end",
+    Load = 20: "the seed is 0, or there are more than 128 pairs",
 }
 
 impl Refusal {
