@@ -854,6 +854,131 @@ static void filters(void) {
     IS(answer, 1);
 }
 
+/* A draw by its definition, in plain arithmetic of 64 bits. */
+static uint64_t drawn(uint64_t s) {
+    s ^= s * 8192;
+    s ^= s / 128;
+    s ^= s * 131072;
+    return s;
+}
+
+/* The first draws from 1; then each of a thousand is that of the definition, none is 0, and so none is refused. */
+static void draws(void) {
+    static const uint64_t first[] = {UINT64_C(1082269761), UINT64_C(1152992998833853505), UINT64_C(11177516664432764457),
+                                     UINT64_C(17678023832001937445), UINT64_C(9659130143999365733)};
+    static const uint64_t seeds[] = {2, 127, 128, UINT64_C(1) << 32, UINT64_C(1) << 47, UINT64_C(1) << 51, UINT64_C(1) << 63, UINT64_MAX};
+    uint64_t draw = BEFORE(1), s = CORBASTRIGO_DEFAULT_SEED;
+    IS(corbastrigo_next_draw(0, &draw), CORBASTRIGO_LOAD);
+    IS(draw, BEFORE(1));
+    for (size_t i = 0; i < 1000; i++, s = draw) {
+        IS(corbastrigo_next_draw(s, &draw), 0);
+        IS(draw, i < 5 ? first[i] : drawn(s));
+        IS(draw == 0, 0);
+    }
+    for (size_t i = 0; i < sizeof seeds / sizeof *seeds; i++) {
+        IS(corbastrigo_next_draw(seeds[i], &draw), 0);
+        IS(draw, drawn(seeds[i]));
+    }
+}
+
+/* A load that is made here, bit by bit, and the address that walks through all of it. */
+static struct {
+    uint8_t bytes[CORBASTRIGO_LOAD_BYTES], address[16];
+    size_t bits;
+} made;
+
+/* So many bits of a number, the highest first. */
+static void add(unsigned bits, uint64_t number) {
+    for (; bits > 0; bits--, made.bits++)
+        made.bytes[made.bits / 8] |= (uint8_t)((number >> (bits - 1) & 1) << made.bits % 8);
+}
+
+/* The number 1 + below: up to 32,768 a 0 and 15 bits, above a 1, a 0 and 16 bits. */
+static void add_number(uint64_t below) {
+    if (below < 32768)
+        add(16, below);
+    else
+        add(18, UINT64_C(1) << 17 | (below - 32768));
+}
+
+/* Makes a load here and says how many bytes it has: DEFAULT is 111, MATCH 110 and, of one bit, a 0 in front of it, RETURN 0. */
+static size_t make_load(uint64_t seed, size_t pairs) {
+    uint64_t s = seed;
+    memset(&made, 0, sizeof made);
+    for (size_t i = 0; i < pairs; i++) {
+        s = drawn(s);
+        add(3, 7);
+        add_number(s % 65536);
+        s = drawn(s);
+        add(5, 24 + s % 2);
+        made.address[i / 8] |= (uint8_t)(s % 2 << (7 - i % 8));
+    }
+    s = drawn(s);
+    add(1, 0);
+    add_number(s % 65536);
+    return (made.bits + 7) / 8;
+}
+
+/* What a load refuses: the seed and the pairs before the output's length, and nothing is written. Among the pairs are numbers that would
+ * be fewer if they were cut. */
+static void refused_loads(void) {
+    static const size_t too_many[] = {129, 256, 256 + 2, 65536, UINT32_MAX, (size_t)UINT32_MAX + 1, SIZE_MAX / 2 + 1, SIZE_MAX};
+    uint8_t out[CORBASTRIGO_LOAD_BYTES];
+    size_t written = BEFORE(2);
+    memset(out, BEFORE(1), sizeof out);
+    for (size_t room = 0; room <= sizeof out; room += sizeof out) {
+        for (size_t pairs = 0; pairs <= CORBASTRIGO_MAX_PAIRS; pairs++)
+            IS(corbastrigo_load(0, pairs, out, room, &written), CORBASTRIGO_LOAD);
+        for (size_t i = 0; i < sizeof too_many / sizeof *too_many; i++) {
+            IS(corbastrigo_load(0, too_many[i], out, room, &written), CORBASTRIGO_LOAD);
+            IS(corbastrigo_load(CORBASTRIGO_DEFAULT_SEED, too_many[i], out, room, &written), CORBASTRIGO_LOAD);
+            IS(corbastrigo_load(UINT64_MAX, too_many[i], out, room, &written), CORBASTRIGO_LOAD);
+        }
+    }
+    for (size_t pairs = 0; pairs <= CORBASTRIGO_MAX_PAIRS; pairs++) {
+        IS(corbastrigo_load(1, pairs, out, 0, &written), CORBASTRIGO_OUTPUT_TOO_SHORT);
+        IS(corbastrigo_load(1, pairs, out, make_load(1, pairs) - 1, &written), CORBASTRIGO_OUTPUT_TOO_SHORT);
+    }
+    IS(untouched(out, sizeof out), sizeof out);
+    IS(written, BEFORE(2));
+}
+
+/* A load in an output of just its length, and in a longer one, whose rest remains; then it is checked, and walked through by its address. */
+static void load(uint64_t seed, size_t pairs) {
+    const size_t len = make_load(seed, pairs);
+    uint8_t out[CORBASTRIGO_LOAD_BYTES + 8], depth = BEFORE(1), kind = BEFORE(1), bits = BEFORE(1);
+    uint32_t count = BEFORE(2), number = BEFORE(2);
+    for (size_t room = len; room <= sizeof out; room += sizeof out - len) {
+        size_t written = BEFORE(3);
+        memset(out, BEFORE(1), sizeof out);
+        IS(corbastrigo_load(seed, pairs, out, room, &written), 0);
+        IS(written, len);
+        IS(memcmp(out, made.bytes, len), 0);
+        IS(untouched(out + len, sizeof out - len), sizeof out - len);
+    }
+    IS(corbastrigo_sanity_check(out, len, &count, &depth), 0);
+    IS(count, 2 * pairs + 1);
+    IS(depth, 0);
+    IS(corbastrigo_sanity_check_bits(out, len, CORBASTRIGO_IPV4_BITS, &count, &depth), pairs <= 32 ? 0 : CORBASTRIGO_NO_BITS);
+    IS(corbastrigo_interpret(out, len, made.address, 16, &kind, &number, &count, &bits), 0);
+    IS(kind, CORBASTRIGO_RETURNED);
+    IS(count, 2 * pairs + 1);
+    IS(bits, pairs);
+}
+
+/* Loads of every number of pairs, and of seeds whose parts are 0 if they are cut. */
+static void loads(void) {
+    static const uint8_t two_pairs[9] = {0x27, 0x10, 0x9c, 0x27, 0xa3, 0x9c, 0x42, 0x32, 0x05};
+    static const uint64_t seeds[] = {2, 128, UINT64_C(1) << 32, UINT64_C(1) << 63, UINT64_MAX};
+    IS(make_load(1, 2), 9);
+    IS(memcmp(made.bytes, two_pairs, 9), 0);
+    for (size_t pairs = 0; pairs <= CORBASTRIGO_MAX_PAIRS; pairs++)
+        load(CORBASTRIGO_DEFAULT_SEED, pairs);
+    for (size_t i = 0; i < sizeof seeds / sizeof *seeds; i++)
+        for (size_t pairs = 0; pairs <= CORBASTRIGO_MAX_PAIRS; pairs += 64)
+            load(seeds[i], pairs);
+}
+
 int main(void) {
     codes();
     check();
@@ -882,6 +1007,9 @@ int main(void) {
     full_page(corbastrigo_page_unchecked);
     aborted_page();
     filters();
+    draws();
+    refused_loads();
+    loads();
     printf("calls from C: %d answers, %d wrong\n", checks, failures);
     return failures != 0;
 }

@@ -150,6 +150,17 @@ static void short_at_32(void) {
     IS(corbastrigo_compare_bytes_bits(two_narrow, 8, lone_return, 3, 32, barred, 15, &size), CORBASTRIGO_OUTPUT_TOO_SHORT);
 }
 
+/* Barred memory for a load whose seed or number of pairs is refused, or whose output is too short: the load of 2 pairs from 1 has 9 bytes. */
+static void wrong_load(void) {
+    size = BEFORE(1);
+    IS(corbastrigo_load(0, 2, barred, 9, &size), CORBASTRIGO_LOAD);
+    IS(corbastrigo_load(1, CORBASTRIGO_MAX_PAIRS + 1, barred, CORBASTRIGO_LOAD_BYTES, &size), CORBASTRIGO_LOAD);
+    IS(corbastrigo_load(1, SIZE_MAX, barred, SIZE_MAX, &size), CORBASTRIGO_LOAD);
+    IS(corbastrigo_load(1, 2, barred, 8, &size), CORBASTRIGO_OUTPUT_TOO_SHORT);
+    IS(corbastrigo_load(1, 2, barred, 0, &size), CORBASTRIGO_OUTPUT_TOO_SHORT);
+    IS(size, BEFORE(1));
+}
+
 static void refused_lengths(void) {
     uint8_t list[256];
     long_map(CORBASTRIGO_MAX_MAP_BYTES + 1);
@@ -166,6 +177,7 @@ static void refused_lengths(void) {
     no_width(256 + 32);
     no_width(UINT32_MAX);
     short_at_32();
+    wrong_load();
     IS(corbastrigo_addrv2_skip_relay(7, barred, 513, 8333, &small), CORBASTRIGO_RELAY_LENGTH);
     IS(corbastrigo_unpack(two_prefixes, 35, barred, 255, &size), CORBASTRIGO_OUTPUT_TOO_SHORT);
     IS(corbastrigo_unpack(two_prefixes, 35, list, 256, &size), 0);
@@ -254,6 +266,15 @@ static void empty_pages(void) {
     IS(memcmp(lines, "         0      4  100.0\n", CORBASTRIGO_PAGE_LINE_BYTES), 0);
 }
 
+/* Every load has bytes. */
+static void empty_load(void) {
+    size = BEFORE(1);
+    IS(corbastrigo_load(1, 0, NULL, 0, &size), CORBASTRIGO_OUTPUT_TOO_SHORT);
+    IS(corbastrigo_load(0, 0, NULL, 0, &size), CORBASTRIGO_LOAD);
+    IS(corbastrigo_load(1, CORBASTRIGO_MAX_PAIRS + 1, NULL, 0, &size), CORBASTRIGO_LOAD);
+    IS(size, BEFORE(1));
+}
+
 static void empty_lists(void) {
     for (size_t i = 0; i < 4; i++)
         IS(decoders[i](NULL, 0, 0, &number, &size), i == 0 ? CORBASTRIGO_CUT_OPCODE : CORBASTRIGO_CUT_OPERAND);
@@ -289,6 +310,7 @@ static void empty_lists(void) {
     IS(corbastrigo_clearnet_unroutable(NULL, 0, &small), CORBASTRIGO_ADDRESS_LENGTH);
     IS(corbastrigo_addrv2_skip_relay(7, NULL, 0, 8333, &small), 0);
     IS(small, 0);
+    empty_load();
 }
 
 /* Both outputs are longer than any answer, and hold other numbers before each call. */
@@ -334,6 +356,18 @@ static void lines_at_the_end(printing *call) {
         IS(lines[i] == BEFORE(1), size <= i);
 }
 
+/* A load that ends where memory can be written no further, of each number of pairs; how long it is, a longer output tells. */
+static void loads_at_the_end(void) {
+    static uint8_t load[CORBASTRIGO_LOAD_BYTES];
+    for (size_t pairs = 0; pairs <= CORBASTRIGO_MAX_PAIRS; pairs++) {
+        IS(corbastrigo_load(1, pairs, load, sizeof load, &size), 0);
+        uint8_t *const last = (uint8_t *)end_of_lent - size;
+        IS(corbastrigo_load(1, pairs, last, size, &total), 0);
+        IS(total, size);
+        IS(memcmp(last, load, size), 0);
+    }
+}
+
 /* A scan of groups that end where memory can be read no further, the last of them the first hit. The length tells of more: the header does
  * not allow that, and here it is done on purpose, since the call says how many groups it read, and a group more would be barred. */
 static void scan_to(size_t place, size_t len) {
@@ -375,6 +409,7 @@ int main(void) {
     picks();
     lines_at_the_end(corbastrigo_page);
     lines_at_the_end(corbastrigo_page_unchecked);
+    loads_at_the_end();
     groups_behind_a_hit();
     printf("memory lent to calls: %d answers, %d wrong\n", checks, failures);
     return failures != 0;

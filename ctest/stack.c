@@ -15,7 +15,7 @@
 #define OF_LINES CORBASTRIGO_PAGE_STACK_BYTES
 
 static uint8_t peers[20 * CORBASTRIGO_MAX_CANDIDATES], records[256], bytes[35], prefixes[2496], changes[2884], small, other, answer;
-static uint8_t lines[CORBASTRIGO_PAGE_LINE_BYTES * CORBASTRIGO_MAX_CANDIDATES];
+static uint8_t lines[CORBASTRIGO_PAGE_LINE_BYTES * CORBASTRIGO_MAX_CANDIDATES], load_bytes[CORBASTRIGO_LOAD_BYTES];
 static uint64_t occupied[CORBASTRIGO_MAX_CANDIDATES], taken[CORBASTRIGO_MAX_CANDIDATES], wide;
 static uint16_t places[CORBASTRIGO_MAX_CANDIDATES];
 static uint32_t number, count;
@@ -68,7 +68,9 @@ static const uint8_t embedded[16] = {0, 0x64, 0xff, 0x9b, 0, 1, 0, 0, 0, 0, 0, 0
     call(page, OF_LINES, LINES)                                                                                                        \
     call(page_unchecked, OF_LINES, LINES)                                                                                              \
     call(clearnet_unroutable, OF_OTHERS, (embedded, 16, &small))                                                                       \
-    call(addrv2_skip_relay, OF_OTHERS, (2, embedded, 16, 8333, &small))
+    call(addrv2_skip_relay, OF_OTHERS, (2, embedded, 16, 8333, &small))                                                                \
+    call(next_draw, OF_OTHERS, (CORBASTRIGO_DEFAULT_SEED, &wide))                                                                      \
+    call(load, OF_OTHERS, (CORBASTRIGO_DEFAULT_SEED, CORBASTRIGO_MAX_PAIRS, load_bytes, sizeof load_bytes, &size))
 
 #define MAKE(name, bound, arguments)                                                                                                   \
     static void name(void) { answer = corbastrigo_##name arguments; }
