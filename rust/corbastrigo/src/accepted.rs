@@ -1,5 +1,5 @@
 use crate::open::{self, OpenError};
-use crate::{interpret, interpret_bits, ip16_for_lookup, sanity_check, sanity_check_bits, End, Refusal, Walk};
+use crate::{interpret, interpret_bits, ip16_for_lookup, load, sanity_check, sanity_check_bits, End, Refusal, Walk};
 use std::io;
 use std::net::{IpAddr, Ipv4Addr};
 use std::path::Path;
@@ -118,6 +118,21 @@ impl AsMap {
     /// ```
     pub fn from_path(path: &Path) -> io::Result<Option<AsMap>> {
         Ok(Accepted::from_path(path)?.map(AsMap))
+    }
+
+    /// The load of a seed and a number of pairs, as [`load`](crate::load()) makes it: a map to measure groups and picks with that everyone can
+    /// make again. The check accepts every load. Refusal 20 for the seed 0, or more than 128 pairs.
+    ///
+    /// ```
+    /// use corbastrigo::{load_address, AsMap, Generator, Refusal};
+    ///
+    /// let map = AsMap::load(Generator::DEFAULT_SEED, 128)?;
+    /// assert_eq!(map.walk(&load_address(1, 128)?).count, 257);
+    /// assert_eq!(AsMap::load(0, 128), Err(Refusal::Load));
+    /// # Ok::<(), Refusal>(())
+    /// ```
+    pub fn load(seed: u64, pairs: usize) -> Result<AsMap, Refusal> {
+        AsMap::checked(load(seed, pairs)?)
     }
 
     /// How many bytes the map has. An accepted map is never empty.

@@ -1,11 +1,12 @@
-//! Bitcoin's address map (asmap), peer groups and address filters: a safe crate over the calls of libcorbastrigo.a, each of which is
+//! Bitcoin's address map (asmap), peer groups, address filters and loads: a safe crate over the calls of libcorbastrigo.a, each of which is
 //! proved to meet its contract for every input.
 //!
 //! The names that a node calls are those of rbitcoin: [`AsMap`], [`netgroup()`], [`select_diverse`], [`prefix_group`],
 //! [`clearnet_unroutable`], [`addrv2_skip_relay`]. Beside them stands what is new: [`sanity_check`] with its reason, count and depth,
 //! [`sanity_check_stop`] with the bit at which it stops, [`interpret`] with its kind of end and counts, [`list`] with every prefix that a
 //! map tells apart, [`compare`] with every prefix that two maps send elsewhere, [`unpack`], [`pack`], the [`codes`], [`scan_occupied`]
-//! with the place of a group among the occupied ones, and [`page()`] with the share of each group in a list of candidates.
+//! with the place of a group among the occupied ones, [`page()`] with the share of each group in a list of candidates, and [`load`] with a
+//! map to measure with that everyone can make again from a seed.
 //!
 //! A node of IPv4 alone may keep a map of four-byte addresses, without the 96 bits that stand in front of them elsewhere: that is an
 //! [`AsMap4`]. Check, walk, unpack, list and compare have a form for the bytes of one whose name ends in `_bits` and which takes the width,
@@ -38,6 +39,7 @@
 mod accepted;
 mod changes;
 pub mod codes;
+mod loads;
 mod map;
 mod netaddr;
 mod netgroup;
@@ -50,6 +52,7 @@ mod refusal;
 pub use accepted::{AsMap, AsMap4};
 pub use changes::{changes, compare, compare_bits, compare_bytes, compare_bytes_bits, compare_into, compare_into_bits};
 pub use changes::{first_change, first_change_bits, Change, CompareError, CHANGE_BYTES};
+pub use loads::{load, load_address, load_into, Generator, LOAD_BYTES};
 pub use map::{
     interpret, interpret_bits, ip16_for_lookup, sanity_check, sanity_check_bits, sanity_check_stop, sanity_check_stop_bits,
 };
@@ -67,6 +70,9 @@ pub const MAX_MAP_BYTES: usize = 16_777_216;
 
 /// The most candidates of a pick or a page, and the most occupied groups; one more is refused, 12.
 pub const MAX_CANDIDATES: usize = 4_096;
+
+/// The most pairs of a load; one more is refused, 20.
+pub const MAX_PAIRS: usize = corbastrigo_sys::MAX_PAIRS;
 
 /// The page's code, as a test.
 #[cfg(all(doctest, feature = "digest"))]
