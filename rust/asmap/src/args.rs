@@ -3,6 +3,7 @@ use crate::failure::Failure;
 use crate::width::Width;
 use clap::{Args, Parser, Subcommand};
 use clap_complete::Shell;
+use corbastrigo::Generator;
 use std::path::PathBuf;
 
 const AFTER: &str = "\
@@ -94,6 +95,15 @@ pub enum Command {
     /// is 1; with --unchecked it is written, and the exit status is 0.
     #[command(after_help = "Example:\n  asmap unpack node.asmap | asmap pack -o copy.asmap -")]
     Pack(Pack),
+    /// Make a load: a map to measure with that everyone can make again from a seed
+    ///
+    /// A load is so many pairs of a DEFAULT and a MATCH of one bit, then a RETURN. Their numbers and bits are drawn from the seed, so that the
+    /// same seed and number of pairs give the same bytes everywhere. The check accepts every load. Standard error says how many bytes and
+    /// instructions it has, and the address that walks through all of them.
+    ///
+    /// The seed 0, and more than 128 pairs, are refused, 20.
+    #[command(after_help = "Examples:\n  asmap load --pairs 128 -o load.asmap\n  asmap load --seed 7 --pairs 2 -o seven.asmap")]
+    Load(Load),
     /// Say in which group addresses are
     ///
     /// With a map the group is the AS number that the address is sent to; without one it is the first two bytes of an IPv4 address, or the
@@ -260,6 +270,19 @@ pub struct Pack {
     pub unchecked: bool,
     #[command(flatten)]
     pub bits: Bits,
+}
+
+#[derive(Args, Debug)]
+pub struct Load {
+    /// The seed, in decimal: any number of 64 bits but 0
+    #[arg(long, value_name = "SEED", default_value_t = Generator::DEFAULT_SEED)]
+    pub seed: u64,
+    /// How many pairs the load has: at most 128
+    #[arg(long, value_name = "N")]
+    pub pairs: usize,
+    /// Write the map to this file instead of standard output
+    #[arg(short, long, value_name = "FILE")]
+    pub output: Option<PathBuf>,
 }
 
 #[derive(Args, Debug)]

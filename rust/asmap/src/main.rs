@@ -16,6 +16,7 @@ mod joined;
 mod list;
 mod listing;
 mod lists;
+mod load;
 mod man;
 mod network;
 mod out;
@@ -52,6 +53,7 @@ fn run(command: Command, out: &mut Out) -> Outcome {
         Command::UndoCheck(asked) => undo_check::run(&asked, out),
         Command::Unpack(asked) => unpack::run(&asked, out),
         Command::Pack(asked) => pack::run(&asked, out),
+        Command::Load(asked) => load::run(&asked, out),
         Command::Group(asked) => group::run(&asked, out),
         Command::Pick(asked) => pick::run(&asked, out),
         Command::Scan(asked) => scan::run(&asked, out),

@@ -6,7 +6,7 @@ use crate::failure::{say, Failure, Outcome, Status};
 use crate::files;
 use crate::listing;
 use crate::out::Out;
-use crate::whole::Sink;
+use crate::whole::{room_for_a_map, Sink};
 use crate::width::Width;
 use crate::words::{counted, grouped};
 use corbastrigo::{codes, instructions, pack, sanity_check_bits, Check, Instruction, Refusal, MAX_MAP_BYTES, RECORD_BYTES};
@@ -21,9 +21,7 @@ const MAX_RECORDS_BYTES: usize = MAX_BITS as usize / 5 * RECORD_BYTES;
 
 pub fn run(asked: &Pack, out: &mut Out) -> Outcome {
     let width = asked.bits.width()?;
-    if out.is_json() && asked.output.is_none() {
-        return Err(Failure::new("with --json standard output says what became of the map; name a file for the map with -o"));
-    }
+    room_for_a_map(asked.output.as_deref(), out)?;
     let map = if asked.records { from_records(&asked.list)? } else { from_text(&asked.list)? };
     let verdict = sanity_check_bits(&map, width.bits());
     let written = verdict.is_ok() || asked.unchecked;

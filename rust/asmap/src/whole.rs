@@ -109,6 +109,14 @@ impl Drop for Whole {
     }
 }
 
+/// With `--json` standard output says what became of a map, so that the map itself needs a file.
+pub fn room_for_a_map(output: Option<&Path>, out: &Out) -> Result<(), Failure> {
+    if out.is_json() && output.is_none() {
+        return Err(Failure::new("with --json standard output says what became of the map; name a file for the map with -o"));
+    }
+    Ok(())
+}
+
 /// Where a list or a map goes: to a file that was named, or to standard output.
 pub enum Sink<'a> {
     File(Whole),

@@ -31,7 +31,7 @@ fn misuse_ends_with_2_and_says_what_to_do() {
 const WITH_WIDTH: [&str; 8] = ["check", "walk", "trace", "list", "diff", "undo-check", "unpack", "pack"];
 
 /// Those that take none.
-const WITHOUT_WIDTH: [&str; 6] = ["group", "pick", "scan", "page", "filter", "completions"];
+const WITHOUT_WIDTH: [&str; 7] = ["load", "group", "pick", "scan", "page", "filter", "completions"];
 
 /// Every word of a help that names a subcommand's argument or option.
 fn options(help: &str) -> impl Iterator<Item = &str> {
