@@ -97,7 +97,7 @@ fn fields(object: &Value) -> Vec<&String> {
 }
 
 /// The sections of the page that name the fields, and a command line that prints them.
-const OBJECTS: [(&[&str], &[&str]); 14] = [
+const OBJECTS: [(&[&str], &[&str]); 15] = [
     (&["check"], &["check", "two.asmap", "cut.asmap"]),
     (&["walk"], &["walk", "two.asmap", "1.2.3.4"]),
     (&["walk", "trace"], &["trace", "two.asmap", "1.2.3.4"]),
@@ -107,6 +107,7 @@ const OBJECTS: [(&[&str], &[&str]); 14] = [
     (&["diff", "undo-check"], &["undo-check", "two.asmap", "loopback.asmap"]),
     (&["unpack"], &["unpack", "two.asmap"]),
     (&["pack"], &["pack", "-o", "new.asmap", "list.txt"]),
+    (&["load"], &["load", "--pairs", "2", "-o", "load.asmap"]),
     (&["group"], &["group", "1.2.3.4"]),
     (&["pick"], &["pick", "--max", "4", "candidates.txt"]),
     (&["scan"], &["scan", "--occupied", "occupied.txt", "772"]),
@@ -134,6 +135,17 @@ fn the_page_names_every_field() {
         objects.for_each(|object: Value| {
             fields(&object).iter().for_each(|field| assert!(sections.contains(&format!("`{field}`")), "{field} is missing"));
         });
+    }
+}
+
+#[test]
+fn the_page_to_learn_from_names_every_refusal() {
+    let page = page("LEARN.md");
+    for refusal in Refusal::NAMED {
+        let (number, words) = (refusal.number(), refusal.reason());
+        let (of_check, of_others) =
+            (format!("    {number}.asmap: refused {number}: {words}\n"), format!("\n| {number} | {words} | "));
+        assert!(page.contains(&of_check) || page.contains(&of_others), "{refusal:?}");
     }
 }
 
