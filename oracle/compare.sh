@@ -1,8 +1,8 @@
 #!/bin/sh
 # Compiles the original, unchanged, asks it for the answers to all cases of src/bin/replay_vectors, and compares them with those that are
 # stored: the list that the Rattle program of that name reads (crates/replay_vectors/stdin), what it must print (stdout), and the tables
-# of docs/tables. With --write they are written anew. Before that the answers to two maps compared are held to another way of making them
-# (tests/changes.rs), since the original has no such call.
+# of docs/tables. With --write they are written anew. Before that the answers to two maps compared, draws and loads are held to other ways of
+# making them (tests/changes.rs, tests/loads.rs), since the original has no such calls.
 # Skipped where the original or cargo is missing: the answers are stored.
 cd "$(dirname "$0")" || exit 2
 ./needs.sh oracle original cargo || exit
@@ -33,12 +33,18 @@ compare() {
     fi
 }
 
-if cargo test --quiet --offline --test changes > "$made" 2>&1; then
-    echo "oracle: $(sed -n 's/^test result: ok\. \([0-9]*\) passed.*/\1/p' "$made") tests of compared maps pass"
-else
-    cat "$made"
-    failed=1
-fi
+# held TESTS WHAT: a file of tests, by name, and what it is about.
+held() {
+    if cargo test --quiet --offline --test "$1" > "$made" 2>&1; then
+        echo "oracle: $(sed -n 's/^test result: ok\. \([0-9]*\) passed.*/\1/p' "$made") tests of $2 pass"
+    else
+        cat "$made"
+        failed=1
+    fi
+}
+
+held changes "compared maps"
+held loads "draws and loads"
 compare crates/replay_vectors/stdin --list
 compare crates/replay_vectors/stdout
 for table in $("$program" --tables); do

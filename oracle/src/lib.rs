@@ -22,6 +22,7 @@ pub mod cuts;
 pub mod document;
 pub mod filters;
 pub mod listing;
+pub mod loads;
 pub mod page;
 pub mod picks;
 pub mod records;
