@@ -7,6 +7,7 @@ use oracle::codes::{in_range, instruction, Row, ROWS};
 use oracle::document::{self, End, Refusal, Verdict, Walk, CUT_OPCODE};
 use oracle::filters::message;
 use oracle::listing::{self, Prefix, RECORD};
+use oracle::loads;
 use oracle::page;
 use oracle::picks::{self, By, Groups, Pick};
 use oracle::scan::{self, Scan};
@@ -16,7 +17,7 @@ use std::net::{IpAddr, Ipv4Addr, Ipv6Addr};
 use std::panic;
 
 /// The calls in the order in which the program counts them: letter and name.
-pub const CALLS: [(char, &str); 33] = [
+pub const CALLS: [(char, &str); 35] = [
     ('d', "code read"),
     ('e', "code written"),
     ('i', "instruction read"),
@@ -50,6 +51,8 @@ pub const CALLS: [(char, &str); 33] = [
     ('m', "IPv4-mapped address"),
     ('f', "unroutable"),
     ('r', "relay skip"),
+    ('X', "draw"),
+    ('x', "load"),
 ];
 
 /// The item of the reader that is no code.
@@ -376,6 +379,23 @@ impl List {
         self.add('r', &[&[id], &word::number(port.into()), address, &answered(&answer.map(|yes| vec![u8::from(yes)]))]);
         answer
     }
+
+    // ---- loads
+
+    /// The draw after a number, which is the seed or the draw before.
+    pub fn draw(&mut self, s: u64) -> Result<u64, Refusal> {
+        let draw = loads::next_draw(s);
+        self.add('X', &[&word::number(s), &answered(&draw.map(|draw| draw.to_le_bytes().to_vec()))]);
+        draw
+    }
+
+    /// A load into an output with so much room. Hands back how many bytes it wrote.
+    pub fn load(&mut self, seed: u64, pairs: u64, room: usize) -> Result<usize, Refusal> {
+        let made = loaded(seed, pairs);
+        let Written { answer, left, bytes } = written_to(made, room);
+        self.add('x', &[&word::number(seed), &word::number(pairs), &answer, &left]);
+        bytes
+    }
 }
 
 fn decoded(got: Option<(u32, usize)>, cut: Refusal) -> Answer {
@@ -444,6 +464,13 @@ fn compared(maps: [&[u8]; 2], width: Width) -> Result<Vec<Change>, Refusal> {
     let changes = changes::compare_bits(maps[0], maps[1], width)?;
     changes::hold(maps, &changes, &mut Random(maps.map(<[u8]>::len).iter().sum::<usize>() as u64));
     Ok(changes)
+}
+
+/// A load is held to the original, as the map that it is.
+fn loaded(seed: u64, pairs: u64) -> Answer {
+    let load = loads::load(seed, pairs)?;
+    loads::hold(&load, &mut Random(pairs));
+    Ok(load.bytes())
 }
 
 fn has_map(by: By) -> u8 {

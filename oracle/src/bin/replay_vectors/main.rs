@@ -16,7 +16,7 @@
 //! An output is as long as its word. Before the call each byte of it is ee, each place 999, and each group 888: what a call does not
 //! write has to be so at exit too.
 //!
-//! The program has room for a list of 1,048,575 bytes, for 262,144 bytes in the words of a line, for outputs of 8,192 bytes or of 4,096
+//! The program has room for a list of 2,097,151 bytes, for 262,144 bytes in the words of a line, for outputs of 8,192 bytes or of 4,096
 //! places and groups, and for 4,100 occupied groups.
 //!
 //!     d ROW MAP BIT ANSWER               code read: value (4), the bit after it (8). Rows: 0 opcode, 1 AS number, 2 MATCH, 3 JUMP
@@ -56,6 +56,8 @@
 //!     m IPV4 ADDRESS                     IPv4-mapped address
 //!     f ADDRESS ANSWER                   unroutable (1)
 //!     r NETWORK PORT ADDRESS ANSWER      relay skip (1)
+//!     X NUMBER ANSWER                    the draw after a number, which is the seed or the draw before (8)
+//!     x SEED PAIRS ANSWER LOAD           load of so many pairs: bytes written (4)
 //!
 //! # A new call
 //!
@@ -68,6 +70,7 @@ mod crowded;
 mod cuts;
 mod list;
 mod listings;
+mod loads;
 mod pages;
 mod peers;
 mod programs;
@@ -100,6 +103,7 @@ fn main() {
     scans::cases(&mut list, &mut tables);
     pages::cases(&mut list, &mut tables);
     cuts::cases(&mut list, &mut tables);
+    loads::cases(&mut list, &mut tables);
     addresses::cases(&mut list, &mut tables);
     sample::cases(&mut list);
     let words: Vec<String> = std::env::args().skip(1).collect();

@@ -1,7 +1,7 @@
 //! The tables that teach something, as text: docs/tables/NAME.txt.
 
 /// Each with its first lines, which say what a row holds.
-const TABLES: [(&str, &str); 13] = [
+const TABLES: [(&str, &str); 14] = [
     (
         "codes",
         "The code of the first and the last value of each size of the four rows (document 01, Codes), and of values around each row.\n\
@@ -58,6 +58,15 @@ const TABLES: [(&str, &str); 13] = [
          3 at a target, 5 behind a DEFAULT.\n\
          Map: the check, as in check.txt; the walk by zeros, with how it ends, the number, the instructions read whole and the address bits\n\
          read. Then walks by 8000::, whose first bit takes a jump, and maps that lost their last bytes.",
+    ),
+    (
+        "loads",
+        "Loads, which everyone can make again from a seed (document 02, CR 6). A number s is xored with s × 2^13, then with s / 2^7 rounded\n\
+         down, then with s × 2^17, modulo 2^64 and each time as it is by then: that is the next draw, and the s of the one after it. Each\n\
+         instruction of a load has a draw: DEFAULT and RETURN the number 1 + draw mod 65,536, a MATCH of one bit the bit draw mod 2.\n\
+         Seed: its first draws, each with the number and the bit that it would give. Load: its instructions, and its bytes; a MATCH of 2 asks\n\
+         for a zero, of 3 for a one. Then loads as maps, with the check and walks as in width.txt: an address whose bits are those asked for\n\
+         reads every instruction, and one that differs at a pair has that pair's number. Pairs are counted from 1.",
     ),
     (
         "groups",
