@@ -252,3 +252,18 @@ pub fn addrv2_skip_relay(id: u8, address: &[u8], port: u16) -> (u8, u8) {
     let answer = unsafe { sys::corbastrigo_addrv2_skip_relay(id, address.as_ptr(), address.len(), port, &mut skips) };
     (answer, skips)
 }
+
+// ---- loads
+
+pub fn next_draw(s: u64) -> (u8, u64) {
+    let mut draw = BEFORE64;
+    let answer = unsafe { sys::corbastrigo_next_draw(s, &mut draw) };
+    (answer, draw)
+}
+
+/// What stands behind the lent bytes is handed back too: as much as the longest load has.
+pub fn load(seed: u64, pairs: usize, room: usize) -> Bytes {
+    let (mut out, mut written) = (vec![BEFORE; room + sys::LOAD_BYTES], BEFORE_SIZE);
+    let answer = unsafe { sys::corbastrigo_load(seed, pairs, out.as_mut_ptr(), room, &mut written) };
+    (answer, written, out)
+}

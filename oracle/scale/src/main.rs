@@ -11,6 +11,7 @@ mod cuts;
 mod filters;
 mod limits;
 mod listing;
+mod loads;
 mod pages;
 mod picks;
 mod programs;
@@ -63,7 +64,7 @@ fn main() {
     println!("scale: seed {seed}");
     let mut tally = Tally::default();
     type Part = fn(&mut Tally, &mut Random, Form);
-    let parts: [(&str, Part); 15] = [
+    let parts: [(&str, Part); 16] = [
         ("codes", codes::run),
         ("short strings", programs::short_strings),
         ("random bytes", programs::random_bytes),
@@ -79,6 +80,7 @@ fn main() {
         ("widths", widths::run),
         ("pages", pages::run),
         ("cuts", cuts::run),
+        ("loads", loads::run),
     ];
     for (number, (name, part)) in parts.into_iter().enumerate() {
         let (start, before) = (Instant::now(), tally.compared);

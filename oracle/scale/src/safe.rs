@@ -5,6 +5,7 @@ use crate::Form;
 use corbastrigo::{CompareError, End, Refusal};
 use maps::{shapes, Random};
 use oracle::document::{self, Verdict, CUT_OPCODE, CUT_OPERAND};
+use oracle::loads::NO_LOAD;
 use std::collections::HashSet;
 use std::net::{IpAddr, Ipv6Addr, SocketAddr};
 
@@ -57,10 +58,11 @@ fn from_file(tally: &mut Tally, map: &[u8]) {
 }
 
 /// The safe crate's name for a refusal.
-fn named(reason: document::Refusal) -> Refusal {
+pub fn named(reason: document::Refusal) -> Refusal {
     match reason {
         CUT_OPCODE => Refusal::CutOpcode,
         CUT_OPERAND => Refusal::CutOperand,
+        NO_LOAD => Refusal::Load,
         _ => Refusal::from_number(number(reason)).expect("0 is no refusal"),
     }
 }
