@@ -59,6 +59,13 @@ pub fn narrow() -> Vec<(String, Vec<u8>)> {
     maps.into_iter().map(|(name, map)| (format!("{name}, {} bytes", map.len()), map)).collect()
 }
 
+/// The loads of so many pairs from the seeds 1 to `seeds`, each with the address that reads it to its end.
+pub fn loads(pairs: usize, seeds: u64) -> Vec<(Vec<u8>, [u8; 16])> {
+    let load = |seed| (corbastrigo::load(seed, pairs), corbastrigo::load_address(seed, pairs));
+    let made = (corbastrigo::Generator::DEFAULT_SEED..=seeds).map(load);
+    made.map(|(map, address)| (map.expect("a load"), address.expect("its address"))).collect()
+}
+
 /// Two more for the listing, since real maps of 1.6 MB have about 850,000 prefixes: one of that size and one of about that many prefixes.
 pub fn listed() -> [(String, Vec<u8>); 2] {
     listed_by(SEED)

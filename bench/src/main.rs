@@ -2,7 +2,7 @@
 //! in docs/BENCHMARKS.md.
 //!
 //!     bench                     every part
-//!     bench PART...             some of: check walk width records list compare codes group pick scan page filters growth
+//!     bench PART...             some of: check walk width records list compare codes group pick scan page load filters growth
 //!     bench --count CALL BYTES  one call of ours alone, many times, for a tool that counts instructions: check, walk, unpack,
 //!                               pack, list or compare
 #[allow(dead_code)]
@@ -26,6 +26,7 @@ mod error {
 
 mod compare;
 mod inputs;
+mod load;
 mod measure;
 mod occupied;
 mod page;
@@ -38,8 +39,10 @@ fn main() {
     if let ["--count", call, bytes] = words[..] {
         return parts::count(call, bytes.parse().expect("a number of bytes"));
     }
-    let all =
-        ["check", "walk", "width", "records", "list", "compare", "codes", "group", "pick", "scan", "page", "filters", "growth"];
+    let all = [
+        "check", "walk", "width", "records", "list", "compare", "codes", "group", "pick", "scan", "page", "load", "filters",
+        "growth",
+    ];
     let chosen = if words.is_empty() { &all[..] } else { &words };
     for part in chosen {
         match *part {
@@ -54,6 +57,7 @@ fn main() {
             "pick" => parts::pick(),
             "scan" => occupied::scan(),
             "page" => page::part(),
+            "load" => load::part(),
             "filters" => parts::filters(),
             "growth" => parts::growth(),
             other => panic!("no part is named {other}"),

@@ -1,7 +1,7 @@
 //! The parts of the benchmark.
 use crate::asmap::{self, AsMap};
 use crate::measure::{alone, best, both, head, row};
-use crate::{compare, inputs, netaddr, netgroup, occupied, page};
+use crate::{compare, inputs, load, netaddr, netgroup, occupied, page};
 use corbastrigo_sys as sys;
 use maps::Random;
 use std::collections::HashSet;
@@ -46,6 +46,7 @@ pub fn check() {
         row(&format!("{name}, {count} instructions"), f64::from(count), &times);
         rates.push((name, map.len() as f64 / best(&times.ours) * 1e3, map.len() as f64 / best(&times.original) * 1e3));
     }
+    load::checks();
     println!("\n| input | ours, MB a second | original, MB a second |\n|---|---|---|");
     for (name, ours, original) in rates {
         println!("| {name} | {ours:.0} | {original:.0} |");
@@ -70,6 +71,7 @@ pub fn walk() {
             row(&format!("{name}; {kind}, {mean:.1} instructions a walk"), addresses.len() as f64, &times);
         }
     }
+    load::walks();
 }
 
 fn unpacked(map: &[u8], out: &mut [u8]) -> usize {
