@@ -28,6 +28,14 @@ pub fn next_draw(s: u64) -> Result<u64, Refusal> {
     Ok(s ^ s.wrapping_mul(1 << 17))
 }
 
+/// The number whose draw this is: a shift takes every bit of a number to another place, so that what a step made of it is known bit by bit.
+pub fn seed_of(draw: u64) -> u64 {
+    let undone = |made: u64, shift: fn(u64) -> u64| (0..64).fold(made, |s, _| made ^ shift(s));
+    let s = undone(draw, |s| s.wrapping_mul(1 << 17));
+    let s = undone(s, |s| s / (1 << 7));
+    undone(s, |s| s.wrapping_mul(1 << 13))
+}
+
 /// So many draws in a row, the first after the seed.
 pub fn draws(seed: u64, count: usize) -> Result<Vec<u64>, Refusal> {
     let mut s = seed;

@@ -4,7 +4,7 @@ use maps::{BitWriter, Random, DEFAULT, MATCH, RETURN};
 use oracle::asmap::{pack_le, sanity_check, AsMap};
 use oracle::codes::word;
 use oracle::document::{check, End, Verdict};
-use oracle::loads::{draws, hold, load, next_draw, DEFAULT_SEED, MOST_BYTES, NO_LOAD};
+use oracle::loads::{draws, hold, load, next_draw, seed_of, DEFAULT_SEED, MOST_BYTES, NO_LOAD};
 use oracle::records;
 
 const LAST: u64 = u64::MAX;
@@ -100,6 +100,7 @@ fn a_draw_can_be_undone() {
     assert_eq!(undone(0), 0);
     for s in numbers() {
         assert_eq!(undone(next_draw(s).expect("a draw")), s);
+        assert_eq!(next_draw(seed_of(s)), Ok(s));
     }
 }
 
@@ -163,6 +164,18 @@ fn the_first_loads_by_hand() {
     assert_eq!(made(0).bytes(), [0x08, 0x04, 0x01]);
     assert_eq!(made(1).0, [(DEFAULT, 8258), (MATCH, 3), (RETURN, 9770)]);
     assert_eq!(made(1).bytes(), bits("111 0 010000001000001 110 0 1 0 0 010011000101001"));
+}
+
+/// From seeds whose first draw is known: the least and the greatest number, and those on both sides of the next size.
+#[test]
+fn numbers_at_the_edges_of_their_sizes() {
+    for (low, number, bits) in [(0, 1, 17), (32_767, 32_768, 17), (32_768, 32_769, 19), (65_535, 65_536, 19)] {
+        for high in [1, 0x0123_4567_89ab, (1 << 48) - 1] {
+            let made = load(seed_of(high << 16 | low), 0).expect("a load");
+            assert_eq!(made.0, [(RETURN, number)]);
+            assert_eq!(written(seed_of(high << 16 | low), 0), (made.bytes(), bits));
+        }
+    }
 }
 
 /// What pack makes of their records, and what unpack makes of them.

@@ -86,6 +86,18 @@ fn loads(list: &mut List) {
     }
 }
 
+/// From seeds whose first draw is known: the number at each end of the two sizes that it can have, in a RETURN and in a DEFAULT.
+fn edges(list: &mut List) {
+    list.heading("loads whose first number is at an edge of its code's sizes: 1, 32768, 32769 and 65536");
+    for low in [0, 32_767, 32_768, 65_535] {
+        for (high, pairs) in [(1, 0), (0x0123_4567_89ab, 0), (2, 1)] {
+            let seed = loads::seed_of(high << 16 | low);
+            let bytes = load(seed, pairs).bytes().len();
+            assert_eq!(list.load(seed, pairs, bytes), Ok(bytes));
+        }
+    }
+}
+
 /// With room for every load, and with none: 20 comes before 14.
 fn refused(list: &mut List) {
     list.heading("loads of too many pairs, and from seed 0, into outputs with room for every load, for a byte, and for none");
@@ -158,6 +170,7 @@ fn as_maps(list: &mut List, tables: &mut Tables) {
 pub fn cases(list: &mut List, tables: &mut Tables) {
     draws(list, tables);
     loads(list);
+    edges(list);
     refused(list);
     spelled(tables);
     as_maps(list, tables);
