@@ -29,11 +29,11 @@ fn drawn(tally: &mut Tally, s: u64) {
 
 /// So many draws in a row, each after the one that was handed out before.
 fn in_a_row(tally: &mut Tally, seed: u64, count: usize) {
-    let (mut ours, mut safe) = (seed, Generator::seeded(seed).expect("a seed"));
+    let (mut ours, mut safe) = (seed, Generator::seeded(seed).ok());
     for draw in loads::draws(seed, count).expect("a seed") {
         let (answer, next) = calls::next_draw(ours);
-        (ours, safe) = (next, safe.next());
-        tally.same("draw in a row", &(seed, draw), (answer, next, safe.draw()), (0, draw, draw));
+        (ours, safe) = (next, safe.map(Generator::next));
+        tally.same("draw in a row", &(seed, draw), (answer, next, safe.map(Generator::draw)), (0, draw, Some(draw)));
     }
 }
 
@@ -55,11 +55,11 @@ fn draws(tally: &mut Tally, random: &mut Random, form: Form) {
 fn into(tally: &mut Tally, seed: u64, pairs: usize, made: &Result<Vec<u8>, Refusal>, room: usize) {
     let (answer, written, out) = left(made, room);
     let behind = [&out[..], &[BEFORE; sys::LOAD_BYTES]].concat();
-    tally.same("load", &(seed, pairs, room), calls::load(seed, pairs, room), (answer, written, behind));
-    let mut lent = vec![BEFORE; room];
-    let told = corbastrigo::load_into(seed, pairs, &mut lent);
+    tally.same("load", &(seed, pairs, room), calls::load(seed, pairs, room), (answer, written, behind.clone()));
+    let mut lent = vec![BEFORE; room + sys::LOAD_BYTES];
+    let told = corbastrigo::load_into(seed, pairs, &mut lent[..room]);
     let expected = if answer == 0 { Ok(written) } else { Err(named(answer.into())) };
-    tally.same("safe load into", &(seed, pairs, room), (told, lent), (expected, out));
+    tally.same("safe load into", &(seed, pairs, room), (told, lent), (expected, behind));
 }
 
 /// Outputs just long enough, a byte shorter, longer, none, and with room for every load.
@@ -104,6 +104,17 @@ fn as_map(tally: &mut Tally, random: &mut Random, load: &Load) {
     }
 }
 
+/// From seeds whose first draw is known: the first number at each end of the two sizes that it can have.
+fn edges(tally: &mut Tally, random: &mut Random) {
+    for low in [0, 32_766, 32_767, 32_768, 65_535] {
+        for pairs in [0, 1, 128] {
+            let seed = loads::seed_of(random.next() << 16 | 1 << 63 | low);
+            let load = made(tally, seed, pairs).expect("a seed, and not too many pairs");
+            as_map(tally, random, &load);
+        }
+    }
+}
+
 /// Every number of pairs from a seed, and two that are too many.
 fn every_load(tally: &mut Tally, random: &mut Random, seed: u64) {
     for pairs in 0..=MAX_PAIRS + 2 {
@@ -123,6 +134,7 @@ pub fn run(tally: &mut Tally, random: &mut Random, form: Form) {
         let seed = random.next() >> random.below(64);
         every_load(tally, random, seed);
     }
+    (0..form.choose(10, 200)).for_each(|_| edges(tally, random));
     // Numbers of pairs that are far too many, and those that would not be if they were cut.
     for _ in 0..form.choose(20_000, 300_000) {
         let (seed, pairs) = (random.next() >> random.below(64), random.next() >> random.below(64));
