@@ -28,7 +28,7 @@ pub fn next_draw(s: u64) -> Result<u64, Refusal> {
     Ok(s ^ s.wrapping_mul(1 << 17))
 }
 
-/// The number whose draw this is: a shift takes every bit of a number to another place, so that what a step made of it is known bit by bit.
+/// The number whose draw this is. A step is undone from what it made: xored with the shift of what is known so far, more bits are known.
 pub fn seed_of(draw: u64) -> u64 {
     let undone = |made: u64, shift: fn(u64) -> u64| (0..64).fold(made, |s, _| made ^ shift(s));
     let s = undone(draw, |s| s.wrapping_mul(1 << 17));

@@ -71,6 +71,8 @@ fn made(tally: &mut Tally, seed: u64, pairs: u64) -> Result<Load, Refusal> {
         into(tally, seed, count, &bytes, room);
     }
     let input = (seed, pairs);
+    let safe = corbastrigo::AsMap::load(seed, count).map(|map| map.as_bytes().to_vec());
+    tally.same("safe map of a load", &input, safe, bytes.clone().map_err(named));
     tally.same("safe load", &input, corbastrigo::load(seed, count), bytes.map_err(named));
     let own = load.as_ref().map(|load| load.address([0; 16])).map_err(|&reason| named(reason));
     tally.same("safe load's own address", &input, corbastrigo::load_address(seed, count), own);
