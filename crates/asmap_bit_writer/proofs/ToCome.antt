@@ -6,10 +6,10 @@ use mathlib.Core.List.{List, _++_}
 use Prim.Native.Nat.{ℕ, zero, suc, _+_, _-_, _*_, _/_, _≤_}
 use native.Mathlib.Omega.{arith}
 use lib.Dec.{lit<}
-use lib.ListN.{length, drop, replicate, length-append, length-replicate}
+use lib.ListN.{length, drop, replicate, length-append}
 use lib.Seq.{drop-at, sets}
 use Rattle.asmap_codes.specs.Bits.{mapBits, allZero}
-use Rattle.asmap_codes.proofs.BitLaws.{AllBits, length-left}
+use Rattle.asmap_codes.proofs.BitLaws.{AllBits}
 use Rattle.asmap_bit_writer.specs.Bytes.{bytesOf}
 use Rattle.asmap_bit_writer.specs.models.Stream.{Ready, stream, Moved}
 use Rattle.asmap_bit_writer.specs.declared.BitWriter.{BitWriter}

@@ -1,18 +1,18 @@
 -- Laws of a load's bits: its instructions are in range, how long they are, and a load of one pair more. Assumes nothing.
 use mathlib.Core.Path.{_≡_, _∙_, refl, sym, ap, subst}
-use mathlib.Core.Bool.{Bool, true, false, _&&_, _||_}
-use mathlib.Core.List.{List, [], _∷_, _++_}
-use Prim.Native.Nat.{ℕ, zero, suc, _+_, _-_, _*_, _/_, _%_, _^_, _≤_, _<_}
+use mathlib.Core.Bool.{Bool, true, false, _&&_}
+use mathlib.Core.List.{List, _++_}
+use Prim.Native.Nat.{ℕ, zero, suc, _+_, _-_, _*_, _%_, _≤_, _<_}
 use native.Mathlib.Decide.{ℕ-discrete}
 use native.Mathlib.Omega.{arith}
-use borrow.Author.Tests.{le-leb, lt-ltb, le-ltb, eq-eqb, ne-eqb, ltb-true, ltb-false}
+use borrow.Author.Tests.{le-leb, lt-ltb, le-ltb, eq-eqb, ne-eqb, ltb-false}
 use mathlib.Core.Logic.{_≢_}
 use lib.Dec.{ltb}
 use lib.ListN.{length, length-append}
 use Rattle.asmap_program.specs.Map.{RETURN, MATCH, DEFAULT}
 use Rattle.asmap_codes.specs.Bits.{high}
-use Rattle.asmap_codes.specs.Row.{typeRow, asnRow, matchRow, operandRow, inRange}
-use Rattle.asmap_codes.specs.Encode.{pickBits, encode, encodeOf, instructionBits}
+use Rattle.asmap_codes.specs.Row.{typeRow, asnRow, operandRow, inRange}
+use Rattle.asmap_codes.specs.Encode.{encode, encodeOf, instructionBits}
 use Rattle.asmap_codes.proofs.BitLaws.{AllBits}
 use Rattle.asmap_encode.specs.Write.{writeInstruction}
 use Rattle.asmap_encode.specs.models.Words.{lengthWritten}

@@ -1,13 +1,12 @@
 -- The shape of a load in a map: its instructions one after the other; that they are a tree, so that the check accepts them; and the walk of an
 -- address that begins with the MATCH bits. By induction on the pairs. Assumes nothing.
 use mathlib.Core.Path.{_≡_, _∙_, refl, sym, ap, ap₂, subst}
-use mathlib.Core.Bool.{false, cond}
+use mathlib.Core.Bool.{false}
 use mathlib.Core.List.{List, [], _∷_, _++_, append-assoc}
 use Prim.Native.Nat.{ℕ, zero, suc, _+_, _-_, _*_, _/_, _%_, _^_, _≤_, _<_}
 use native.Mathlib.Omega.{arith}
 use lib.ListN.{length, drop, length-append}
 use lib.Seq.{drop-at, drop-drop}
-use lib.Dec.{eqb}
 use borrow.Author.Tests.{le-leb, eq-eqb}
 use Rattle.asmap_program.specs.declared.Instruction.{Instruction}
 use Rattle.asmap_program.specs.declared.Previous.{Previous}
@@ -17,7 +16,7 @@ use Rattle.asmap_program.specs.declared.Walker.{Walker}
 use Rattle.asmap_program.specs.Map.{RETURN, MATCH, DEFAULT, endOf, Whole, Map, Laws, lengthIn, lengthOf}
 use Rattle.asmap_program.specs.Check.{isDefault}
 use Rattle.asmap_program.specs.Tree.{Tree, return, match, default}
-use Rattle.asmap_program.specs.Walk.{Walked, Compared, Equal, compared, enough, meeting, goOn, push, walkFrom}
+use Rattle.asmap_program.specs.Walk.{Walked, Equal, compared, enough, meeting, goOn, push, walkFrom}
 use Rattle.asmap_program.proofs.Demand.{walk-at}
 use Rattle.asmap_codes.specs.Bits.{mapBits}
 use Rattle.asmap_codes.specs.Encode.{instructionBits}
@@ -25,7 +24,7 @@ use Rattle.asmap_codes.specs.Instruction.{mapOf}
 use Rattle.asmap_records.proofs.Reading.{instruction, fetched}
 use Rattle.load_draws.specs.Draw.{next, draw}
 use Rattle.asmap_load.specs.Load.{numberBy, bitBy, matchBy, loadBits}
-use Rattle.asmap_load.proofs.LoadLaws.{Ranged, return-ranged, default-ranged, match-ranged}
+use Rattle.asmap_load.proofs.LoadLaws.{return-ranged, default-ranged, match-ranged}
 
 -- a one-bit MATCH uses one address bit
 one-bit : (b : ℕ) → b < 2 → lengthOf (2 + b) ≡ 1

@@ -7,7 +7,7 @@ use Prim.Native.Nat.{ℕ, zero, suc, _+_, _-_, _*_, _/_, _%_, _≤_}
 use native.Mathlib.Omega.{arith}
 use borrow.Author.Tests.{leb-true, eqb-true, not-false}
 use lib.Dec.{leb}
-use lib.ListN.{length, getD, take, drop, replicate, length-append, length-drop, length-replicate, take-append-drop}
+use lib.ListN.{length, getD, take, drop, replicate, length-append, length-drop, take-append-drop}
 use lib.Seq.{drop-at, drop-drop, take-add, length-take-le}
 use Rattle.byte_numbers.specs.Numbers.{bytes4, number4}
 use Rattle.byte_numbers.proofs.NumberLaws.{AllBytes, bytes-drop, small-bytes, number-of-bytes, four}

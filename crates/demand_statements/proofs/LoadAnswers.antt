@@ -1,17 +1,15 @@
 -- What a caller concludes of draws and loads, from what the calls promise.
 -- Assumes nothing.
-use Prim.Native.Nat.{ℕ, suc, _+_, _*_, _/_, _≤_, _<_}
-use mathlib.Core.Path.{_≡_, _∙_, refl, sym, ap, subst}
+use Prim.Native.Nat.{ℕ, _≤_, _<_}
+use mathlib.Core.Path.{_≡_, _∙_, refl, sym, ap}
 use mathlib.Core.Logic.{_⊎_, inl, inr, _≢_}
 use mathlib.Core.List.{List, [], _∷_}
 use native.Mathlib.Decide.{ℕ-discrete, decLe}
 use native.Mathlib.Omega.{arith}
 use lib.ListN.{length, take}
 use Rattle.asmap_check.specs.Check.{checkOf}
-use Rattle.asmap_walk_bits.specs.Walk.{walkOf, summary}
 use Rattle.asmap_records.specs.Output.{Result, Made, No, within, answerOf}
 use Rattle.load_draws.specs.Draw.{next, draw, drawnAfter}
-use Rattle.load_draws.specs.declared.Drawn.{Drawn}
 use Rattle.load_draws.specs.declared.Drawn.the-variants as drawn
 use Rattle.load_draws.proofs.DrawLaws.{drawn-zero, drawn-some}
 use Rattle.asmap_load.specs.Load.{loadOf}
@@ -23,7 +21,7 @@ use Rattle.answer_draws.specs.Draws.{numberDrawn}
 use Rattle.answer_maps.specs.Maps.{mapChecked}
 use Rattle.answer_bytes.specs.Bytes.{bytesWritten, Writes}
 use Rattle.answers.proofs.NeverZeroLoads.{load-numbers, number-drawn}
-use Rattle.demand_statements.specs.Loaded.{Draws, DrawsOn, Loads, WholeWalk, Loaded, LoadChecked}
+use Rattle.demand_statements.specs.Loaded.{Draws, DrawsOn, Loads, Loaded, LoadChecked}
 use Rattle.demand_statements.proofs.AnswerLaws.{kept, numbered, refused-as, done-as, handed-out}
 use Rattle.demand_statements.proofs.TripLaws.{wrote, has-room, no-room, left-alone}
 

@@ -2,7 +2,7 @@
 -- Assumes nothing.
 use Prim.Native.Nat.{ℕ}
 use mathlib.Core.Path.{_≡_, refl}
-use mathlib.Core.List.{List, [], _∷_, map}
+use mathlib.Core.List.{[], _∷_, map}
 use Rattle.load_draws.specs.Draw.{defaultSeed, up, down, next, draw}
 
 first-draws : map (λ (i : ℕ). draw i defaultSeed) (1 ∷ 2 ∷ 3 ∷ 4 ∷ [])

@@ -10,7 +10,6 @@ use lib.Seq.{sets}
 use Rattle.asmap_program.specs.Map.{RETURN, MATCH, DEFAULT}
 use Rattle.asmap_codes.specs.Encode.{instructionBits}
 use Rattle.asmap_bit_writer.specs.Bytes.{bytesOf}
-use Rattle.asmap_bit_writer.specs.declared.BitWriter.{BitWriter}
 use Rattle.asmap_bit_writer.proofs.ToCome.{ToCome, all-to-come, pushed, room}
 use Rattle.asmap_bit_writer.proofs.WriterLaws.{length-stream}
 use Rattle.load_draws.specs.Draw.{next}

@@ -6,6 +6,8 @@ use Prim.Native.Nat.{ℕ, _-_, _%_, _≤_}
 use native.Mathlib.Omega.{arith}
 use lib.ListN.{length, getD}
 use Rattle.asmap_pack.proofs.WriteLaws.{Writing, writing-start, Turn, writing-turn, writing-on, stream-over}
+use Rattle.asmap_codes.specs.Encode.{instructionBits}
+use Rattle.asmap_bit_writer.proofs.ToCome.{room}
 use Rattle.asmap_bit_writer.proofs.WriterLaws.{length-stream}
 use Rattle.asmap_pack.proofs.write_records.Statement.{statement}
 use Rattle.asmap_pack.proofs.write_records.Tie as tie
@@ -49,7 +51,7 @@ turn c =
 push-instruction-requires : tie.Need-push-instruction-requires Inv-loop μ-loop
 push-instruction-requires c κs =
     let t = turn (c .before) in
-    (c .before .before .before .before .loop .inv .2 .ready, t .ranged, omega (arith, t .fits))
+    (t .come .ready, t .ranged, room (instructionBits (op (c .before)) (c .before .number-at .result)) (t .more) (t .come))
 
 add-from : tie.Need-add-from Inv-loop μ-loop
 add-from c = omega arith
@@ -60,16 +62,15 @@ loop-less c = omega arith
 loop-again : tie.Need-loop-again Inv-loop μ-loop
 loop-again c =
     let k = c .before .before .before .before in
-    let w = c .before .before .before .before .before .before .before .loop .inv .2 in
-    (omega arith, omega arith, writing-on _ _ _ _ _ (op k) (k .number-at .result) (turn k) _ _ (c .before .before .push-instruction .ensures) (w .kept))
+    (omega arith, omega arith, writing-on _ _ _ _ _ (op k) (k .number-at .result) (turn k) _ _ (c .before .before .push-instruction .ensures))
 
 finish-requires : tie.Need-finish-requires Inv-loop μ-loop
-finish-requires c κs = let w = c .before .before .loop .inv .2 in (w .ready, omega (arith, w .fits))
+finish-requires c κs = let w = c .before .before .loop .inv .2 .come in (w .ready, omega (arith, w .fits))
 
 same-length : tie.Need-same-length Inv-loop μ-loop
 same-length c =
     let l = c .before .before .before .before .before .loop in
-    ap length (c .before .before .finish .ensures) ∙ length-stream (l .out) (l .writer) [] ∙ l .inv .2 .kept
+    ap length (c .before .before .finish .ensures) ∙ length-stream (l .out) (l .writer) [] ∙ l .inv .2 .come .kept
 
 returns : tie.Need-returns Inv-loop μ-loop
 returns c =
