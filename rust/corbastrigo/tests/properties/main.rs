@@ -7,6 +7,7 @@ mod calls;
 mod changes;
 mod check;
 mod codes;
+mod loads;
 mod maps;
 mod order;
 mod packed;
