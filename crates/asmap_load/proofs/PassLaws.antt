@@ -15,7 +15,9 @@ use Rattle.asmap_program.specs.declared.Instruction.{Instruction}
 use Rattle.asmap_program.specs.Map.{addressBit}
 use Rattle.asmap_program.specs.Tree.{Program}
 use Rattle.asmap_program.specs.Walk.{walk}
-use Rattle.asmap_program.proofs.TreeAccepted.{tree-accepted}
+use Rattle.asmap_program.proofs.TreeAccepted.{tree-accepted, tree-unpacked}
+use Rattle.asmap_program.proofs.Tree.{accepts}
+use Rattle.asmap_program.specs.Check.{start, check, unpacked}
 use Rattle.asmap_codes.specs.Instruction.{paddedFrom, mapOf}
 use Rattle.asmap_codes.proofs.MapLaws.{laws}
 use Rattle.asmap_check.specs.Check.{checkOf}
@@ -30,7 +32,7 @@ use Rattle.asmap_records.proofs.RecordLaws.{sets-front}
 use Rattle.asmap_load.specs.Load.{loadBits, loadOf, lastNumber}
 use Rattle.asmap_load.specs.Promise.{Begins, Passes, WritesLoad}
 use Rattle.asmap_load.proofs.LoadLaws.{load-bits, load-short, load-made}
-use Rattle.asmap_load.proofs.ShapeLaws.{Laid, laid, laid-count, laid-tree, laid-walk}
+use Rattle.asmap_load.proofs.ShapeLaws.{Laid, laid, laid-count, laid-tree, NoJump, laid-no-jump, flat, laid-walk}
 use Rattle.asmap_load.proofs.AddressLaws.{whole-length, whole-bytes, whole-begins}
 
 module _ (s n : ℕ) where
@@ -56,12 +58,20 @@ module _ (s n : ℕ) where
   small : n ≤ 128 → length m ≤ 16777216
   small h = omega (arith, length-bytesOf (loadBits n s), load-short n s)
 
-  accepted : n ≤ 128 → (w : ℕ) → n ≤ w → (d : ℕ) × (checkOf m w ≡ Accepted (2 * n + 1) d)
+  -- an accepted load is as deep as the check's start: it has no JUMP
+  depth : {c d : ℕ} (w : ℕ) → n ≤ w → check (mapOf m) w ≡ Accepted c d → d ≡ 0
+  unfolding check unpacked
+  depth w k h =
+      let t = shape in
+      let p : Program (mapOf m) w (t .0) = record { end = end; tree = laid-tree (mapOf m) (t .1) Other w refl k; tail = t .2 } in
+      flat (mapOf m) (accepts (mapOf m) (mapOf m .bits) (start w) h) (subst (NoJump (mapOf m)) (sym (tree-unpacked (mapOf m) (laws m) p)) (laid-no-jump (mapOf m) (t .1)))
+
+  accepted : n ≤ 128 → (w : ℕ) → n ≤ w → checkOf m w ≡ Accepted (2 * n + 1) 0
   accepted h w k =
       let t = shape in
       let p : Program (mapOf m) w (t .0) = record { end = end; tree = laid-tree (mapOf m) (t .1) Other w refl k; tail = t .2 } in
       let a = tree-accepted (mapOf m) (laws m) p in
-      (a .0, rw (le-ltb 16777216 (length m) (small h)) (a .1 ∙ ap (λ (c : ℕ). Accepted c (a .0)) (laid-count (mapOf m) (t .1))))
+      rw (le-ltb 16777216 (length m) (small h)) (a .1 ∙ ap₂ Accepted (laid-count (mapOf m) (t .1)) (depth w k (a .1)))
 
   whole-walk : (w : ℕ) → n ≤ w → (a : List ℕ) → Begins s n a
       → summary (walkOf m a w) ≡ record { kind = Returned; number = lastNumber s n; count = 2 * n + 1; bits = n }

@@ -2,7 +2,8 @@
 -- address that begins with the MATCH bits. By induction on the pairs. Assumes nothing.
 use mathlib.Core.Path.{_≡_, _∙_, refl, sym, ap, ap₂, subst}
 use mathlib.Core.Bool.{false}
-use mathlib.Core.List.{List, [], _∷_, _++_, append-assoc}
+use mathlib.Core.Logic.{_⊎_, inl, inr, _≢_}
+use mathlib.Core.List.{List, [], _∷_, _++_, append-assoc, List·Memᴰ, List·Memᴰ·head, List·Memᴰ·tail, List·Memᴰ·cases-cons, List·Memᴰ·not-nil}
 use Prim.Native.Nat.{ℕ, zero, suc, _+_, _-_, _*_, _/_, _%_, _^_, _≤_, _<_}
 use native.Mathlib.Omega.{arith}
 use lib.ListN.{length, drop, length-append}
@@ -13,10 +14,12 @@ use Rattle.asmap_program.specs.declared.Previous.{Previous}
 use Rattle.asmap_program.specs.declared.Previous.the-variants.{Short, Default}
 use Rattle.asmap_program.specs.declared.Kind.the-variants.{Returned}
 use Rattle.asmap_program.specs.declared.Walker.{Walker}
-use Rattle.asmap_program.specs.Map.{RETURN, MATCH, DEFAULT, endOf, Whole, Map, Laws, lengthIn, lengthOf}
-use Rattle.asmap_program.specs.Check.{isDefault}
+use Rattle.asmap_program.specs.Map.{RETURN, JUMP, MATCH, DEFAULT, endOf, Whole, Map, Laws, lengthIn, lengthOf}
+use Rattle.asmap_program.specs.Check.{isDefault, State}
 use Rattle.asmap_program.specs.Tree.{Tree, return, match, default}
 use Rattle.asmap_program.specs.Walk.{Walked, Equal, compared, enough, meeting, goOn, push, walkFrom}
+use Rattle.asmap_program.proofs.Tree.{closes, opened, matched, defaulted, Accepts, more}
+use Rattle.asmap_program.proofs.Tree as run
 use Rattle.asmap_program.proofs.Demand.{walk-at}
 use Rattle.asmap_codes.specs.Bits.{mapBits}
 use Rattle.asmap_codes.specs.Encode.{instructionBits}
@@ -58,6 +61,30 @@ module _ (m : Map) where
       let t : Tree m Short _ (left - 1) _ _ = laid-tree l Short (left - 1) refl (omega arith) in
       let fits : lengthOf (j .operand) ≤ left = omega (arith, one) in
       default f e d (match {b = Default} {end = end} {is = is} g k fits (rw one refl) (rw one t))
+
+  -- ---- no jump is open in it
+
+  abbrev pub NoJump : List Instruction → Type 0
+  NoJump is = (i : Instruction) → List·Memᴰ i is → i .opcode ≢ JUMP
+
+  no-jump-more : {i : Instruction} {is : List Instruction} → i .opcode ≢ JUMP → NoJump is → NoJump (i ∷ is)
+  no-jump-more {i} {is} h g j p = go (List·Memᴰ·cases-cons p)
+    where
+      go : (j ≡ i) ⊎ List·Memᴰ j is → j .opcode ≢ JUMP
+      go (inl e) = subst (λ (x : Instruction). x .opcode ≢ JUMP) (sym e) h
+      go (inr q) = g j q
+
+  pub laid-no-jump : {n s at end : ℕ} {is : List Instruction} → Laid n s at end is → NoJump is
+  laid-no-jump (last f e v) = no-jump-more (λ q. omega arith) λ j p. absurd (List·Memᴰ·not-nil p)
+  laid-no-jump (pair f e g k v l) = no-jump-more (λ q. omega arith) (no-jump-more (λ q. omega arith) (laid-no-jump l))
+
+  -- an accepted run without a JUMP is as deep at its end as where it began
+  pub flat : {s : State} {is : List Instruction} {c d : ℕ} → Accepts m s is c d → NoJump is → d ≡ s .deepest
+  flat (run.last v) h = v .deep
+  flat (more f (closes q e k z) a) h = flat a λ j p. h j (List·Memᴰ·tail p)
+  flat (more f (opened e k z) a) h = absurd (h _ (List·Memᴰ·head refl) e)
+  flat (more f (matched e k z) a) h = flat a λ j p. h j (List·Memᴰ·tail p)
+  flat (more f (defaulted e k) a) h = flat a λ j p. h j (List·Memᴰ·tail p)
 
 -- the instructions stand in a map whose bits from `at` on are the load's
 pub laid : (m : List ℕ) (n s at : ℕ) (pad : List ℕ) → drop at (mapBits m) ≡ loadBits n s ++ pad

@@ -30,9 +30,9 @@ unfoldable pub wholeAddress : ℕ → ℕ → List ℕ
 wholeAddress s n = octets 16 (λ (i : ℕ). cond (ltb i n) (matchBit s i) 0) 0
 
 -- The map m, a load of n pairs from the seed s. The check accepts it over every number w of address bits from n on, so at 128, and at 32 where n is
--- at most 32; it counts 2 × n + 1 instructions. Every address that begins with the MATCH bits walks them all, to the RETURN, and there is one.
+-- at most 32; it counts 2 × n + 1 instructions, and no jump is ever open. Every address that begins with the MATCH bits walks them all, to the RETURN, and there is one.
 pub record Passes (s n : ℕ) (m : List ℕ) : Type 0 where
-  pub accepted : (w : ℕ) → n ≤ w → (d : ℕ) × (checkOf m w ≡ Accepted (2 * n + 1) d)
+  pub accepted : (w : ℕ) → n ≤ w → checkOf m w ≡ Accepted (2 * n + 1) 0
   pub whole-walk : (w : ℕ) → n ≤ w → (a : List ℕ) → Begins s n a
       → summary (walkOf m a w) ≡ record { kind = Returned; number = lastNumber s n; count = 2 * n + 1; bits = n }
   pub sixteen : length (wholeAddress s n) ≡ 16

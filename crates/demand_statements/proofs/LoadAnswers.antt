@@ -109,12 +109,13 @@ few seed pairs {r} h z = go (decLe pairs 128)
 
 -- made, and then checked
 pub load-checked : (seed pairs : ℕ) (o m : List ℕ) {r c d : ℕ} {lent : List ℕ} → {o′ : List ℕ} {q w w′ : ℕ} → Loads seed pairs o o′ q w w′ → q ≡ 0
-    → Loaded seed pairs m → Hands (mapChecked (checkOf m 128)) r lent (c ∷ d ∷ []) → LoadChecked seed pairs o r c
+    → Loaded seed pairs m → Hands (mapChecked (checkOf m 128)) r lent (c ∷ d ∷ []) → LoadChecked seed pairs o r c d
 load-checked seed pairs o m l z t h =
     let a = t .accepted 128 (few seed pairs l z) in
-    let v = handed-out (checkOf m 128) (a .1) h in
-    record { answered = λ _ _ _. v .0; counted = λ _. cc }
+    let v = handed-out (checkOf m 128) a h in
+    let e = v .1 in
+    record { answered = λ _ _ _. v .0; counted = λ _. (cc, cc) }
 
 -- or not made
-pub not-loaded : (seed pairs : ℕ) (o : List ℕ) {o′ : List ℕ} {r w w′ c : ℕ} → Loads seed pairs o o′ r w w′ → r ≢ 0 → LoadChecked seed pairs o r c
+pub not-loaded : (seed pairs : ℕ) (o : List ℕ) {o′ : List ℕ} {r w w′ c d : ℕ} → Loads seed pairs o o′ r w w′ → r ≢ 0 → LoadChecked seed pairs o r c d
 not-loaded seed pairs o l n = record { answered = λ s k h. l .answered s k (omega arith); counted = λ z. absurd (n z) }

@@ -60,11 +60,12 @@ pub record WholeWalk (seed pairs : ℕ) (walk : Walked) : Type 0 where
 -- every address that follows the MATCH bits walks them all; and there is such an address, of 16 bytes.
 pub record Loaded (seed pairs : ℕ) (m : List ℕ) : Type 0 where
   pub exact : loadOf seed pairs ≡ Made m
-  pub accepted : (w : ℕ) → pairs ≤ w → (d : ℕ) × (checkOf m w ≡ Accepted (2 * pairs + 1) d)
+  pub accepted : (w : ℕ) → pairs ≤ w → checkOf m w ≡ Accepted (2 * pairs + 1) 0
   pub walked : (w : ℕ) → pairs ≤ w → (a : List ℕ) → Follows seed pairs a → WholeWalk seed pairs (walkOf m a w)
   pub some-address : (a : List ℕ) × (length a ≡ 16) × ((i : ℕ) → getD a i 0 < 256) × Follows seed pairs a
 
--- A caller makes a load and checks it at 128: with room for 419 bytes only a wrong seed or number of pairs is refused, and the check counts.
-pub record LoadChecked (seed pairs : ℕ) (o : List ℕ) (r count : ℕ) : Type 0 where
+-- A caller makes a load and checks it at 128: with room for 419 bytes only a wrong seed or number of pairs is refused, and the check counts and
+-- finds no jump.
+pub record LoadChecked (seed pairs : ℕ) (o : List ℕ) (r count depth : ℕ) : Type 0 where
   pub answered : seed ≢ 0 → pairs ≤ 128 → 419 ≤ length o → r ≡ 0
-  pub counted : r ≡ 0 → count ≡ 2 * pairs + 1
+  pub counted : r ≡ 0 → (count ≡ 2 * pairs + 1) × (depth ≡ 0)

@@ -35,7 +35,7 @@ pub fn loaded(seed: u64, pairs: usize, out: &mut [u8], written: &mut usize) -> u
 
 // A load that is checked as any map is, at 128 address bits.
 pub fn load_checked(seed: u64, pairs: usize, out: &mut [u8], count: &mut u32, depth: &mut u8) -> u8
-    ensures { λ r. ⌜ LoadChecked seed pairs (now (out .entry)) r (now (count .exit)) ⌝ }
+    ensures { λ r. ⌜ LoadChecked seed pairs (now (out .entry)) r (now (count .exit)) (now (depth .exit)) ⌝ }
 {
     let mut written: usize = 0;
     let refused = corbastrigo_load(seed, pairs, out, &mut written);
