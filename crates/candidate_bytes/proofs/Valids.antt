@@ -1,8 +1,8 @@
--- A candidate has 20 bytes; and what the first words of 20 bytes say of whether they are one.
+-- A candidate has 20 bytes; what their words say of the mapped form, and what the first words say of whether they are a candidate.
 -- Assumes nothing.
 use mathlib.Core.Path.{_≡_, _∙_, refl, subst}
 use mathlib.Core.List.{List, [], _∷_}
-use mathlib.Core.Bool.{Bool, true, false, _&&_, _||_, or-false}
+use mathlib.Core.Bool.{Bool, true, false, _&&_, _||_, and-true, and-false, or-false}
 use Prim.Native.Nat.{ℕ}
 use native.Mathlib.Omega.{arith}
 use native.Mathlib.Decide.{ℕ-discrete}
@@ -12,17 +12,13 @@ use lib.ListN.{length, take, drop, getD, length-drop}
 use lib.Seq.{drop-drop, length-take-le}
 use Rattle.candidate_bytes.specs.Candidate.{same, mapped, valid, mappedFront}
 use Rattle.byte_numbers.specs.models.Word.{number, Word}
-use Rattle.candidate_bytes.proofs.Sames.{parted}
+use Rattle.candidate_bytes.proofs.Sames.{both, parted}
 use Rattle.byte_numbers.proofs.Words.{next, half-bytes, word-bytes}
 use Rattle.candidate_bytes.proofs.SameNumbers.{same-number, same-word}
 
-and-left : (a b : Bool) → (a && b) ≡ true → a ≡ true
-and-left true b e = refl
-and-left false b e = e
-
 pub valid-length : (c : List ℕ) → valid c ≡ true → length c ≡ 20
 unfolding valid
-valid-length c h = eqb-true (length c) 20 (and-left (eqb (length c) 20) _ h)
+valid-length c h = eqb-true (length c) 20 (both (eqb (length c) 20) _ h .0)
 
 module _ (c : List ℕ) (h : length c ≡ 20) where
   front : List ℕ
@@ -55,6 +51,19 @@ module _ (c : List ℕ) (h : length c ≡ 20) where
       let k : Word 18446462598732840960 (0 ∷ 0 ∷ 0 ∷ 0 ∷ 0 ∷ 0 ∷ 255 ∷ 255 ∷ []) =
       record { value = refl; small = (omega arith, (omega arith, (omega arith, (omega arith, (omega arith, (omega arith, (omega arith, (omega arith, tt)))))))) } in
       same-word v 18446462598732840960 (take 8 (drop 6 c)) (0 ∷ 0 ∷ 0 ∷ 0 ∷ 0 ∷ 0 ∷ 255 ∷ 255 ∷ []) (length-take-le 8 (drop 6 c) (omega (arith, length-drop 6 c))) q k
+
+  first-half : (u : ℕ) → Word u (take 4 (drop 2 c)) → same (take 4 (drop 2 c)) (0 ∷ 0 ∷ 0 ∷ 0 ∷ []) ≡ eqb u 0
+  first-half u p =
+      let k : Word 0 (0 ∷ 0 ∷ 0 ∷ 0 ∷ []) = record { value = refl; small = (omega arith, (omega arith, (omega arith, (omega arith, tt)))) } in
+      same-word u 0 (take 4 (drop 2 c)) (0 ∷ 0 ∷ 0 ∷ 0 ∷ []) (length-take-le 4 (drop 2 c) (omega (arith, length-drop 2 c))) p k
+
+  -- the word decides, or the four bytes before it do
+  module _ (v : ℕ) (q : Word v (take 8 (drop 6 c))) where
+    pub other-word : (v ≡ 18446462598732840960 → ⊥) → mapped c ≡ false
+    other-word d = by-four ∙ rw (last-word v q, ne-eqb v 18446462598732840960 d) (and-false (same (take 4 (drop 2 c)) (0 ∷ 0 ∷ 0 ∷ 0 ∷ [])))
+
+    pub mapped-word : v ≡ 18446462598732840960 → (u : ℕ) → Word u (take 4 (drop 2 c)) → mapped c ≡ eqb u 0
+    mapped-word e u p = by-four ∙ rw (last-word v q, eq-eqb v 18446462598732840960 e, first-half u p) (and-true (eqb u 0))
 
   module _ (w : ℕ) (p : Word w (take 8 (drop 0 c))) where
     word : Word w front

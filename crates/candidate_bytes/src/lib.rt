@@ -3,7 +3,7 @@
 ghost use mathlib.Core.Path.{_≡_};
 ghost use Prim.Native.Nat.{_≤_};
 ghost use lib.ListN.{length, take};
-ghost use Rattle.candidate_bytes.specs.Candidate.{same, valid};
+ghost use Rattle.candidate_bytes.specs.Candidate.{same, mapped, valid};
 
 // Six zero bytes and ff ff as one number, the first lowest: the last eight of the twelve bytes in front of an IPv4 address in its
 // mapped form.
@@ -46,6 +46,18 @@ pub fn same_bytes(a: &[u8], b: &[u8]) -> bool
         return same_front(a, b, i - 4);
     }
     same_front(a, b, i)
+}
+
+// Whether the address of 20 bytes has the mapped form: four zero bytes, then the word above.
+pub fn is_mapped(candidate: &[u8]) -> bool
+    requires { ⌜ length (now candidate) ≡ 20 ⌝ }
+    ensures { λ r. ⌜ r ≡ mapped (now (candidate .entry)) ⌝ }
+{
+    // The word comes first: of other addresses hardly any has it.
+    if byte_numbers::word_at(candidate, 6) != MAPPED_WORD {
+        return false;
+    }
+    byte_numbers::half_at(candidate, 2) == 0
 }
 
 // Whether bytes are a candidate: 20 of them, family 6, or 4 with the mapped form, and a zero. Of family 4 two words hold the
