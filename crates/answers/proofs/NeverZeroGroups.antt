@@ -19,13 +19,13 @@ use Rattle.peer_lists.specs.Candidates.{candidatesOf, allValid}
 use Rattle.peer_lists.specs.Refusal.{refuseIf, orElse, candidateRefusal, tooMany, listRefusal}
 use Rattle.group_lists.specs.declared.Scan.the-variants.{Hit, Missed}
 use Rattle.group_lists.specs.Scan.{inFront, unless, scanned, scanOf}
-use Rattle.netgroup.specs.Group.{Numbering, byMap, byPrefixes}
+use Rattle.netgroup.specs.Group.{Numbering, byMap, byPrefixes, byOldPrefixes}
 use Rattle.netgroup.specs.Refusal.{verdictRefusal, limitRefusal, checkRefusal}
 use Rattle.netgroup.specs.Netgroup.{groupUnless, groupCall, prefixGroupCall, netgroupOf, netgroupUnchecked}
 use Rattle.netgroup_pick.specs.PickRefusal.{roomRefusal, pickRefusal}
-use Rattle.netgroup_pick.specs.Pick.{pickUnless, pickCall, selectDiverse, selectUnchecked}
+use Rattle.netgroup_pick.specs.Pick.{pickUnless, pickCall, selectDiverse, selectUnchecked, oldPrefixPick}
 use Rattle.asmap_records.specs.Output.{within, answerOf}
-use Rattle.spread_page.specs.Page.{pageUnless, pageCall, spreadPage, spreadUnchecked}
+use Rattle.spread_page.specs.Page.{pageUnless, pageCall, spreadPage, spreadUnchecked, oldPrefixPage}
 use Rattle.answer_maps.specs.Maps.{mapChecked}
 use Rattle.answer_bytes.specs.Bytes.{bytesWritten}
 use Rattle.answer_groups.specs.Groups.{groupFound, scanMade, pickMade}
@@ -56,10 +56,12 @@ module _ (P : ℕ → Type 0) where
   pub by-check : (n : Numbering) → P 1 → ((k : ℕ) → Reason k → P k) → From (checkRefusal n)
   by-check (byMap m) one h = by-verdict (checkOf m 128) (map-numbers P h m 128 one)
   by-check byPrefixes one h = tt
+  by-check byOldPrefixes one h = tt
 
   pub by-limit : (n : Numbering) → P 1 → From (limitRefusal n)
   by-limit (byMap m) one = refusing (ltb limit (length m)) 1 one
   by-limit byPrefixes one = tt
+  by-limit byOldPrefixes one = tt
 
   -- ---- groups
 
@@ -148,7 +150,7 @@ group-found : (ofMap : Refusal) (n : Numbering) (c : List ℕ) → From1 ofMap �
 group-found ofMap n c h = counted _ (group-numbers (λ n. 0 < n) ofMap n c (omega arith) h)
 
 pub prefix-group-found : (c : List ℕ) → Counted (groupFound (prefixGroupCall c))
-prefix-group-found c = group-found None byPrefixes c tt
+prefix-group-found c = group-found None byOldPrefixes c tt
 
 pub netgroup-found : (n : Numbering) (c : List ℕ) → Counted (groupFound (netgroupOf n c))
 netgroup-found n c = group-found (checkRefusal n) n c (by-check-1 n)
@@ -169,6 +171,9 @@ module _ (bytes occupied : List ℕ) (max : ℕ) (picks groups : List ℕ) where
   pub unchecked-made : (n : Numbering) → Counted (pickMade (selectUnchecked n bytes occupied max picks groups .answer))
   unchecked-made n = pick-made (limitRefusal n) n (by-limit-1 n)
 
+  pub old-prefix-made : Counted (pickMade (oldPrefixPick bytes occupied max picks groups .answer))
+  old-prefix-made = pick-made None byOldPrefixes tt
+
 page-made : (k : ℕ) (bytes : List ℕ) (ofMap : Refusal) (n : Numbering) → From1 ofMap → Counted (bytesWritten (answerOf (within k (pageCall ofMap n bytes))))
 page-made k bytes ofMap n h = counted _ (page-numbers (λ n. 0 < n) k bytes ofMap n (omega arith) (omega arith) (omega arith) h)
 
@@ -179,3 +184,7 @@ page-written k n bytes = page-made k bytes (checkRefusal n) n (by-check-1 n)
 pub unchecked-written : (k : ℕ) (n : Numbering) (bytes : List ℕ) → Counted (bytesWritten (answerOf (within k (spreadUnchecked n bytes))))
 unfolding spreadUnchecked
 unchecked-written k n bytes = page-made k bytes (limitRefusal n) n (by-limit-1 n)
+
+pub old-prefix-written : (k : ℕ) (bytes : List ℕ) → Counted (bytesWritten (answerOf (within k (oldPrefixPage bytes))))
+unfolding oldPrefixPage
+old-prefix-written k bytes = page-made k bytes None byOldPrefixes tt

@@ -1,3 +1,4 @@
 pub mod Refusals
 pub mod Walked
 pub mod Calls
+pub mod PrefixLaws

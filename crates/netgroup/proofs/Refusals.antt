@@ -13,14 +13,15 @@ use Rattle.asmap_check.proofs.Limit.{accepted-within}
 use Rattle.peer_lists.specs.declared.Refusal.the-variants.{None}
 use Rattle.peer_lists.proofs.Refusals.{number-not-none, none-more}
 use Rattle.netgroup.specs.declared.Grouping.{Grouping}
-use Rattle.netgroup.specs.declared.Grouping.the-variants.{Prefixes, Map}
-use Rattle.netgroup.specs.Group.{Numbering, byMap, byPrefixes, numbering}
+use Rattle.netgroup.specs.declared.Grouping.the-variants.{Prefixes, OldPrefixes, Map}
+use Rattle.netgroup.specs.Group.{Numbering, byMap, byPrefixes, byOldPrefixes, numbering}
 use Rattle.netgroup.specs.Refusal.{verdictRefusal, limitRefusal, checkRefusal}
 
 -- a map that is not refused for its length
 pub none-limit : (g : Grouping) (m : List ℕ) → g ≡ Map → limitRefusal (numbering g m) ≡ None → length m ≤ 16777216
 none-limit Map m e h = none-more 16777216 (length m) 1 h
 none-limit Prefixes m e h = let z : _≡_ {A = ℕ} 0 1 = cc in absurd (omega arith)
+none-limit OldPrefixes m e h = let z : _≡_ {A = ℕ} 0 1 = cc in absurd (omega arith)
 
 -- a map that the check does not refuse is accepted
 pub record Passes (m : List ℕ) : Type 0 where
@@ -41,3 +42,4 @@ check-limit (byMap m) h =
     let p = none-check m h in
     rw (le-ltb 16777216 (length m) (accepted-within m 128 (p .count) (p .depth) (p .accepted) .0))
 check-limit byPrefixes h = refl
+check-limit byOldPrefixes h = refl

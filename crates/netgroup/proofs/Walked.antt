@@ -12,7 +12,7 @@ use Rattle.asmap_walk_bits.specs.Walk.{walkOf, summary}
 use Rattle.asmap_walk.specs.Interpret.{interpretOf}
 use Rattle.asmap_walk.specs.declared.Interpreted.the-variants.{Ended as Walks}
 use Rattle.asmap_walk.proofs.Promised.{kept}
-use Rattle.netgroup.specs.Group.{Numbering, byMap, byPrefixes}
+use Rattle.netgroup.specs.Group.{Numbering, byMap, byPrefixes, byOldPrefixes}
 use Rattle.netgroup.specs.Refusal.{checkRefusal}
 use Rattle.netgroup.specs.Ended.{Finished, Ended}
 use Rattle.netgroup.proofs.Refusals.{Passes, none-check}
@@ -28,3 +28,4 @@ finished m c p = let k = kept m (address c) 128 (p .count) (p .depth) (p .accept
 pub ended : (n : Numbering) (c : List ℕ) → checkRefusal n ≡ None → Ended n c
 ended (byMap m) c h = finished m c (none-check m h)
 ended byPrefixes c h = tt
+ended byOldPrefixes c h = tt

@@ -5,7 +5,7 @@ use mathlib.Core.Path.{_≡_}
 use mathlib.Core.List.{List}
 use Rattle.asmap_program.specs.declared.Kind.the-variants.{Differed}
 use Rattle.asmap_program.specs.Demand.{NoDefault, Answers}
-use Rattle.netgroup.specs.Group.{Numbering, byMap, byPrefixes, walkFor}
+use Rattle.netgroup.specs.Group.{Numbering, byMap, byPrefixes, byOldPrefixes, walkFor}
 
 -- the walk of the address ended at a RETURN or at a difference; and its number is 0 only where it ended at a difference with no DEFAULT
 -- read before
@@ -17,3 +17,4 @@ pub record Finished (m c : List ℕ) : Type 0 where
 abbrev pub Ended : Numbering → List ℕ → Type 0
 Ended (byMap m) c = Finished m c
 Ended byPrefixes c = Unit {0}
+Ended byOldPrefixes c = Unit {0}

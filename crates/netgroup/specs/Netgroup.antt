@@ -8,7 +8,7 @@ use Rattle.peer_lists.specs.declared.Refusal.the-variants.{None, Number}
 use Rattle.peer_lists.specs.Refusal.{orElse, candidateRefusal}
 use Rattle.netgroup.specs.declared.GroupAnswer.{GroupAnswer}
 use Rattle.netgroup.specs.declared.GroupAnswer.the-variants.{Group, Refused}
-use Rattle.netgroup.specs.Group.{Numbering, byPrefixes, groupOf}
+use Rattle.netgroup.specs.Group.{Numbering, byOldPrefixes, groupOf}
 use Rattle.netgroup.specs.Refusal.{limitRefusal, checkRefusal}
 use Rattle.netgroup.specs.Ended.{Ended}
 
@@ -26,8 +26,9 @@ netgroupOf n c = groupCall (checkRefusal n) n c
 abbrev pub netgroupUnchecked : Numbering → List ℕ → GroupAnswer
 netgroupUnchecked n c = groupCall (limitRefusal n) n c
 
+-- "The old numbering stays callable" (document 02, CR 7)
 abbrev pub prefixGroupCall : List ℕ → GroupAnswer
-prefixGroupCall c = groupCall None byPrefixes c
+prefixGroupCall c = groupCall None byOldPrefixes c
 
 -- a group that was handed back comes from a walk that ended at a RETURN or at a difference
 abbrev pub Whole : Numbering → List ℕ → GroupAnswer → Type 0

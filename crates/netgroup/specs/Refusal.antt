@@ -9,12 +9,13 @@ use Rattle.asmap_program.specs.declared.Verdict.{Verdict}
 use Rattle.asmap_program.specs.declared.Verdict.the-variants.{Accepted, Refused}
 use Rattle.asmap_program.specs.Map.{limit}
 use Rattle.asmap_check.specs.Check.{checkOf}
-use Rattle.netgroup.specs.Group.{Numbering, byMap, byPrefixes}
+use Rattle.netgroup.specs.Group.{Numbering, byMap, byPrefixes, byOldPrefixes}
 
 -- a map taken as it is: 1 where it is longer than a map may be
 abbrev pub limitRefusal : Numbering → Refusal
 limitRefusal (byMap m) = refuseIf (ltb limit (length m)) 1
 limitRefusal byPrefixes = None
+limitRefusal byOldPrefixes = None
 
 abbrev pub verdictRefusal : Verdict → Refusal
 verdictRefusal (Accepted count depth) = None
@@ -24,3 +25,4 @@ verdictRefusal (Refused n) = Number n
 abbrev pub checkRefusal : Numbering → Refusal
 checkRefusal (byMap m) = verdictRefusal (checkOf m 128)
 checkRefusal byPrefixes = None
+checkRefusal byOldPrefixes = None

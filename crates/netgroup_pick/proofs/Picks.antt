@@ -8,7 +8,7 @@ use lib.ListN.{length, take, drop, length-append}
 use lib.Seq.{take-append-le}
 use Rattle.peer_lists.specs.declared.Refusal.{Refusal}
 use Rattle.peer_lists.specs.declared.Refusal.the-variants.{None, Number}
-use Rattle.netgroup.specs.Group.{Numbering, byMap, byPrefixes}
+use Rattle.netgroup.specs.Group.{Numbering, byMap, byPrefixes, byOldPrefixes, countOf}
 use Rattle.netgroup.specs.Refusal.{limitRefusal, checkRefusal}
 use Rattle.netgroup.proofs.Refusals.{check-limit}
 use Rattle.netgroup_pick.specs.declared.PickAnswer.the-variants.{Picked, Refused}
@@ -39,10 +39,10 @@ refused ofMap n bytes occupied max picks groups k e =
     sym (ap (λ (x : Refusal). pickUnless x n (candidatesOf bytes) occupied max picks groups) e)
 
 -- the instructions are those of the defined walks
-sum-none : (k : ℕ) (cs : List (List ℕ)) → sum (take k (countsOf byPrefixes cs)) ≡ 0
-sum-none zero cs = refl
-sum-none (suc k) [] = refl
-sum-none (suc k) (c ∷ cs) = omega (arith, sum-none k cs)
+sum-none : (n : Numbering) → ((c : List ℕ) → countOf n c ≡ 0) → (k : ℕ) (cs : List (List ℕ)) → sum (take k (countsOf n cs)) ≡ 0
+sum-none n h zero cs = refl
+sum-none n h (suc k) [] = refl
+sum-none n h (suc k) (c ∷ cs) = omega (arith, h c, sum-none n h k cs)
 
 none-taken : (k : ℕ) → sum (take k []) ≡ 0
 none-taken zero = refl
@@ -50,7 +50,8 @@ none-taken (suc k) = refl
 
 counts-walked : (n : Numbering) (k : ℕ) (cs : List (List ℕ)) → sum (take k (countsOf n cs)) ≡ sum (take k (walkCounts n cs))
 counts-walked (byMap m) k cs = refl
-counts-walked byPrefixes k cs = sum-none k cs ∙ sym (none-taken k)
+counts-walked byPrefixes k cs = sum-none byPrefixes (λ c. refl) k cs ∙ sym (none-taken k)
+counts-walked byOldPrefixes k cs = sum-none byOldPrefixes (λ c. refl) k cs ∙ sym (none-taken k)
 
 -- where the list is not refused and the check passes the map, the two calls are one
 module _ (n : Numbering) (bytes occupied : List ℕ) (max : ℕ) (picks groups : List ℕ) where

@@ -4,7 +4,7 @@ use Prim.Native.Nat.{ℕ, _<_}
 use mathlib.Core.Path.{_≡_}
 use mathlib.Core.List.{List, [], map}
 use lib.ListN.{length, take, getD}
-use Rattle.netgroup.specs.Group.{Numbering, byMap, byPrefixes, walkFor}
+use Rattle.netgroup.specs.Group.{Numbering, byMap, byPrefixes, byOldPrefixes, walkFor}
 use Rattle.netgroup.specs.Ended.{Ended}
 use Rattle.pick_passes.specs.Ranked.{sum, first}
 use Rattle.netgroup_pick.specs.declared.PickAnswer.{PickAnswer}
@@ -15,6 +15,7 @@ use Rattle.netgroup_pick.specs.declared.Totals.{Totals}
 abbrev pub walkCounts : Numbering → List (List ℕ) → List ℕ
 walkCounts (byMap m) all = map (λ (c : List ℕ). length (walkFor m c .read)) all
 walkCounts byPrefixes all = []
+walkCounts byOldPrefixes all = []
 
 module _ (n : Numbering) (all : List (List ℕ)) (occupied : List ℕ) (max : ℕ) where
   -- t: the answer; ps, gs: the outputs at exit. The first-pass picks are those of the defined first pass, in order, with their

@@ -7,7 +7,7 @@ use lib.ListN.{length}
 use Rattle.peer_lists.specs.declared.Refusal.{Refusal}
 use Rattle.peer_lists.specs.declared.Refusal.the-variants.{None, Number}
 use Rattle.peer_lists.specs.Candidates.{candidatesOf}
-use Rattle.netgroup.specs.Group.{Numbering}
+use Rattle.netgroup.specs.Group.{Numbering, byOldPrefixes}
 use Rattle.netgroup.specs.Refusal.{limitRefusal, checkRefusal}
 use Rattle.pick_passes.specs.Ranked.{first, instructions}
 use Rattle.pick_passes.specs.Fill.{fill}
@@ -53,3 +53,7 @@ selectDiverse n = pickCall (checkRefusal n) n
 
 abbrev pub selectUnchecked : Numbering → List ℕ → List ℕ → ℕ → List ℕ → List ℕ → Handed
 selectUnchecked n = pickCall (limitRefusal n) n
+
+-- "The old numbering stays callable, in a pick too" (document 02, CR 7)
+abbrev pub oldPrefixPick : List ℕ → List ℕ → ℕ → List ℕ → List ℕ → Handed
+oldPrefixPick = pickCall None byOldPrefixes

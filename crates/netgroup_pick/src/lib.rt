@@ -2,10 +2,10 @@
 ghost use mathlib.Core.Path.{_≡_};
 ghost use Prim.Native.Nat.{min};
 ghost use Rattle.peer_lists.specs.Candidates.{candidatesOf};
-ghost use Rattle.netgroup.specs.Group.{numbering};
+ghost use Rattle.netgroup.specs.Group.{byOldPrefixes, numbering};
 ghost use Rattle.netgroup.specs.Refusal.{limitRefusal, checkRefusal};
 ghost use Rattle.netgroup_pick.specs.PickRefusal.{roomRefusal, pickRefusal};
-ghost use Rattle.netgroup_pick.specs.Pick.{handed, selectDiverse, selectUnchecked};
+ghost use Rattle.netgroup_pick.specs.Pick.{handed, selectDiverse, selectUnchecked, oldPrefixPick};
 ghost use Rattle.netgroup_pick.specs.Demand.{Demand3, Unaborted};
 use netgroup::Grouping;
 use peer_lists::Refusal;
@@ -121,4 +121,27 @@ pub fn select_diverse(
         return PickAnswer::Refused(number);
     }
     select_diverse_unchecked(candidates, occupied, max, grouping, map, picks, groups)
+}
+
+// The pick without a map in the old numbering, for callers who keep such groups. Refusals 13, 12, 13, 14 in this order; a refusal writes nothing.
+pub fn old_prefix_pick(
+    candidates: &[u8],
+    occupied: &[u64],
+    max: usize,
+    picks: &mut [u16],
+    groups: &mut [u64],
+) -> PickAnswer
+    ensures { λ r. ⌜ handed r (now (picks .exit)) (now (groups .exit)) ≡ oldPrefixPick (now (candidates .entry)) (now (occupied .entry)) max (now (picks .entry)) (now (groups .entry)) ⌝ }
+    ensures demand3 { λ r. ⌜ Demand3 byOldPrefixes (candidatesOf (now (candidates .entry))) (now (occupied .entry)) max r (now (picks .exit)) (now (groups .exit)) ⌝ }
+{
+    let no_map = [0u8; 1];
+    select_diverse_unchecked(
+        candidates,
+        occupied,
+        max,
+        Grouping::OldPrefixes,
+        &no_map[..0],
+        picks,
+        groups,
+    )
 }

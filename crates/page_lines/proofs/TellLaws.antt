@@ -80,7 +80,7 @@ module _ (all : ℕ) (s : Share) where
 
 -- ---- the lines of a page
 
--- today's numberings, and document 02's next one, have no greater group than 4,294,967,296 + 256 × 255 + 255
+-- no numbering has a greater group than 4,294,967,296 + 256 × 255 + 255
 pub lines-tell : (all : ℕ) (ss : List Share) → 0 < all → all ≤ 4096 → Within 4295032831 all ss → AllTell all ss
 lines-tell all [] h m w = tt
 lines-tell all (s ∷ ss) h m w = (line-tells all s (omega (arith, w .0)) (omega (arith, w .1)) h (w .1), lines-tell all ss h m (w .2))

@@ -1,13 +1,13 @@
 -- Every group fits 10 columns: with a map a group is the number of a walk, which is an operand that was read, or 0; without one it is made of
 -- bytes.
 -- Assumes nothing.
-use mathlib.Core.Bool.{Bool, true, false}
+use mathlib.Core.Bool.{Bool, true, false, cond}
 use mathlib.Core.Path.{_≡_, refl}
 use mathlib.Core.List.{List}
 use Prim.Native.Nat.{ℕ, zero, suc, _+_, _/_, _≤_, _<_}
-use native.Mathlib.Decide.{ℕ-discrete, decLt}
+use native.Mathlib.Decide.{decLt}
 use native.Mathlib.Omega.{arith}
-use borrow.Author.Tests.{eq-eqb, ne-eqb}
+use lib.Dec.{eqb}
 use lib.ListN.{length, take, drop, getD, length-take, List·getD-eq-default}
 use lib.Seq.{getD-take, getD-drop}
 use Rattle.asmap_program.specs.declared.Instruction.{Instruction}
@@ -19,7 +19,8 @@ use Rattle.asmap_walk_bits.specs.Walk.{walkOf}
 use Rattle.asmap_records.proofs.Reading.{stands}
 use Rattle.candidate_bytes.specs.Candidate.{family, address}
 use Rattle.peer_lists.specs.Candidates.{cut, candidatesOf}
-use Rattle.netgroup.specs.Group.{Numbering, byMap, byPrefixes, groupOf, prefixGroup}
+use Rattle.netgroup.specs.Group.{Numbering, byMap, byPrefixes, byOldPrefixes, prefix4, prefix6, ipv4, prefixGroup, oldPrefixGroup, groupOf}
+use Rattle.netgroup.proofs.PrefixLaws.{Bytes, prefix4-below, prefix6-below}
 use Rattle.pick_passes.specs.Ranked.{groupsOf}
 use Rattle.group_shares.specs.models.Sorted.{Below}
 
@@ -64,24 +65,23 @@ walk-number : (m a : List ℕ) (w : ℕ) → walkOf m a w .number < 4294967296
 unfolding walkOf walk mapOf
 walk-number m a w = small-walk (addressBit a) (mapOf m) (λ p i f. stands m p i f .operand) (mapOf m .bits) _ (omega arith)
 
--- ---- a group by prefixes
+-- ---- a group
 
--- each place holds a byte; past the end stands 0
-abbrev pub Bytes : List ℕ → Type 0
-Bytes bs = (i : ℕ) → getD bs i 0 < 256
+-- by prefixes, of IPv4 or not
+prefix-number : (t : Bool) (c : List ℕ) → Bytes c → cond t (4294967296 + prefix4 c) (prefix6 c) ≤ 4295032831
+prefix-number true c b = omega (arith, prefix4-below c b)
+prefix-number false c b = omega (arith, prefix6-below c b)
 
-prefix-number : (c : List ℕ) → Bytes c → prefixGroup c < 4294967296
-unfolding prefixGroup
-prefix-number c b = go (ℕ-discrete (family c) 4)
-  where
-    go : Dec (family c ≡ 4) → prefixGroup c < 4294967296
-    go (yes e) = rw (eq-eqb (family c) 4 e) (omega (arith, b 14, b 15))
-    go (no d) = rw (ne-eqb (family c) 4 d) (omega (arith, b 2, b 3, b 4, b 5))
+old-prefix-number : (t : Bool) (c : List ℕ) → Bytes c → cond t (prefix4 c) (prefix6 c) ≤ 4295032831
+old-prefix-number true c b = omega (arith, prefix4-below c b)
+old-prefix-number false c b = omega (arith, prefix6-below c b)
 
--- of any map, accepted or not
-pub group-number : (n : Numbering) (c : List ℕ) → Bytes c → groupOf n c < 4294967296
-group-number (byMap m) c b = walk-number m (address c) 128
-group-number byPrefixes c b = prefix-number c b
+-- of any map, accepted or not; and of any family
+group-number : (n : Numbering) (c : List ℕ) → Bytes c → groupOf n c ≤ 4295032831
+unfolding prefixGroup oldPrefixGroup
+group-number (byMap m) c b = omega (arith, walk-number m (address c) 128)
+group-number byPrefixes c b = prefix-number (ipv4 c) c b
+group-number byOldPrefixes c b = old-prefix-number (eqb (family c) 4) c b
 
 -- ---- the groups of a list of candidates
 
@@ -100,8 +100,8 @@ bytes-drop n bs b i = rw (getD-drop n bs i 0) (b (n + i))
 
 cut-below : (n : Numbering) (k : ℕ) (bs : List ℕ) → Bytes bs → Below 4295032831 (groupsOf n (cut k bs))
 cut-below n zero bs b = tt
-cut-below n (suc k) bs b = (omega (arith, group-number n (take 20 bs) (bytes-take 20 bs b)), cut-below n k (drop 20 bs) (bytes-drop 20 bs b))
+cut-below n (suc k) bs b = (group-number n (take 20 bs) (bytes-take 20 bs b), cut-below n k (drop 20 bs) (bytes-drop 20 bs b))
 
--- today's groups are below 2 ^ 32; the bound leaves room for document 02's IPv4 prefixes with a number range to themselves
+-- the greatest group is that of 255.255.0.0/16, in the number range of IPv4 prefixes
 pub groups-below : (n : Numbering) (bs : List ℕ) → Bytes bs → Below 4295032831 (groupsOf n (candidatesOf bs))
 groups-below n bs b = cut-below n (length bs / 20) bs b

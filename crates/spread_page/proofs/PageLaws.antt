@@ -27,7 +27,8 @@ use Rattle.page_lines.specs.Line.{lines, pageOf}
 use Rattle.page_lines.proofs.TellLaws.{page-tells}
 use Rattle.spread_page.specs.Page.{pageCall}
 use Rattle.spread_page.specs.Promise.{Told, Unaborted}
-use Rattle.spread_page.proofs.FitLaws.{Bytes, groups-below}
+use Rattle.netgroup.proofs.PrefixLaws.{Bytes}
+use Rattle.spread_page.proofs.FitLaws.{groups-below}
 
 -- ---- the groups, one more
 

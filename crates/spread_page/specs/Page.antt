@@ -7,7 +7,7 @@ use Rattle.peer_lists.specs.declared.Refusal.{Refusal}
 use Rattle.peer_lists.specs.declared.Refusal.the-variants.{None, Number}
 use Rattle.peer_lists.specs.Candidates.{candidatesOf}
 use Rattle.peer_lists.specs.Refusal.{orElse, listRefusal}
-use Rattle.netgroup.specs.Group.{Numbering}
+use Rattle.netgroup.specs.Group.{Numbering, byOldPrefixes}
 use Rattle.netgroup.specs.Refusal.{limitRefusal, checkRefusal}
 use Rattle.pick_passes.specs.Ranked.{groupsOf}
 use Rattle.asmap_records.specs.Output.{Result, Made, No}
@@ -27,3 +27,7 @@ spreadPage n bytes = pageCall (checkRefusal n) n bytes
 
 unfoldable pub spreadUnchecked : Numbering → List ℕ → Result
 spreadUnchecked n bytes = pageCall (limitRefusal n) n bytes
+
+-- "The old numbering stays callable" (document 02, CR 7)
+unfoldable pub oldPrefixPage : List ℕ → Result
+oldPrefixPage bytes = pageCall None byOldPrefixes bytes

@@ -8,13 +8,13 @@ ghost use Prim.Native.Nat.{_/_, _≤_};
 ghost use lib.ListN.{length, take};
 ghost use Rattle.peer_lists.specs.Candidates.{candidatesOf};
 ghost use Rattle.peer_lists.specs.Refusal.{listRefusal};
-ghost use Rattle.netgroup.specs.Group.{numbering};
+ghost use Rattle.netgroup.specs.Group.{byOldPrefixes, numbering};
 ghost use Rattle.netgroup.specs.Refusal.{limitRefusal, checkRefusal};
 ghost use Rattle.pick_passes.specs.Ranked.{groupsOf};
 ghost use Rattle.asmap_records.specs.Output.{Hands, Result};
 ghost use Rattle.group_shares.specs.models.Runs.{runs};
 ghost use Rattle.page_lines.specs.Line.{lines, pageOf};
-ghost use Rattle.spread_page.specs.Page.{spreadPage, spreadUnchecked};
+ghost use Rattle.spread_page.specs.Page.{spreadPage, spreadUnchecked, oldPrefixPage};
 ghost use Rattle.spread_page.specs.Promise.{Told, Unaborted};
 use asmap_records::Answer;
 use netgroup::Grouping;
@@ -119,4 +119,13 @@ pub fn page(candidates: &[u8], grouping: Grouping, map: &[u8], out: &mut [u8]) -
         return Answer::Refused(number);
     }
     make_page(candidates, grouping, map, out)
+}
+
+// The page without a map in the old numbering, for callers who keep such groups. Refusals 13, 12, 13, 14 in this order; a refusal writes nothing.
+pub fn old_prefix_page(candidates: &[u8], out: &mut [u8]) -> Answer
+    ensures { λ r. ⌜ Hands (oldPrefixPage (now (candidates .entry))) (now (out .entry)) (now (out .exit)) r ⌝ }
+    ensures told { λ r. ⌜ Told byOldPrefixes (now (candidates .entry)) r ⌝ }
+{
+    let no_map = [0u8; 1];
+    page_unchecked(candidates, Grouping::OldPrefixes, &no_map[..0], out)
 }
