@@ -1,13 +1,14 @@
-// Groups, the occupied scan (document 02, CR 2) and pick (document 01, Groups and pick). In each call `has_map` 0 is without a map: groups then go by prefixes, and
-// the map is not looked at. Any other number is with it.
+// Groups, the occupied scan (document 02, CR 2) and pick (document 01, Groups and pick). In each call `has_map` 0 is without a map: groups then go by prefixes, those
+// of IPv4 in a number range to themselves (document 02, CR 7), and the map is not looked at. Any other number is with it. Two calls, which take no map, keep the old numbers of
+// prefixes: the group by its prefix and the pick by old prefixes.
 ghost use mathlib.Core.Path.{_≡_};
 ghost use mathlib.Core.List.{_∷_, []};
 ghost use Rattle.peer_lists.specs.Candidates.{candidatesOf};
 ghost use Rattle.group_lists.specs.Scan.{scanOf};
-ghost use Rattle.netgroup.specs.Group.{numbering};
+ghost use Rattle.netgroup.specs.Group.{byOldPrefixes, numbering};
 ghost use Rattle.netgroup.specs.Netgroup.{prefixGroupCall, netgroupOf, netgroupUnchecked, Whole};
 ghost use Rattle.netgroup.specs.Refusal.{checkRefusal};
-ghost use Rattle.netgroup_pick.specs.Pick.{selectDiverse, selectUnchecked};
+ghost use Rattle.netgroup_pick.specs.Pick.{selectDiverse, selectUnchecked, oldPrefixPick};
 ghost use Rattle.netgroup_pick.specs.Demand.{Demand3, Unaborted};
 ghost use Rattle.answer_outcome.specs.Outcome.{Hands};
 ghost use Rattle.answer_groups.specs.Groups.{groupingOf, groupFound, scanMade, totalsOf, Picks};
@@ -19,7 +20,7 @@ use netgroup::GroupAnswer;
 use netgroup_pick::PickAnswer;
 use peer_lists::Refusal;
 
-// The group of a candidate of 20 bytes by its prefix. Refusal 13.
+// The group of a candidate of 20 bytes by its prefix, in the old numbering. Refusal 13.
 #[no_mangle]
 pub extern "C" fn corbastrigo_prefix_group(candidate: &[u8], group: &mut u64) -> u8
     ensures { λ r. ⌜ Hands (groupFound (prefixGroupCall (now (candidate .entry)))) r (now (group .entry) ∷ []) (now (group .exit) ∷ []) ⌝ }
@@ -142,5 +143,25 @@ pub extern "C" fn corbastrigo_select_diverse_unchecked(
         picks,
         groups,
     );
+    hand_pick(got, total, first, examined, instructions)
+}
+
+// The pick without a map in the old numbering. Refusals 13, 12, 13, 14.
+#[no_mangle]
+pub extern "C" fn corbastrigo_old_prefix_pick(
+    candidates: &[u8],
+    occupied: &[u64],
+    max: usize,
+    picks: &mut [u16],
+    groups: &mut [u64],
+    total: &mut usize,
+    first: &mut usize,
+    examined: &mut usize,
+    instructions: &mut u64,
+) -> u8
+    ensures { λ r. ⌜ Picks (oldPrefixPick (now (candidates .entry)) (now (occupied .entry)) max (now (picks .entry)) (now (groups .entry))) r (now (total .entry) ∷ now (first .entry) ∷ now (examined .entry) ∷ now (instructions .entry) ∷ []) (now (total .exit) ∷ now (first .exit) ∷ now (examined .exit) ∷ now (instructions .exit) ∷ []) (now (picks .exit)) (now (groups .exit)) ⌝ }
+    ensures demand3 { λ r. ⌜ (r ≡ 0 → Demand3 byOldPrefixes (candidatesOf (now (candidates .entry))) (now (occupied .entry)) max (PickAnswer.Picked (totalsOf (now (total .exit)) (now (first .exit)) (now (examined .exit)) (now (instructions .exit)))) (now (picks .exit)) (now (groups .exit))) ⌝ }
+{
+    let got = netgroup_pick::old_prefix_pick(candidates, occupied, max, picks, groups);
     hand_pick(got, total, first, examined, instructions)
 }

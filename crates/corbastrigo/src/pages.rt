@@ -2,9 +2,9 @@
 // of the group calls and of the pick.
 ghost use mathlib.Core.Path.{_≡_};
 ghost use mathlib.Core.List.{_∷_, []};
-ghost use Rattle.netgroup.specs.Group.{numbering};
+ghost use Rattle.netgroup.specs.Group.{byOldPrefixes, numbering};
 ghost use Rattle.netgroup.specs.Refusal.{checkRefusal};
-ghost use Rattle.spread_page.specs.Page.{spreadPage, spreadUnchecked};
+ghost use Rattle.spread_page.specs.Page.{spreadPage, spreadUnchecked, oldPrefixPage};
 ghost use Rattle.spread_page.specs.Promise.{Told, Unaborted};
 ghost use Rattle.answer_groups.specs.Groups.{groupingOf};
 ghost use Rattle.answer_bytes.specs.Bytes.{Writes};
@@ -46,5 +46,19 @@ pub extern "C" fn corbastrigo_page_unchecked(
 {
     let grouping = grouping_of(has_map);
     let got = spread_page::page_unchecked(candidates, grouping, map, out);
+    hand_bytes(got, written)
+}
+
+// The page without a map in the old numbering of prefixes (document 02, CR 7). Refusals 13, 12, 13, 14.
+#[no_mangle]
+pub extern "C" fn corbastrigo_old_prefix_page(
+    candidates: &[u8],
+    out: &mut [u8],
+    written: &mut usize,
+) -> u8
+    ensures { λ r. ⌜ Writes (oldPrefixPage (now (candidates .entry))) (now (out .entry)) (now (out .exit)) r (now (written .entry) ∷ []) (now (written .exit) ∷ []) ⌝ }
+    ensures told { λ r. ⌜ (r ≡ 0 → Told byOldPrefixes (now (candidates .entry)) (Answer.Wrote (now (written .exit)))) ⌝ }
+{
+    let got = spread_page::old_prefix_page(candidates, out);
     hand_bytes(got, written)
 }
