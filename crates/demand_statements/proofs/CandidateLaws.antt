@@ -13,12 +13,12 @@ use lib.Seq.{length-take-le, take-take, drop-drop, getD-take, getD-drop}
 use Rattle.peer_lists.specs.declared.Refusal.the-variants.{None}
 use Rattle.candidate_bytes.specs.Candidate.{address, mappedFront, mapped, valid}
 use Rattle.peer_lists.specs.Refusal.{candidateRefusal}
-use Rattle.netgroup.specs.Group.{prefixGroup}
+use Rattle.netgroup.specs.Group.{prefix4, oldPrefixGroup, ipv4, prefixGroup}
 use Rattle.peer_lists.specs.Candidates.{cut, candidatesOf, allValid}
 use Rattle.pick_passes.specs.First.{Pass, examine, passFrom}
 use Rattle.pick_passes.proofs.Passes.{examine-count}
 use Rattle.demand_statements.specs.AnyInput.{Candidate}
-use Rattle.demand_statements.specs.Picked.{each, prefixAt}
+use Rattle.demand_statements.specs.Picked.{each, ipv4At, prefixAt, oldPrefixAt}
 
 -- ---- one candidate
 
@@ -30,19 +30,56 @@ front (x ∷ y ∷ l) = take-take 16 18 l (omega arith)
 pub address-at : (bytes : List ℕ) (i : ℕ) → address (take 20 (drop (20 * i) bytes)) ≡ take 16 (drop (20 * i + 2) bytes)
 address-at bytes i = front (drop (20 * i) bytes) ∙ ap (take 16) (drop-drop 2 (20 * i) bytes)
 
+-- four bytes as a number, as the two definitions write it
+four-bytes : (a b c d : ℕ) → 256 * (256 * (256 * a + b) + c) + d ≡ 16777216 * a + 65536 * b + 256 * c + d
+four-bytes a b c d = omega arith
+
+pub ipv4-of : (c : List ℕ) → ipv4 c ≡ ipv4At c 0
+unfolding ipv4 mapped ipv4At
+ipv4-of c = refl
+
 pub prefix-of : (c : List ℕ) → prefixGroup c ≡ prefixAt c 0
 unfolding prefixGroup prefixAt
 prefix-of c =
-    let e : 256 * (256 * (256 * getD c 2 0 + getD c 3 0) + getD c 4 0) + getD c 5 0 ≡ 16777216 * getD c 2 0 + 65536 * getD c 3 0 + 256 * getD c 4 0 + getD c 5 0 = omega arith in
-    ap (cond (eqb (getD c 0 0) 4) (256 * getD c 14 0 + getD c 15 0)) e
+    ap₂ (λ (t : Bool) (x : ℕ). cond t (4294967296 + prefix4 c) x) (ipv4-of c) (four-bytes (getD c 2 0) (getD c 3 0) (getD c 4 0) (getD c 5 0))
+
+pub old-prefix-of : (c : List ℕ) → oldPrefixGroup c ≡ oldPrefixAt c 0
+unfolding oldPrefixGroup oldPrefixAt
+old-prefix-of c = ap (cond (eqb (getD c 0 0) 4) (prefix4 c)) (four-bytes (getD c 2 0) (getD c 3 0) (getD c 4 0) (getD c 5 0))
 
 byte : (bytes : List ℕ) (i k : ℕ) → k < 20 → getD (take 20 (drop (20 * i) bytes)) k 0 ≡ getD bytes (20 * i + k) 0
 byte bytes i k h = getD-take 20 (drop (20 * i) bytes) k 0 h ∙ getD-drop (20 * i) bytes k 0
+
+mapped-front : (l : List ℕ) → take 12 (drop 2 (take 20 l)) ≡ take 12 (drop 2 l)
+mapped-front [] = refl
+mapped-front (x ∷ []) = refl
+mapped-front (x ∷ y ∷ l) = take-take 12 18 l (omega arith)
+
+front-at : (bytes : List ℕ) (i : ℕ) → take 12 (drop 2 (take 20 (drop (20 * i) bytes))) ≡ take 12 (drop (20 * i + 2) bytes)
+front-at bytes i = mapped-front (drop (20 * i) bytes) ∙ ap (take 12) (drop-drop 2 (20 * i) bytes)
+
+ipv4-at : (bytes : List ℕ) (i : ℕ) → ipv4At (take 20 (drop (20 * i) bytes)) 0 ≡ ipv4At bytes i
+unfolding ipv4At
+ipv4-at bytes i = rw (byte bytes i 0 (omega arith), front-at bytes i)
 
 pub prefix-at : (bytes : List ℕ) (i : ℕ) → prefixGroup (take 20 (drop (20 * i) bytes)) ≡ prefixAt bytes i
 unfolding prefixAt
 prefix-at bytes i =
     prefix-of (take 20 (drop (20 * i) bytes))
+    ∙ rw (
+      ipv4-at bytes i,
+      byte bytes i 2 (omega arith),
+      byte bytes i 3 (omega arith),
+      byte bytes i 4 (omega arith),
+      byte bytes i 5 (omega arith),
+      byte bytes i 14 (omega arith),
+      byte bytes i 15 (omega arith),
+    )
+
+pub old-prefix-at : (bytes : List ℕ) (i : ℕ) → oldPrefixGroup (take 20 (drop (20 * i) bytes)) ≡ oldPrefixAt bytes i
+unfolding oldPrefixAt
+old-prefix-at bytes i =
+    old-prefix-of (take 20 (drop (20 * i) bytes))
     ∙ rw (
       byte bytes i 0 (omega arith),
       byte bytes i 2 (omega arith),
@@ -67,19 +104,12 @@ valid-of c l k = by (k .family)
 pub candidate-passes : (c : List ℕ) → length c ≡ 20 → Candidate c 0 → candidateRefusal c ≡ None
 candidate-passes c l k = rw (valid-of c l k)
 
-mapped-front : (l : List ℕ) → take 12 (drop 2 (take 20 l)) ≡ take 12 (drop 2 l)
-mapped-front [] = refl
-mapped-front (x ∷ []) = refl
-mapped-front (x ∷ y ∷ l) = take-take 12 18 l (omega arith)
-
 -- the one at a place, by itself
 alone : (bytes : List ℕ) (i : ℕ) → Candidate bytes i → Candidate (take 20 (drop (20 * i) bytes)) 0
 alone bytes i k =
     let z : 20 * i + 0 ≡ 20 * i = omega arith in
     let f : getD (take 20 (drop (20 * i) bytes)) 0 0 ≡ getD bytes (20 * i) 0 = byte bytes i 0 (omega arith) ∙ ap (λ (n : ℕ). getD bytes n 0) z in
-    let a : take 12 (drop 2 (take 20 (drop (20 * i) bytes))) ≡ take 12 (drop (20 * i + 2) bytes)
-    = mapped-front (drop (20 * i) bytes) ∙ ap (take 12) (drop-drop 2 (20 * i) bytes) in
-    record { blank = byte bytes i 1 (omega arith) ∙ k .blank; family = ⊎-elim (λ e. inl (f ∙ e)) (λ e. inr (f ∙ e .0, a ∙ e .1)) (k .family) }
+    record { blank = byte bytes i 1 (omega arith) ∙ k .blank; family = ⊎-elim (λ e. inl (f ∙ e)) (λ e. inr (f ∙ e .0, front-at bytes i ∙ e .1)) (k .family) }
 
 all-valid : (n : ℕ) (bytes : List ℕ) → ((i : ℕ) → i < n → valid (take 20 (drop (20 * i) bytes)) ≡ true) → allValid (cut n bytes) ≡ true
 all-valid zero bytes h = refl

@@ -10,6 +10,7 @@ pub mod ListBytes
 pub mod LoadAnswers
 pub mod ListAnswers
 pub mod CandidateLaws
+pub mod ApartLaws
 pub mod PickLaws
 pub mod PickAnswers
 pub mod PrintLaws

@@ -13,7 +13,7 @@ use Rattle.asmap_check.specs.Check.{checkOf}
 use Rattle.peer_lists.specs.declared.Refusal.{Refusal}
 use Rattle.peer_lists.specs.declared.Refusal.the-variants.{None, Number}
 use Rattle.candidate_bytes.specs.Candidate.{valid}
-use Rattle.netgroup.specs.Group.{Numbering, byMap, numbering}
+use Rattle.netgroup.specs.Group.{Numbering, byMap, byOldPrefixes, numbering}
 use Rattle.netgroup.specs.Refusal.{verdictRefusal, limitRefusal, checkRefusal}
 use Rattle.peer_lists.specs.Refusal.{orElse, refuseIf, candidateRefusal, listRefusal}
 use Rattle.netgroup.specs.declared.GroupAnswer.the-variants as group
@@ -23,18 +23,18 @@ use Rattle.peer_lists.specs.Candidates.{candidatesOf, allValid}
 use Rattle.netgroup_pick.specs.PickRefusal.{roomRefusal, pickRefusal}
 use Rattle.netgroup_pick.specs.declared.PickAnswer.the-variants as pick
 use Rattle.netgroup_pick.specs.Demand.{Demand3, Unaborted}
-use Rattle.netgroup_pick.specs.Pick.{pickUnless, selectDiverse, selectUnchecked}
+use Rattle.netgroup_pick.specs.Pick.{pickUnless, selectDiverse, selectUnchecked, oldPrefixPick}
 use Rattle.answer_outcome.specs.Outcome.{handed, IsDone, Hands}
 use Rattle.answer_maps.specs.Maps.{mapChecked}
 use Rattle.answer_groups.specs.Groups.{groupingOf, groupFound, totalsOf, pickMade}
 use Rattle.answer_groups.specs.Groups as call
 use Rattle.answers.proofs.NeverZeroGroups.{From, by-check, by-limit, group-numbers, pick-numbers}
-use Rattle.demand_statements.specs.Picked.{prefixAt, Grouped, ByMap, Picked}
+use Rattle.demand_statements.specs.Picked.{oldPrefixAt, Grouped, ByMap, ByPrefixes, Picked}
 use Rattle.demand_statements.specs.AnyInput.{CheckNumber, Usable, Groups, LoadedGroups, Picks, LoadedPicks}
 use Rattle.demand_statements.proofs.AnswerLaws.{kept, numbered, refused-as, done-as}
 use Rattle.demand_statements.proofs.CandidateLaws.{candidate-passes, candidates-valid}
 use Rattle.demand_statements.proofs.MapAnswers.{reason-number, number-1, check-number}
-use Rattle.demand_statements.proofs.PickLaws.{unrefused, grouped, grouped-loaded, picked-as, picked-loaded}
+use Rattle.demand_statements.proofs.PickLaws.{unrefused, grouped, grouped-old, grouped-loaded, picked-as, picked-old, picked-loaded}
 
 pub refusal : (m : List ℕ) {r : ℕ} {entry exit : List ℕ} → Hands (mapChecked (checkOf m 128)) r entry exit → (r ≡ 0 → ⊥) → CheckNumber r
 refusal m {r} h n = some (check-number m 128 h)
@@ -43,17 +43,28 @@ refusal m {r} h n = some (check-number m 128 h)
     some (inl z) = absurd (n z)
     some (inr k) = k
 
+-- What a call's numbering n is, with the map m where there is one: its refusals are those of the check, and a map that can be used is not refused.
+pub record Of (has : ℕ) (m : List ℕ) (n : Numbering) : Type 1 where
+  pub numbers : (P : ℕ → Type 0) → (has ≢ 0 → (k : ℕ) → CheckNumber k → P k) → From P (checkRefusal n)
+  pub passes : Usable has m → checkRefusal n ≡ None
+
 -- a call with a map says so
-pub of-map : (P : ℕ → Type 0) (has : ℕ) (m : List ℕ) → (has ≢ 0 → (n : ℕ) → CheckNumber n → P n) → From P (checkRefusal (numbering (groupingOf has) m))
+of-map : (P : ℕ → Type 0) (has : ℕ) (m : List ℕ) → (has ≢ 0 → (n : ℕ) → CheckNumber n → P n) → From P (checkRefusal (numbering (groupingOf has) m))
 unfolding groupingOf
 of-map P zero m h = tt
 of-map P (suc k) m h = by-check P (byMap m) (h (λ z. omega arith) 1 number-1) (λ n q. h (λ z. omega arith) n (reason-number n q))
 
 -- nothing is wrong with a map that can be used
-pub map-passes : (has : ℕ) (m : List ℕ) → Usable has m → checkRefusal (numbering (groupingOf has) m) ≡ None
+map-passes : (has : ℕ) (m : List ℕ) → Usable has m → checkRefusal (numbering (groupingOf has) m) ≡ None
 unfolding groupingOf
 map-passes zero m u = refl
 map-passes (suc k) m u = ap verdictRefusal (u (λ z. omega arith) .2)
+
+pub of-call : (has : ℕ) (m : List ℕ) → Of has m (numbering (groupingOf has) m)
+of-call has m = record { numbers = λ P h. of-map P has m h; passes = map-passes has m }
+
+pub of-old : Of 0 [] byOldPrefixes
+of-old = record { numbers = λ P h. tt; passes = λ u. refl }
 
 -- ---- a group
 
@@ -64,27 +75,25 @@ none-there : (c : List ℕ) → length c ≢ 20 → candidateRefusal c ≡ Numbe
 unfolding valid
 none-there c n = rw (ne-eqb (length c) 20 n)
 
-groups : (has : ℕ) (m c : List ℕ) {r : ℕ} {entry exit : List ℕ}
-    → Hands (groupFound (netgroupOf (numbering (groupingOf has) m) c)) r entry exit → Groups has m c r entry exit
+groups : (has : ℕ) (m c : List ℕ) (n : Numbering) → Of has m n → {r : ℕ} {entry exit : List ℕ} → Hands (groupFound (netgroupOf n c)) r entry exit → Groups has m c r entry exit
 unfolding groupFound
-groups has m c h =
-    let n = numbering (groupingOf has) m in
+groups has m c n o h =
     record {
-      numbers = numbered (GroupNumber has) _ (group-numbers (GroupNumber has) (checkRefusal n) n c (inl refl) (of-map (GroupNumber has) has m (λ w k t. inr (w, t)))) h;
+      numbers = numbered (GroupNumber has) _ (group-numbers (GroupNumber has) (checkRefusal n) n c (inl refl) (o .numbers (GroupNumber has) (λ w k t. inr (w, t)))) h;
       no-candidate = λ e. refused-as _ (ap (λ (w : Refusal). groupFound (groupUnless (orElse w (checkRefusal n)) n c)) (none-there c e)) h;
-      answered = λ l k u. done-as _ (ap₂ (λ (v w : Refusal). groupFound (groupUnless (orElse v w) n c)) (candidate-passes c l k) (map-passes has m u)) h;
+      answered = λ l k u. done-as _ (ap₂ (λ (v w : Refusal). groupFound (groupUnless (orElse v w) n c)) (candidate-passes c l k) (o .passes u)) h;
       untouched = kept _ h;
     }
 
 -- what the caller of a group call concludes
 pub group-concluded : (has : ℕ) (m c : List ℕ) {r g g′ : ℕ} → Hands (groupFound (netgroupOf (numbering (groupingOf has) m) c)) r (g ∷ []) (g′ ∷ [])
     → (r ≡ 0 → Whole (numbering (groupingOf has) m) c (group.Group g′)) → (r ≡ 0 → Grouped has m c g′) × Groups has m c r (g ∷ []) (g′ ∷ [])
-group-concluded has m c h w = (grouped has (checkRefusal (numbering (groupingOf has) m)) m c h w, groups has m c h)
+group-concluded has m c h w =
+    (grouped has (checkRefusal (numbering (groupingOf has) m)) m c h w, groups has m c (numbering (groupingOf has) m) (of-call has m) h)
 
 pub prefix-concluded : (c : List ℕ) {r g g′ : ℕ} → Hands (groupFound (prefixGroupCall c)) r (g ∷ []) (g′ ∷ [])
-    → (r ≡ 0 → g′ ≡ prefixAt c 0) × Groups 0 [] c r (g ∷ []) (g′ ∷ [])
-unfolding groupingOf
-prefix-concluded c h = let q = group-concluded 0 [] c h (λ z. tt) in (λ z. q .0 z .by-prefix refl, q .1)
+    → (r ≡ 0 → g′ ≡ oldPrefixAt c 0) × Groups 0 [] c r (g ∷ []) (g′ ∷ [])
+prefix-concluded c h = (grouped-old c h, groups 0 [] c byOldPrefixes of-old h)
 
 -- the check refused, and nothing was written
 pub not-grouped : (m c : List ℕ) {r g : ℕ} {lent left : List ℕ} → Hands (mapChecked (checkOf m 128)) r lent left → (r ≡ 0 → ⊥)
@@ -169,22 +178,21 @@ module _ (ofMap : Refusal) (bytes occupied : List ℕ) (max : ℕ) (picks groups
         none-more (length groups) most 14 (none-later (refuseIf (ltb (length picks) most) 14) _ r),
       )
 
-picks : (has : ℕ) (m bytes occupied : List ℕ) (max : ℕ) (ps gs : List ℕ) {r : ℕ} {entry exit ps′ gs′ : List ℕ}
-    → call.Picks (selectDiverse (numbering (groupingOf has) m) bytes occupied max ps gs) r entry exit ps′ gs′
+picks : (has : ℕ) (m bytes occupied : List ℕ) (max : ℕ) (ps gs : List ℕ) (n : Numbering) → Of has m n → {r : ℕ} {entry exit ps′ gs′ : List ℕ}
+    → call.Picks (selectDiverse n bytes occupied max ps gs) r entry exit ps′ gs′
     → Picks has m bytes occupied max r entry exit ps ps′ gs gs′
-picks has m bytes occupied max ps gs p =
-    let n = numbering (groupingOf has) m in
+picks has m bytes occupied max ps gs n of p =
     let o = checkRefusal n in
     let why = pickRefusal o bytes occupied max ps gs in
     let P = PickNumber has in
     record {
-      numbers = numbered P _ (pick-numbers P bytes occupied max ps gs o n (inl refl) (inr (inl refl)) (inr (inr (inl refl))) (of-map P has m (λ w k t. inr (inr (inr (w, t)))))) (p .hands);
+      numbers = numbered P _ (pick-numbers P bytes occupied max ps gs o n (inl refl) (inr (inl refl)) (inr (inr (inl refl))) (of .numbers P (λ w k t. inr (inr (inr (w, t)))))) (p .hands);
       no-candidates = λ e. reason n bytes occupied max ps gs why (thirteen o bytes occupied max ps gs e) (p .hands);
       too-many = λ e l. reason n bytes occupied max ps gs why (twelve o bytes occupied max ps gs e l) (p .hands);
       too-occupied = λ e k l. reason n bytes occupied max ps gs why (twelve-occupied o bytes occupied max ps gs e k l) (p .hands);
       room = λ z. roomy o bytes occupied max ps gs (no-reason n bytes occupied max ps gs why (p .hands) z);
       answered = λ e k l v u a b.
-          done-by n bytes occupied max ps gs why (passes o bytes occupied max ps gs e k l (candidates-valid bytes v) (map-passes has m u) a b) (p .hands);
+          done-by n bytes occupied max ps gs why (passes o bytes occupied max ps gs e k l (candidates-valid bytes v) (of .passes u) a b) (p .hands);
       untouched = kept _ (p .hands);
       picks-untouched = λ k. left-alone n bytes occupied max ps gs why p k .0;
       groups-untouched = λ k. left-alone n bytes occupied max ps gs why p k .1;
@@ -211,7 +219,9 @@ module _ (m bytes occupied : List ℕ) (max : ℕ) (ps gs : List ℕ) {r total t
       → (r ≡ 0 → Unaborted (numbering (groupingOf has) m) (candidatesOf bytes) (pick.Picked (totalsOf total taken examined instructions)))
       → (r ≡ 0 → Picked m bytes occupied max ps′ gs′ taken examined instructions has)
       × Picks has m bytes occupied max r entry (total ∷ taken ∷ examined ∷ instructions ∷ []) ps ps′ gs gs′
-  pick-concluded has p d u = (picked-as (checkRefusal (numbering (groupingOf has) m)) m bytes occupied max ps gs has p d u, picks has m bytes occupied max ps gs p)
+  pick-concluded has p d u =
+      let n = numbering (groupingOf has) m in
+      (picked-as (checkRefusal n) m bytes occupied max ps gs has p d u, picks has m bytes occupied max ps gs n (of-call has m) p)
 
   -- the check answered q, 0
   pub loaded-pick-concluded : {q k d : ℕ} {lent : List ℕ} → Hands (mapChecked (checkOf m 128)) q lent (k ∷ d ∷ []) → q ≡ 0
@@ -222,6 +232,14 @@ module _ (m bytes occupied : List ℕ) (max : ℕ) (ps gs : List ℕ) {r total t
       × LoadedPicks r entry (total ∷ taken ∷ examined ∷ instructions ∷ []) ps ps′ gs gs′
   loaded-pick-concluded v z p d u =
       (picked-loaded (limitRefusal (numbering (groupingOf 1) m)) m bytes occupied max ps gs (unrefused m v z) p d u, loaded-picks m bytes occupied max ps gs p)
+
+-- in the old numbering
+pub old-pick-concluded : (bytes occupied : List ℕ) (max : ℕ) (ps gs : List ℕ) {r total taken examined instructions : ℕ} {entry ps′ gs′ : List ℕ}
+    → call.Picks (oldPrefixPick bytes occupied max ps gs) r entry (total ∷ taken ∷ examined ∷ instructions ∷ []) ps′ gs′
+    → (r ≡ 0 → Demand3 byOldPrefixes (candidatesOf bytes) occupied max (pick.Picked (totalsOf total taken examined instructions)) ps′ gs′)
+    → (r ≡ 0 → ByPrefixes (oldPrefixAt bytes) bytes occupied max ps′ gs′ taken examined instructions)
+    × Picks 0 [] bytes occupied max r entry (total ∷ taken ∷ examined ∷ instructions ∷ []) ps ps′ gs gs′
+old-pick-concluded bytes occupied max ps gs p d = (picked-old None [] bytes occupied max ps gs p d, picks 0 [] bytes occupied max ps gs byOldPrefixes of-old p)
 
 -- the check refused, and nothing was written
 pub not-picked : (m bytes occupied : List ℕ) (max : ℕ) (ps gs : List ℕ) {r total taken examined instructions : ℕ} {lent left : List ℕ} → Hands (mapChecked (checkOf m 128)) r lent left → (r ≡ 0 → ⊥)

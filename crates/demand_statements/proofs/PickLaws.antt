@@ -11,10 +11,10 @@ use Rattle.asmap_walk_bits.specs.Walk.{walkOf}
 use Rattle.peer_lists.specs.declared.Refusal.{Refusal}
 use Rattle.peer_lists.specs.declared.Refusal.the-variants.{None, Number}
 use Rattle.netgroup.specs.declared.GroupAnswer.the-variants as group
-use Rattle.netgroup.specs.Group.{Numbering, byMap, byPrefixes, numbering, groupOf, walkFor}
+use Rattle.netgroup.specs.Group.{Numbering, byMap, byPrefixes, byOldPrefixes, numbering, groupOf, walkFor}
 use Rattle.netgroup.specs.Refusal.{verdictRefusal, checkRefusal}
 use Rattle.peer_lists.specs.Refusal.{orElse, candidateRefusal}
-use Rattle.netgroup.specs.Netgroup.{groupUnless, groupCall, Whole}
+use Rattle.netgroup.specs.Netgroup.{groupUnless, groupCall, prefixGroupCall, Whole}
 use Rattle.netgroup.specs.Ended.{Finished}
 use Rattle.netgroup_pick.specs.declared.PickAnswer.{PickAnswer}
 use Rattle.netgroup_pick.specs.declared.PickAnswer.the-variants as pick
@@ -23,16 +23,16 @@ use Rattle.pick_passes.specs.First.{begin, firstPass}
 use Rattle.netgroup_pick.specs.Pick.{pickUnless, pickCall}
 use Rattle.pick_passes.specs.Ranked.{first, groupsOf, sum}
 use Rattle.netgroup_pick.specs.PickRefusal.{pickRefusal}
-use Rattle.netgroup_pick.specs.Demand.{Demand3, Unaborted}
+use Rattle.netgroup_pick.specs.Demand.{walkCounts, Demand3, Unaborted}
 use Rattle.peer_lists.proofs.Lists.{candidate-at, length-candidates}
 use Rattle.pick_passes.proofs.Lists.{length-groups}
 use Rattle.answer_outcome.specs.Outcome.{Hands}
 use Rattle.answer_maps.specs.Maps.{mapChecked}
 use Rattle.answer_groups.specs.Groups.{groupingOf, groupFound, totalsOf, Picks}
 use Rattle.answers.proofs.Promised.{found, picked}
-use Rattle.demand_statements.specs.Picked.{walkAt, prefixAt, Ends, Grouped, Passed, ByMap, ByPrefixes, Picked}
+use Rattle.demand_statements.specs.Picked.{walkAt, prefixAt, oldPrefixAt, Ends, Grouped, Passed, ByMap, ByPrefixes, Picked}
 use Rattle.demand_statements.proofs.AnswerLaws.{accepted}
-use Rattle.demand_statements.proofs.CandidateLaws.{address-at, prefix-of, prefix-at, each-candidate, pass-examined}
+use Rattle.demand_statements.proofs.CandidateLaws.{address-at, prefix-of, prefix-at, old-prefix-of, old-prefix-at, each-candidate, pass-examined}
 
 -- ---- the walk behind a group
 
@@ -65,6 +65,10 @@ grouped zero ofMap m c {r} {g} h w z =
 grouped (suc k) ofMap m c {r} {g} h w z =
     let e = same-group (orElse (candidateRefusal c) ofMap) (byMap m) c g (found (groupCall ofMap (byMap m) c) h z) in
     record { by-map = λ n. (e, ends m c (w z)); by-prefix = λ y. absurd (omega arith) }
+
+-- in the old numbering
+pub grouped-old : (c : List ℕ) {r g : ℕ} {lent : List ℕ} → Hands (groupFound (prefixGroupCall c)) r lent (g ∷ []) → r ≡ 0 → g ≡ oldPrefixAt c 0
+grouped-old c {r} {g} h z = same-group (orElse (candidateRefusal c) None) byOldPrefixes c g (found (prefixGroupCall c) h z) ∙ old-prefix-of c
 
 -- by a map that was checked before
 pub grouped-loaded : (ofMap : Refusal) (m c : List ℕ) {r g : ℕ} {lent : List ℕ} → checkRefusal (byMap m) ≡ None
@@ -117,14 +121,21 @@ module _ (ofMap : Refusal) (m bytes occupied : List ℕ) (max : ℕ) (picks₀ g
         ends = λ i h. ends-at m bytes i (subst (Finished m) (candidate-at bytes i (within (byMap m) p d z h)) (u z i h));
       }
 
-  picked-by-prefix : Picks (pickCall ofMap byPrefixes bytes occupied max picks₀ groups₀) r lent (total ∷ taken ∷ examined ∷ instructions ∷ []) picks groups
-      → (r ≡ 0 → Demand3 byPrefixes (candidatesOf bytes) occupied max (pick.Picked (totalsOf total taken examined instructions)) picks groups)
-      → r ≡ 0 → ByPrefixes m bytes occupied max picks groups taken examined instructions
-  picked-by-prefix p d z =
+  -- n: of which numbering
+  picked-by-prefix : (n : Numbering) (prefix : ℕ → ℕ) → walkCounts n (candidatesOf bytes) ≡ [] → ((i : ℕ) → groupOf n (take 20 (drop (20 * i) bytes)) ≡ prefix i)
+      → Picks (pickCall ofMap n bytes occupied max picks₀ groups₀) r lent (total ∷ taken ∷ examined ∷ instructions ∷ []) picks groups
+      → (r ≡ 0 → Demand3 n (candidatesOf bytes) occupied max (pick.Picked (totalsOf total taken examined instructions)) picks groups)
+      → r ≡ 0 → ByPrefixes prefix bytes occupied max picks groups taken examined instructions
+  picked-by-prefix n prefix none at p d z =
       record {
-        passed = passed byPrefixes p d z _ (each-candidate (groupOf byPrefixes) (prefixAt bytes) (length bytes / 20) bytes (prefix-at bytes));
-        counted = d z .instructions ∙ ap sum (take-nil examined);
+        passed = passed n p d z _ (each-candidate (groupOf n) prefix (length bytes / 20) bytes at);
+        counted = d z .instructions ∙ ap (λ (l : List ℕ). sum (take examined l)) none ∙ ap sum (take-nil examined);
       }
+
+  pub picked-old : Picks (pickCall ofMap byOldPrefixes bytes occupied max picks₀ groups₀) r lent (total ∷ taken ∷ examined ∷ instructions ∷ []) picks groups
+      → (r ≡ 0 → Demand3 byOldPrefixes (candidatesOf bytes) occupied max (pick.Picked (totalsOf total taken examined instructions)) picks groups)
+      → r ≡ 0 → ByPrefixes (oldPrefixAt bytes) bytes occupied max picks groups taken examined instructions
+  picked-old = picked-by-prefix byOldPrefixes (oldPrefixAt bytes) refl (old-prefix-at bytes)
 
   pub picked-as : (has : ℕ)
       → Picks (pickCall ofMap (numbering (groupingOf has) m) bytes occupied max picks₀ groups₀) r lent (total ∷ taken ∷ examined ∷ instructions ∷ []) picks groups
@@ -132,7 +143,7 @@ module _ (ofMap : Refusal) (m bytes occupied : List ℕ) (max : ℕ) (picks₀ g
       → (r ≡ 0 → Unaborted (numbering (groupingOf has) m) (candidatesOf bytes) (pick.Picked (totalsOf total taken examined instructions)))
       → r ≡ 0 → Picked m bytes occupied max picks groups taken examined instructions has
   unfolding groupingOf
-  picked-as zero p d u z = record { by-map = λ n. absurd (n refl); by-prefix = λ y. picked-by-prefix p d z }
+  picked-as zero p d u z = record { by-map = λ n. absurd (n refl); by-prefix = λ y. picked-by-prefix byPrefixes (prefixAt bytes) refl (prefix-at bytes) p d z }
   picked-as (suc k) p d u z = record { by-map = λ n. picked-by-map p d u z; by-prefix = λ y. absurd (omega arith) }
 
   -- by a map that was checked before

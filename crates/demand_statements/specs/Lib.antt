@@ -1,6 +1,7 @@
 pub mod AnyInput
 pub mod Walked
 pub mod Picked
+pub mod Apart
 pub mod Same
 pub mod Listed
 pub mod Loaded

@@ -3,9 +3,9 @@
 //
 // A contract here uses no definition of the project but the check (`checkOf`), the place where it stops (`stopOf`, `StopsAt`), the walk
 // (`walkOf`), the unpacked list (`unpacked`), the first pass (`firstPass`), the draws (`next`, `draw`) with the load made of them (`loadOf`), and Core's
-// functions (`coreCheck`, `coreInterpret`, its four decoders), with how these take bytes (`mapOf`, `fileOf`, `addressBit`). All else is numbers, bytes and equations, in
+// functions (`coreCheck`, `coreInterpret`, its four decoders), with how these take bytes (`mapOf`, `fileOf`, `addressBit`) and when rows of bytes are equal (`same`). All else is numbers, bytes and equations, in
 // `demand_statements/specs`. Each is proved from the contracts of the exported calls and from laws about those definitions
-// (`demand_statements/proofs`); no code below them is looked at. So what a contract there no longer says is refused here. All 39 exported
+// (`demand_statements/proofs`); no code below them is looked at. So what a contract there no longer says is refused here. All 41 exported
 // calls have a caller.
 //
 // Demand 1, any input: `any_input`, and `refused` in `picks` and `pages`. Maps, addresses, lists and lengths of every kind get an answer, 0, or one
@@ -17,7 +17,7 @@
 //
 // Demand 3, what an accepted map can never do: `walks` and `picks`. No walk aborts; each ends as the defined walk does, at a RETURN or at
 // a difference, within 2 × bits + 1 instructions, so within 257, each of them in the unpacked list and among the bytes that unpack
-// writes. A number 0 is that of a difference before any DEFAULT was read. A pick's first pass is the defined one, with as many
+// writes. A number 0 is that of a difference before any DEFAULT was read. A pick's first pass is the defined one by the numbering of the call, with as many
 // candidates examined, and as many instructions as the defined walks of those candidates read.
 //
 // Request 1, every prefix that a map tells apart: `lists`. The records written tile all addresses, and the one in which an address lies has the
@@ -38,12 +38,17 @@
 // address bits from the pairs on, and every address that begins with the MATCH bits walks each instruction. No draw is 0, so none is refused but
 // the seed.
 //
+// Request 7, IPv4 prefixes with a number range to themselves: `numberings`. Without a map no IPv4 address, mapped or not, shares a group with any other IPv6
+// address, and two share one exactly where they share their first two bytes; what becomes of a group of the old numbering. The calls that keep it are in
+// `picks` (`group_by_prefix`, `pick_by_old_prefixes`) and `pages` (`page_by_old_prefixes`).
+//
 // Two maps compared: `comparisons`. Where a comparison needs no byte, the two walks by any address end with the same number.
 pub mod any_input;
 pub mod comparisons;
 pub mod cuts;
 pub mod lists;
 pub mod loads;
+pub mod numberings;
 pub mod pages;
 pub mod picks;
 pub mod same;

@@ -1,10 +1,14 @@
 // Request 4 (`demand_statements/specs/Printed`), and demand 1 for its calls (ensures refused, `specs/AnyInput` there). A `has_map` of 0 is without
 // a map.
 ghost use mathlib.Core.Path.{_≡_};
-ghost use lib.ListN.{take};
+ghost use mathlib.Core.List.{[]};
+ghost use Prim.Native.Nat.{_/_};
+ghost use lib.ListN.{length, take};
 ghost use Rattle.demand_statements.specs.AnyInput.{Pages, LoadedPages};
-ghost use Rattle.demand_statements.specs.Printed.{Paged, PrintedByMap};
+ghost use Rattle.demand_statements.specs.Picked.{each, oldPrefixAt};
+ghost use Rattle.demand_statements.specs.Printed.{Printed, Paged, PrintedByMap};
 use corbastrigo::maps::corbastrigo_sanity_check;
+use corbastrigo::pages::corbastrigo_old_prefix_page;
 use corbastrigo::pages::corbastrigo_page;
 use corbastrigo::pages::corbastrigo_page_unchecked;
 
@@ -34,4 +38,12 @@ pub fn page_by_loaded_map(candidates: &[u8], map: &[u8], out: &mut [u8], written
         return refused;
     }
     corbastrigo_page_unchecked(candidates, 1, map, out, written)
+}
+
+// A page by prefixes in the old numbering.
+pub fn page_by_old_prefixes(candidates: &[u8], out: &mut [u8], written: &mut usize) -> u8
+    ensures { λ r. ⌜ (r ≡ 0 → Printed (each (length (now (candidates .entry)) / 20) (oldPrefixAt (now (candidates .entry)))) (take (now (written .exit)) (now (out .exit)))) ⌝ }
+    ensures refused { λ r. ⌜ Pages 0 [] (now (candidates .entry)) (now (out .entry)) (now (out .exit)) r (now (written .entry)) (now (written .exit)) ⌝ }
+{
+    corbastrigo_old_prefix_page(candidates, out, written)
 }

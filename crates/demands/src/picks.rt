@@ -3,9 +3,10 @@
 ghost use mathlib.Core.Path.{_≡_};
 ghost use mathlib.Core.List.{_∷_, []};
 ghost use Rattle.demand_statements.specs.AnyInput.{Groups, LoadedGroups, Picks, LoadedPicks};
-ghost use Rattle.demand_statements.specs.Picked.{prefixAt, Grouped, Picked, ByMap};
+ghost use Rattle.demand_statements.specs.Picked.{oldPrefixAt, Grouped, Picked, ByMap, ByPrefixes};
 use corbastrigo::groups::corbastrigo_netgroup;
 use corbastrigo::groups::corbastrigo_netgroup_unchecked;
+use corbastrigo::groups::corbastrigo_old_prefix_pick;
 use corbastrigo::groups::corbastrigo_prefix_group;
 use corbastrigo::groups::corbastrigo_select_diverse;
 use corbastrigo::groups::corbastrigo_select_diverse_unchecked;
@@ -33,9 +34,9 @@ pub fn group_by_loaded_map(candidate: &[u8], map: &[u8], group: &mut u64) -> u8
     corbastrigo_netgroup_unchecked(candidate, 1, map, group)
 }
 
-// A candidate's group by its prefix.
+// A candidate's group by its prefix, in the old numbering.
 pub fn group_by_prefix(candidate: &[u8], group: &mut u64) -> u8
-    ensures { λ r. ⌜ (r ≡ 0 → now (group .exit) ≡ prefixAt (now (candidate .entry)) 0) ⌝ }
+    ensures { λ r. ⌜ (r ≡ 0 → now (group .exit) ≡ oldPrefixAt (now (candidate .entry)) 0) ⌝ }
     ensures refused { λ r. ⌜ Groups 0 [] (now (candidate .entry)) r (now (group .entry) ∷ []) (now (group .exit) ∷ []) ⌝ }
 {
     corbastrigo_prefix_group(candidate, group)
@@ -101,6 +102,34 @@ pub fn pick_by_loaded_map(
         max,
         1,
         map,
+        picks,
+        groups,
+        total,
+        first,
+        examined,
+        instructions,
+    )
+}
+
+// A pick by prefixes in the old numbering: its first pass is the defined one over those.
+pub fn pick_by_old_prefixes(
+    candidates: &[u8],
+    occupied: &[u64],
+    max: usize,
+    picks: &mut [u16],
+    groups: &mut [u64],
+    total: &mut usize,
+    first: &mut usize,
+    examined: &mut usize,
+    instructions: &mut u64,
+) -> u8
+    ensures { λ r. ⌜ (r ≡ 0 → ByPrefixes (oldPrefixAt (now (candidates .entry))) (now (candidates .entry)) (now (occupied .entry)) max (now (picks .exit)) (now (groups .exit)) (now (first .exit)) (now (examined .exit)) (now (instructions .exit))) ⌝ }
+    ensures refused { λ r. ⌜ Picks 0 [] (now (candidates .entry)) (now (occupied .entry)) max r (now (total .entry) ∷ now (first .entry) ∷ now (examined .entry) ∷ now (instructions .entry) ∷ []) (now (total .exit) ∷ now (first .exit) ∷ now (examined .exit) ∷ now (instructions .exit) ∷ []) (now (picks .entry)) (now (picks .exit)) (now (groups .entry)) (now (groups .exit)) ⌝ }
+{
+    corbastrigo_old_prefix_pick(
+        candidates,
+        occupied,
+        max,
         picks,
         groups,
         total,
