@@ -20,11 +20,12 @@ use replay_words::number;
 use replay_words::wide;
 use replay_words::word;
 
-// What groups go by: 0 without a map, 1 with one.
+// What groups go by: 0 without a map, 1 with one, 2 without one in the old numbering of prefixes.
 pub fn grouping_of(n: u8) -> Grouping {
     match n {
         0 => Grouping::Prefixes,
-        _ => Grouping::Map,
+        1 => Grouping::Map,
+        _ => Grouping::OldPrefixes,
     }
 }
 
@@ -50,7 +51,7 @@ fn group_by(candidate: &[u8], by: u8, map: &[u8], checked: bool) -> GroupAnswer 
 
 pub fn group(bytes: &[u8], words: Words, checked: bool) -> Seen {
     let by = byte(bytes, words, 0);
-    if 1 < by {
+    if 2 < by {
         return Seen::Unread;
     }
     let got = group_by(word(bytes, words, 1), by, word(bytes, words, 2), checked);
@@ -149,7 +150,7 @@ fn picked(got: PickAnswer) -> Out {
     }
 }
 
-// A pick by 0 or 1 as above, or by 2 or 3 with a map that is not checked.
+// A pick by what groups go by, and 3 more where the map is not checked. The old numbering has a call of its own.
 fn pick_by(
     list: &[u8],
     occupied: &[u64],
@@ -159,8 +160,8 @@ fn pick_by(
     places: &mut [u16],
     groups: &mut [u64],
 ) -> PickAnswer {
-    let grouping = grouping_of(by % 2);
-    if 1 < by {
+    let grouping = grouping_of(by % 3);
+    if 2 < by {
         return netgroup_pick::select_diverse_unchecked(
             list,
             occupied,
@@ -170,6 +171,9 @@ fn pick_by(
             places,
             groups,
         );
+    }
+    if by == 2 {
+        return netgroup_pick::old_prefix_pick(list, occupied, max, places, groups);
     }
     netgroup_pick::select_diverse(list, occupied, max, grouping, map, places, groups)
 }
@@ -230,12 +234,12 @@ fn pick_beside(bytes: &[u8], words: Words, by: u8, occupied: &[u64]) -> Seen {
     )
 }
 
-// A pick by a map that is checked, or is not, 2.
+// A pick by a map that is checked, or is not, 3.
 pub fn pick(bytes: &[u8], words: Words, unchecked: u8) -> Seen
-    requires { ⌜ unchecked ≤ 2 ⌝ }
+    requires { ⌜ unchecked ≤ 3 ⌝ }
 {
     let by = byte(bytes, words, 0);
-    if 1 < by {
+    if 2 < by {
         return Seen::Unread;
     }
     let occupied = word(bytes, words, 2);

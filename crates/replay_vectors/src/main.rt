@@ -211,7 +211,7 @@ fn replay_peers(kind: usize, bytes: &[u8], words: Words) -> Seen {
         23 => group(bytes, words, true),
         24 => group(bytes, words, false),
         25 => pick(bytes, words, 0),
-        26 => pick(bytes, words, 2),
+        26 => pick(bytes, words, 3),
         27 => scan(bytes, words),
         28 => page(bytes, words, true),
         _ => page(bytes, words, false),

@@ -9,12 +9,15 @@ use replay_words::Words;
 use replay_words::byte;
 use replay_words::word;
 
-// By a map that is checked, or is not.
+// By a map that is checked, or is not. The old numbering of prefixes has a call of its own.
 fn page_by(list: &[u8], by: u8, map: &[u8], checked: bool, out: &mut [u8]) -> Answer {
-    if checked {
-        return spread_page::page(list, grouping_of(by), map, out);
+    if !checked {
+        return spread_page::page_unchecked(list, grouping_of(by), map, out);
     }
-    spread_page::page_unchecked(list, grouping_of(by), map, out)
+    if by == 2 {
+        return spread_page::old_prefix_page(list, out);
+    }
+    spread_page::page(list, grouping_of(by), map, out)
 }
 
 fn compared_page(bytes: &[u8], words: Words, by: u8, checked: bool, out: &mut [u8]) -> Seen {
@@ -35,7 +38,7 @@ fn compared_page(bytes: &[u8], words: Words, by: u8, checked: bool, out: &mut [u
 // The output is as long as the list's, which is what it holds at exit; at entry it holds ee in every byte.
 pub fn page(bytes: &[u8], words: Words, checked: bool) -> Seen {
     let by = byte(bytes, words, 0);
-    if 1 < by {
+    if 2 < by {
         return Seen::Unread;
     }
     let mut room = [238u8; 8192];
