@@ -124,6 +124,9 @@ CORBASTRIGO_INLINE const char *corbastrigo_reason(uint8_t answer) {
 #define CORBASTRIGO_CHANGE_RECORD_BYTES 28
 #define CORBASTRIGO_PAGE_LINE_BYTES 25
 
+/* The first group of IPv4 without a map, by the new numbering: those of IPv6 are all below. */
+#define CORBASTRIGO_IPV4_GROUPS 4294967296u
+
 /* The seed that a load has where nobody names another, the most pairs of a load, and the bytes that are enough for every load. */
 #define CORBASTRIGO_DEFAULT_SEED 1
 #define CORBASTRIGO_MAX_PAIRS 128
@@ -274,12 +277,22 @@ uint8_t corbastrigo_compare_bytes_bits(const uint8_t *old_map, size_t old_map_le
 
 /* ---- Groups, picks and pages. A candidate is 20 bytes: family 4 or 6, a zero, 16 address bytes (family 4: in the mapped form), the
  * port big-endian. `has_map` 0 is without a map: then `map` is not looked at (hand over NULL and 0), and a group is the prefix of the
- * address. Any other number is with it. */
+ * address by the new numbering. Any other number is with it.
+ *
+ * The new numbering: an IPv4 address a.b.c.d, of family 4 or mapped in family 6, has the group CORBASTRIGO_IPV4_GROUPS + 256 * a + b; any
+ * other IPv6 address has its first four bytes, big-endian, which is less. So IPv4 never shares a group with IPv6, two IPv4 addresses
+ * share one just where their first two bytes are the same, and 0 is the group of an IPv6 address alone, under ::/32.
+ *
+ * The old numbering is there for nodes that stored old groups, until they have made them again: 256 * a + b of family 4, the first four
+ * bytes of family 6, so 0 of every mapped address. corbastrigo_prefix_group, corbastrigo_old_prefix_pick and corbastrigo_old_prefix_page
+ * go by it, and no other call. Groups of the two numberings do not belong in one list: an old 258 is 1.2.0.0/16 or 0:102::/32, and
+ * the number does not tell which (docs/SWITCHING.md says how to go over). */
 
-/* The group without a map: 256 * a + b of an IPv4 address a.b.c.d, the first four bytes of an IPv6 address. Refusal 13. */
+/* The group of a candidate without a map by the old numbering. Refusal 13. */
 uint8_t corbastrigo_prefix_group(const uint8_t *candidate, size_t candidate_len, uint64_t *group);
 
-/* The group of a candidate; with a map the number of its walk. Refusals 13, then with a map the check's. */
+/* The group of a candidate: without a map its prefix by the new numbering, with a map the number of its walk. Refusals 13, then with a map
+ * the check's. */
 uint8_t corbastrigo_netgroup(const uint8_t *candidate, size_t candidate_len, uint8_t has_map, const uint8_t *map, size_t map_len,
                              uint64_t *group);
 
@@ -312,6 +325,13 @@ uint8_t corbastrigo_select_diverse_unchecked(const uint8_t *candidates, size_t c
                                              size_t groups_len, size_t *total, size_t *first, size_t *examined,
                                              uint64_t *instructions);
 
+/* The pick without a map by the old numbering, for nodes whose occupied groups are old ones. It is corbastrigo_select_diverse with
+ * `has_map` 0 but for the groups: those of `occupied` are old ones, and so are those that it writes. `*instructions` becomes 0. Refusals 13
+ * for the length, 12, 13, 14. */
+uint8_t corbastrigo_old_prefix_pick(const uint8_t *candidates, size_t candidates_len, const uint64_t *occupied, size_t occupied_len,
+                                    size_t max, uint16_t *picks, size_t picks_len, uint64_t *groups, size_t groups_len,
+                                    size_t *total, size_t *first, size_t *examined, uint64_t *instructions);
+
 /* Writes how candidates spread over groups, as lines of text to print. Groups rise; a line has the group right-aligned in 10 columns, a
  * space, its candidates right-aligned in 6, a space, their per cent of all with one decimal right-aligned in 6, and a line feed: 25 bytes.
  * No zero ends the text, and an empty list has none. The per cent is 100 * candidates of the group / all, rounded to a tenth, halves
@@ -325,6 +345,10 @@ uint8_t corbastrigo_page(const uint8_t *candidates, size_t candidates_len, uint8
  * map that the check refuses a walk may abort; its candidate has group 0 then. */
 uint8_t corbastrigo_page_unchecked(const uint8_t *candidates, size_t candidates_len, uint8_t has_map, const uint8_t *map, size_t map_len,
                                    uint8_t *out, size_t out_len, size_t *written);
+
+/* The page without a map by the old numbering: corbastrigo_page with `has_map` 0 but for the groups. Refusals 13 for the length, 12, 13,
+ * 14. */
+uint8_t corbastrigo_old_prefix_page(const uint8_t *candidates, size_t candidates_len, uint8_t *out, size_t out_len, size_t *written);
 
 /* ---- Filters */
 

@@ -16,6 +16,9 @@ pub const CHANGE_RECORD_BYTES: usize = 28;
 /// The bytes of a line of `corbastrigo_page`: the group in 10 columns, a space, its candidates in 6, a space, the per cent in 6, a line feed.
 pub const PAGE_LINE_BYTES: usize = 25;
 
+/// The first group of IPv4 without a map, by the new numbering: 256 * a + b more is the group of a.b.c.d. Those of IPv6 are all below.
+pub const IPV4_GROUPS: u64 = 4_294_967_296;
+
 /// What a comparison adds to the check's reason where it refuses the new map: 101 to 110 and 119.
 pub const NEW_MAP: u8 = 100;
 
@@ -55,7 +58,7 @@ pub type Records = unsafe extern "C" fn(*const u8, usize, *mut u8, usize, *mut u
 /// Records that are made of a map over a number of address bits, which stands behind the map.
 pub type RecordsBits = unsafe extern "C" fn(*const u8, usize, u32, *mut u8, usize, *mut usize) -> u8;
 
-/// The group of one candidate.
+/// The group of one candidate, by a map or by prefixes in the new numbering.
 pub type Netgroup = unsafe extern "C" fn(*const u8, usize, u8, *const u8, usize, *mut u64) -> u8;
 
 /// A pick: candidates, occupied groups, max, map or none; then picks, groups and the four totals.
@@ -211,9 +214,9 @@ extern "C" {
         first_len: usize,
         bytes: *mut usize,
     ) -> u8;
-    /// The group of a candidate without a map.
+    /// The group of a candidate without a map, by the old numbering.
     pub fn corbastrigo_prefix_group(candidate: *const u8, candidate_len: usize, group: *mut u64) -> u8;
-    /// The group of a candidate; a map is checked first.
+    /// The group of a candidate; a map is checked first. Without one it is the prefix by the new numbering, here and below.
     pub fn corbastrigo_netgroup(
         candidate: *const u8,
         candidate_len: usize,
@@ -278,6 +281,22 @@ extern "C" {
         examined: *mut usize,
         instructions: *mut u64,
     ) -> u8;
+    /// Picks candidates spread over prefixes by the old numbering, which the occupied groups have too.
+    pub fn corbastrigo_old_prefix_pick(
+        candidates: *const u8,
+        candidates_len: usize,
+        occupied: *const u64,
+        occupied_len: usize,
+        max: usize,
+        picks: *mut u16,
+        picks_len: usize,
+        groups: *mut u64,
+        groups_len: usize,
+        total: *mut usize,
+        first: *mut usize,
+        examined: *mut usize,
+        instructions: *mut u64,
+    ) -> u8;
     /// Writes how candidates spread over groups, a line of 25 bytes for each group; a map is checked first.
     pub fn corbastrigo_page(
         candidates: *const u8,
@@ -296,6 +315,14 @@ extern "C" {
         has_map: u8,
         map: *const u8,
         map_len: usize,
+        out: *mut u8,
+        out_len: usize,
+        written: *mut usize,
+    ) -> u8;
+    /// Writes how candidates spread over prefixes by the old numbering.
+    pub fn corbastrigo_old_prefix_page(
+        candidates: *const u8,
+        candidates_len: usize,
         out: *mut u8,
         out_len: usize,
         written: *mut usize,

@@ -1,7 +1,7 @@
 //! What is written here twice: the header's calls, each with the types of its parameters in their order, and its numbers.
 use corbastrigo_sys::{
-    CHANGE_RECORD_BYTES, CUT_OPCODE, CUT_OPERAND, DEFAULT_SEED, DIFFERED, LOAD_BYTES, MAX_PAIRS, NEW_MAP, PAGE_LINE_BYTES,
-    RETURNED, TOO_FEW_BITS,
+    CHANGE_RECORD_BYTES, CUT_OPCODE, CUT_OPERAND, DEFAULT_SEED, DIFFERED, IPV4_GROUPS, LOAD_BYTES, MAX_PAIRS, NEW_MAP,
+    PAGE_LINE_BYTES, RETURNED, TOO_FEW_BITS,
 };
 use std::collections::BTreeMap;
 
@@ -44,14 +44,15 @@ fn every_call_of_the_header_is_declared_with_its_types() {
 
 #[test]
 fn a_constant_has_the_headers_number() {
-    // What the header defines, or lists among the refusals; a comment may stand behind it.
+    // What the header defines, or lists among the refusals; a comment may stand behind it, or the letter of an unsigned number.
     let defined = |name: &str| {
         let (define, refusal) = (format!("#define CORBASTRIGO_{name} "), format!("CORBASTRIGO_{name} = "));
         let number = |line: &'static str| line.trim().strip_prefix(&define).or(line.trim().strip_prefix(&refusal));
-        HEADER.lines().find_map(number)?.split([' ', ',']).next()?.parse::<usize>().ok()
+        HEADER.lines().find_map(number)?.split([' ', ',', 'u']).next()?.parse::<usize>().ok()
     };
     assert_eq!(defined("CHANGE_RECORD_BYTES"), Some(CHANGE_RECORD_BYTES));
     assert_eq!(defined("PAGE_LINE_BYTES"), Some(PAGE_LINE_BYTES));
+    assert_eq!(defined("IPV4_GROUPS").map(|first| first as u64), Some(IPV4_GROUPS));
     assert_eq!(defined("DEFAULT_SEED").map(|seed| seed as u64), Some(DEFAULT_SEED));
     assert_eq!(defined("MAX_PAIRS"), Some(MAX_PAIRS));
     assert_eq!(defined("LOAD_BYTES"), Some(LOAD_BYTES));
