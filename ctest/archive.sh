@@ -34,7 +34,7 @@ stack() {
     cut -d' ' -f1 "$work/stack" | sort | cmp -s - "$work/declared" || complain "the stack of some call was not read"
     over=$(awk -v pick="$(./macro.sh CORBASTRIGO_PICK_STACK_BYTES)" -v two="$(./macro.sh CORBASTRIGO_COMPARE_STACK_BYTES)" \
         -v page="$(./macro.sh CORBASTRIGO_PAGE_STACK_BYTES)" -v other="$(./macro.sh CORBASTRIGO_STACK_BYTES)" \
-        '$2 + 0 >= ($1 ~ /_page/ ? page : $1 ~ /_select_/ ? pick : $1 ~ /_compare/ ? two : other) + 0' "$work/stack")
+        '$2 + 0 >= ($1 ~ /_page/ ? page : $1 ~ /_select_|_pick$/ ? pick : $1 ~ /_compare/ ? two : other) + 0' "$work/stack")
     [ -z "$over" ] || complain "it takes as much stack as the header's bound, or more: $over"
     most=$(sort -n -k 2 "$work/stack" | tail -n 1 | cut -d' ' -f2)
 }

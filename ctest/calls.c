@@ -1,6 +1,7 @@
 /* Every call of the header once done and once refused, from C. Exits with 1 where an answer differs from the one written here. The numbers
  * are chosen so that no two parameters of a call can be exchanged unseen (swaps.c). */
 #include "cases.h"
+#include "old.h"
 
 static const uint8_t none[1] = {0};
 
@@ -642,9 +643,70 @@ static void groups(void) {
     IS(corbastrigo_netgroup(peer, 20, 1, two_prefixes, 35, &group), 0);
     IS(group, 2);
     IS(corbastrigo_netgroup(peer, 20, 0, two_prefixes, 35, &group), 0);
-    IS(group, 772);
+    IS(group, CORBASTRIGO_IPV4_GROUPS + 772);
     IS(corbastrigo_netgroup_unchecked(peer, 20, 255, two_prefixes, 35, &group), 0);
     IS(group, 2);
+}
+
+/* A candidate's group in every call that has one: the old number or the new. A pick of one and a page of one tell it too. */
+static void numbered(const uint8_t *peer, uint64_t old_number, uint64_t new_number) {
+    static selection *const selections[] = {old_pick, corbastrigo_select_diverse, corbastrigo_select_diverse_unchecked};
+    static printing *const printings[] = {old_page, corbastrigo_page, corbastrigo_page_unchecked};
+    uint64_t group = BEFORE(1), taken[1], instructions;
+    size_t total, first, examined, written;
+    uint16_t places[1];
+    uint8_t out[25];
+    char line[26];
+    IS(corbastrigo_prefix_group(peer, 20, &group), 0);
+    IS(group, old_number);
+    IS(corbastrigo_netgroup(peer, 20, 0, NULL, 0, &group), 0);
+    IS(group, new_number);
+    group = BEFORE(1);
+    IS(corbastrigo_netgroup_unchecked(peer, 20, 0, NULL, 0, &group), 0);
+    IS(group, new_number);
+    for (size_t i = 0; i < 3; i++) {
+        const uint64_t number = i == 0 ? old_number : new_number;
+        IS(selections[i](peer, 20, NULL, 0, 1, 0, NULL, 0, places, 1, taken, 1, &total, &first, &examined, &instructions), 0);
+        IS(first, 1);
+        IS(taken[0], number);
+        IS(selections[i](peer, 20, &number, 1, 1, 0, NULL, 0, places, 1, taken, 1, &total, &first, &examined, &instructions), 0);
+        IS(first, 0);
+        IS(total, 1);
+        IS(printings[i](peer, 20, 0, NULL, 0, out, sizeof out, &written), 0);
+        snprintf(line, sizeof line, "%10llu      1  100.0\n", (unsigned long long)number);
+        IS(memcmp(out, line, 25), 0);
+    }
+}
+
+/* The edges of both numberings. An IPv4 address has the same new number in family 4 and mapped in family 6; with any bit before its four
+ * bytes turned, it is mapped no more and has its first four bytes, by either numbering. */
+static void numberings(void) {
+    static const uint8_t edges[][2] = {{1, 2}, {0, 0}, {0, 255}, {255, 0}, {255, 255}};
+    static const uint32_t prefixes[] = {0, 0x102, 0xffff, 0x10000, 0x1020000, 0x20010db8, 0xfffffffe, 0xffffffff};
+    uint8_t peer[20];
+    for (size_t i = 0; i < sizeof edges / sizeof *edges; i++) {
+        const uint64_t old_number = 256u * edges[i][0] + edges[i][1];
+        for (uint8_t last = 0; last < 2; last++) {
+            candidate(peer, edges[i][0], edges[i][1], last, 255);
+            numbered(peer, old_number, CORBASTRIGO_IPV4_GROUPS + old_number);
+            peer[0] = 6;
+            numbered(peer, 0, CORBASTRIGO_IPV4_GROUPS + old_number);
+        }
+    }
+    for (size_t bit = 0; bit < 96; bit++) {
+        const uint64_t number = bit < 32 ? UINT64_C(1) << (31 - bit) : 0;
+        candidate(peer, 1, 2, 0, 0);
+        peer[0] = 6;
+        peer[2 + bit / 8] ^= (uint8_t)(0x80 >> bit % 8);
+        numbered(peer, number, number);
+    }
+    for (size_t i = 0; i < sizeof prefixes / sizeof *prefixes; i++) {
+        memset(peer, 0, sizeof peer);
+        peer[0] = 6;
+        for (int byte = 0; byte < 4; byte++)
+            peer[2 + byte] = (uint8_t)(prefixes[i] >> (24 - 8 * byte));
+        numbered(peer, prefixes[i], prefixes[i]);
+    }
 }
 
 /* A scan that is done, and all that it writes. */
@@ -739,8 +801,88 @@ static void pick(selection *call, uint8_t of_a_refused_map) {
     IS(PICK(80, 0, lone_jump, 1, 4, 4), 0);
     IS(first, 3);
     IS(instructions, 0);
-    IS(taken[0], 256 * 8 + 8);
+    IS(taken[0], CORBASTRIGO_IPV4_GROUPS + 256 * 8 + 8);
 #undef PICK
+}
+
+/* 1.2.0.1, 0:102:: and 1.2.0.1 mapped, which by the new numbering have two groups, and 3.4.0.1 mapped. By the old the first two share 258
+ * and the mapped ones 0. */
+static void make_mixed(uint8_t *peers) {
+    candidate(peers, 1, 2, 0, 1);
+    memset(peers + 20, 0, 20);
+    peers[20] = 6;
+    peers[24] = 1;
+    peers[25] = 2;
+    candidate(peers + 40, 1, 2, 0, 1);
+    candidate(peers + 60, 3, 4, 0, 1);
+    peers[40] = peers[60] = 6;
+}
+
+/* What the pick by the old numbering refuses, in its order, and that it has written nothing then. */
+static void refused_old_pick(void) {
+    static uint8_t many[20 * (CORBASTRIGO_MAX_CANDIDATES + 1)];
+    static uint64_t occupied[CORBASTRIGO_MAX_CANDIDATES + 1];
+    uint8_t peers[80];
+    uint16_t places[4] = {BEFORE(1), BEFORE(1), BEFORE(1), BEFORE(1)};
+    uint64_t taken[4] = {BEFORE(2), BEFORE(2), BEFORE(2), BEFORE(2)}, instructions = BEFORE(6);
+    size_t total = BEFORE(3), first = BEFORE(4), examined = BEFORE(5);
+#define PICK(from, bytes, groups, room, group_room)                                                                                    \
+    corbastrigo_old_prefix_pick(from, bytes, occupied, groups, 3, places, room, taken, group_room, &total, &first, &examined, &instructions)
+    make_mixed(peers);
+    peers[60] = 5;
+    IS(PICK(many, sizeof many - 1, CORBASTRIGO_MAX_CANDIDATES + 1, 0, 0), CORBASTRIGO_CANDIDATE);
+    IS(PICK(many, sizeof many, 0, 0, 0), CORBASTRIGO_TOO_MANY);
+    IS(PICK(peers, 80, CORBASTRIGO_MAX_CANDIDATES + 1, 0, 0), CORBASTRIGO_TOO_MANY);
+    IS(PICK(peers, 80, CORBASTRIGO_MAX_CANDIDATES, 0, 0), CORBASTRIGO_CANDIDATE);
+    make_mixed(peers);
+    peers[1] = 1;
+    IS(PICK(peers, 80, 0, 4, 4), CORBASTRIGO_CANDIDATE);
+    make_mixed(peers);
+    peers[20] = 4;
+    IS(PICK(peers, 80, 0, 4, 4), CORBASTRIGO_CANDIDATE);
+    make_mixed(peers);
+    IS(PICK(peers, 80, CORBASTRIGO_MAX_CANDIDATES, 2, 3), CORBASTRIGO_OUTPUT_TOO_SHORT);
+    IS(PICK(peers, 80, CORBASTRIGO_MAX_CANDIDATES, 3, 2), CORBASTRIGO_OUTPUT_TOO_SHORT);
+    for (size_t i = 0; i < 4; i++) {
+        IS(places[i], BEFORE(1));
+        IS(taken[i], BEFORE(2));
+    }
+    IS(total, BEFORE(3));
+    IS(first, BEFORE(4));
+    IS(examined, BEFORE(5));
+    IS(instructions, BEFORE(6));
+#undef PICK
+}
+
+/* The mixed peers by each numbering, with 772 occupied, which is nobody's group by either: three of the four by the new in the first pass, two
+ * by the old and one to fill. */
+static void mixed_pick(void) {
+    uint8_t peers[80];
+    const uint64_t occupied[2] = {9, 772};
+    uint16_t places[4] = {BEFORE(1), BEFORE(1), BEFORE(1), BEFORE(1)};
+    uint64_t taken[4] = {BEFORE(2), BEFORE(2), BEFORE(2), BEFORE(2)}, instructions = BEFORE(6);
+    size_t total = BEFORE(3), first = BEFORE(4), examined = BEFORE(5);
+    make_mixed(peers);
+    IS(corbastrigo_old_prefix_pick(peers, 80, occupied, 2, 3, places, 4, taken, 4, &total, &first, &examined, &instructions), 0);
+    IS(total, 3);
+    IS(first, 2);
+    IS(examined, 4);
+    IS(instructions, 0);
+    IS(places[0], 0);
+    IS(places[1], 2);
+    IS(places[2], 1);
+    IS(places[3], BEFORE(1));
+    IS(taken[0], 258);
+    IS(taken[1], 0);
+    IS(taken[2], BEFORE(2));
+    IS(corbastrigo_select_diverse(peers, 80, occupied, 2, 3, 0, NULL, 0, places, 4, taken, 4, &total, &first, &examined, &instructions), 0);
+    IS(first, 3);
+    IS(places[1], 1);
+    IS(places[2], 3);
+    IS(taken[0], CORBASTRIGO_IPV4_GROUPS + 258);
+    IS(taken[1], 258);
+    IS(taken[2], CORBASTRIGO_IPV4_GROUPS + 772);
+    IS(taken[3], BEFORE(2));
 }
 
 /* Six peers: by the map three of group 2, two of group 1, one of group 0; by their prefixes all but two are alone. */
@@ -775,12 +917,47 @@ static void refused_page(printing *call, uint8_t checked) {
     IS(written, BEFORE(2));
 }
 
-/* The same peers with a map and without, and none; then one of 16, an exact half. */
-static void page(printing *call) {
+/* What the page by the old numbering refuses, in its order, and that it has written nothing then. The mixed peers have two old groups. */
+static void refused_old_page(void) {
+    static uint8_t many[20 * (CORBASTRIGO_MAX_CANDIDATES + 1)];
+    uint8_t peers[80], out[100];
+    size_t written = BEFORE(2);
+    make_mixed(peers);
+    memset(out, BEFORE(1), sizeof out);
+    IS(corbastrigo_old_prefix_page(many, sizeof many - 1, out, 0, &written), CORBASTRIGO_CANDIDATE);
+    IS(corbastrigo_old_prefix_page(many, sizeof many, out, 0, &written), CORBASTRIGO_TOO_MANY);
+    for (size_t place = 0; place < 80; place += 20) {
+        make_mixed(peers);
+        peers[place] = 5;
+        IS(corbastrigo_old_prefix_page(peers, 80, out, 0, &written), CORBASTRIGO_CANDIDATE);
+    }
+    make_mixed(peers);
+    IS(corbastrigo_old_prefix_page(peers, 80, out, 0, &written), CORBASTRIGO_OUTPUT_TOO_SHORT);
+    IS(corbastrigo_old_prefix_page(peers, 80, out, 49, &written), CORBASTRIGO_OUTPUT_TOO_SHORT);
+    IS(untouched(out, sizeof out), sizeof out);
+    IS(written, BEFORE(2));
+}
+
+/* The mixed peers by each numbering, with room behind their lines. */
+static void mixed_page(void) {
+    uint8_t peers[80], out[100];
+    size_t written = BEFORE(2);
+    make_mixed(peers);
+    memset(out, BEFORE(1), sizeof out);
+    IS(corbastrigo_old_prefix_page(peers, 80, out, sizeof out, &written), 0);
+    IS(written, 50);
+    IS(memcmp(out, "         0      2   50.0\n       258      2   50.0\n", 50), 0);
+    IS(untouched(out + 50, 50), 50);
+    IS(corbastrigo_page(peers, 80, 0, NULL, 0, out, sizeof out, &written), 0);
+    IS(written, 75);
+    IS(memcmp(out, "       258      1   25.0\n4294967554      2   50.0\n4294968068      1   25.0\n", 75), 0);
+    IS(untouched(out + 75, 25), 25);
+}
+
+/* The six peers with a map, and none of them. */
+static void page_by_map(printing *call) {
     static const char by_map[] = "         0      1   16.7\n         1      2   33.3\n         2      3   50.0\n";
-    static const char by_prefix[] = "         9      1   16.7\n       258      1   16.7\n       767      1   16.7\n"
-                                    "       772      2   33.3\n      2056      1   16.7\n";
-    uint8_t peers[320], out[150];
+    uint8_t peers[120], out[150];
     size_t written = BEFORE(2);
     make_six(peers);
     memset(out, BEFORE(1), sizeof out);
@@ -791,27 +968,55 @@ static void page(printing *call) {
     IS(written, 3 * CORBASTRIGO_PAGE_LINE_BYTES);
     IS(memcmp(out, by_map, 75), 0);
     IS(untouched(out + 75, 75), 75);
+}
+
+/* The lines of groups that are so much more than `from`, with their candidates and per cents. */
+static void lines(char *text, uint64_t from, const unsigned *groups, const char *const *shares, size_t count) {
+    for (size_t i = 0; i < count; i++)
+        sprintf(text + 25 * i, "%10llu %s\n", (unsigned long long)(from + groups[i]), shares[i]);
+}
+
+/* The six peers without a map, and none of them; then one of 16, an exact half. All are of family 4, whose groups count from `from`: 0 by
+ * the old numbering. */
+static void page_by_prefixes(printing *call, uint64_t from) {
+    static const unsigned groups[] = {9, 258, 767, 772, 2056}, two[] = {4, 260};
+    static const char *const shares[] = {"     1   16.7", "     1   16.7", "     1   16.7", "     2   33.3", "     1   16.7"};
+    static const char *const halves[] = {"    15   93.8", "     1    6.3"};
+    uint8_t peers[320], out[150];
+    char text[126];
+    size_t written = BEFORE(2);
+    make_six(peers);
+    memset(out, BEFORE(1), sizeof out);
+    IS(call(peers, 0, 0, none, 0, out, sizeof out, &written), 0);
+    IS(written, 0);
+    IS(untouched(out, sizeof out), sizeof out);
     IS(call(peers, 120, 0, two_prefixes, 35, out, sizeof out, &written), 0);
     IS(written, 5 * CORBASTRIGO_PAGE_LINE_BYTES);
-    IS(memcmp(out, by_prefix, 125), 0);
+    lines(text, from, groups, shares, 5);
+    IS(memcmp(out, text, 125), 0);
     IS(untouched(out + 125, 25), 25);
     for (uint8_t i = 0; i < 16; i++)
         candidate(peers + 20 * i, i == 9, 4, 0, i);
     IS(call(peers, 320, 0, none, 0, out, 50, &written), 0);
     IS(written, 50);
-    IS(memcmp(out, "         4     15   93.8\n       260      1    6.3\n", 50), 0);
+    lines(text, from, two, halves, 2);
+    IS(memcmp(out, text, 50), 0);
 }
 
 /* As many candidates as there may be, each in a group of its own and then all in one, of an IPv6 prefix that fills its columns. */
-static void full_page(printing *call) {
+static void full_page(printing *call, uint64_t from) {
     static uint8_t peers[20 * CORBASTRIGO_MAX_CANDIDATES], out[CORBASTRIGO_PAGE_LINE_BYTES * CORBASTRIGO_MAX_CANDIDATES];
+    static const unsigned groups[] = {0, 1, CORBASTRIGO_MAX_CANDIDATES - 1};
+    static const char *const shares[] = {"     1    0.0", "     1    0.0", "     1    0.0"};
+    char text[76];
     size_t written = BEFORE(2);
+    lines(text, from, groups, shares, 3);
     for (size_t i = 0; i < CORBASTRIGO_MAX_CANDIDATES; i++)
         candidate(peers + 20 * i, (uint8_t)(i >> 8), (uint8_t)~i, 0, 1);
     IS(call(peers, sizeof peers, 0, none, 0, out, sizeof out, &written), 0);
     IS(written, sizeof out);
-    IS(memcmp(out, "         0      1    0.0\n         1      1    0.0\n", 50), 0);
-    IS(memcmp(out + sizeof out - 25, "      4095      1    0.0\n", 25), 0);
+    IS(memcmp(out, text, 50), 0);
+    IS(memcmp(out + sizeof out - 25, text + 50, 25), 0);
     memset(peers, 0xff, sizeof peers);
     for (size_t i = 0; i < sizeof peers; i += 20) {
         peers[i] = 6;
@@ -995,16 +1200,25 @@ int main(void) {
     comparison_bytes();
     at_a_width();
     groups();
+    numberings();
     scan();
     refused_pick();
     pick(corbastrigo_select_diverse, CORBASTRIGO_MAP_ENDS);
     pick(corbastrigo_select_diverse_unchecked, 0);
+    refused_old_pick();
+    mixed_pick();
     refused_page(corbastrigo_page, 1);
     refused_page(corbastrigo_page_unchecked, 0);
-    page(corbastrigo_page);
-    page(corbastrigo_page_unchecked);
-    full_page(corbastrigo_page);
-    full_page(corbastrigo_page_unchecked);
+    refused_old_page();
+    mixed_page();
+    page_by_map(corbastrigo_page);
+    page_by_map(corbastrigo_page_unchecked);
+    page_by_prefixes(corbastrigo_page, CORBASTRIGO_IPV4_GROUPS);
+    page_by_prefixes(corbastrigo_page_unchecked, CORBASTRIGO_IPV4_GROUPS);
+    page_by_prefixes(old_page, 0);
+    full_page(corbastrigo_page, CORBASTRIGO_IPV4_GROUPS);
+    full_page(corbastrigo_page_unchecked, CORBASTRIGO_IPV4_GROUPS);
+    full_page(old_page, 0);
     aborted_page();
     filters();
     draws();

@@ -3,6 +3,7 @@
  * written here, and dies where barred memory is looked at. */
 #define _DEFAULT_SOURCE
 #include "cases.h"
+#include "old.h"
 #include <sys/mman.h>
 
 /* In the middle of pages that can be neither read nor written. */
@@ -12,8 +13,9 @@ static void *barred;
 static uint64_t *end_of_lent;
 
 static decode *const decoders[] = {corbastrigo_decode_type, corbastrigo_decode_asn, corbastrigo_decode_match, corbastrigo_decode_jump};
-static selection *const selections[] = {corbastrigo_select_diverse, corbastrigo_select_diverse_unchecked};
-static printing *const printings[] = {corbastrigo_page, corbastrigo_page_unchecked};
+/* The last of each takes no map. */
+static selection *const selections[] = {corbastrigo_select_diverse, corbastrigo_select_diverse_unchecked, old_pick};
+static printing *const printings[] = {corbastrigo_page, corbastrigo_page_unchecked, old_page};
 
 /* Where calls leave what they found. */
 static uint8_t small, other, lines[4 * CORBASTRIGO_PAGE_LINE_BYTES];
@@ -167,10 +169,10 @@ static void refused_lengths(void) {
     long_map(SIZE_MAX);
     wrong_length(33);
     wrong_length(SIZE_MAX);
-    wrong_lists(corbastrigo_select_diverse);
-    wrong_lists(corbastrigo_select_diverse_unchecked);
-    wrong_page(corbastrigo_page);
-    wrong_page(corbastrigo_page_unchecked);
+    for (size_t i = 0; i < 3; i++) {
+        wrong_lists(selections[i]);
+        wrong_page(printings[i]);
+    }
     too_many_groups(CORBASTRIGO_MAX_CANDIDATES + 1);
     too_many_groups(SIZE_MAX);
     no_width(0);
@@ -193,10 +195,10 @@ static void refused_lengths(void) {
 /* Without a map the map is not looked at. */
 static void no_map(uint8_t *map, size_t len) {
     IS(corbastrigo_netgroup(peer, 20, 0, map, len, &group), 0);
-    IS(group, 772);
+    IS(group, CORBASTRIGO_IPV4_GROUPS + 772);
     group = 0;
     IS(corbastrigo_netgroup_unchecked(peer, 20, 0, map, len, &group), 0);
-    IS(group, 772);
+    IS(group, CORBASTRIGO_IPV4_GROUPS + 772);
     for (size_t i = 0; i < 2; i++) {
         IS(selections[i](peers, 80, NULL, 0, 4, 0, map, len, places, 4, taken, 4, &total, &first, &examined, &instructions), 0);
         IS(first, 3);
@@ -251,7 +253,7 @@ static void empty_scan(void) {
 
 /* No candidates have no lines; by an empty map every walk aborts, and all candidates have group 0. */
 static void empty_pages(void) {
-    for (size_t i = 0; i < 2; i++) {
+    for (size_t i = 0; i < 3; i++) {
         size = BEFORE(1);
         IS(printings[i](NULL, 0, 0, NULL, 0, NULL, 0, &size), 0);
         IS(size, 0);
@@ -300,7 +302,7 @@ static void empty_lists(void) {
     IS(corbastrigo_netgroup_unchecked(peer, 20, 1, NULL, 0, &group), 0);
     IS(group, 0);
     empty_scan();
-    for (size_t i = 0; i < 2; i++) {
+    for (size_t i = 0; i < 3; i++) {
         IS(selections[i](NULL, 0, NULL, 0, 4, 0, NULL, 0, NULL, 0, NULL, 0, &total, &first, &examined, &instructions), 0);
         IS(total, 0);
         IS(selections[i](peers, 80, NULL, 0, 0, 0, NULL, 0, NULL, 0, NULL, 0, &total, &first, &examined, &instructions), 0);
@@ -326,9 +328,9 @@ static void remains(selection *call, const uint8_t *map, size_t map_len, const u
     }
 }
 
-/* Every walk of a lone JUMP aborts: all candidates have group 0, which is free once or not at all. */
+/* Every walk of a lone JUMP aborts: all candidates have group 0, which is free once or not at all. By the old numbering the last has 258. */
 static void picks(void) {
-    const uint64_t zero[1] = {0};
+    const uint64_t zero[1] = {0}, of_the_last[1] = {258};
     for (size_t i = 0; i < 2; i++) {
         remains(selections[i], two_prefixes, 35, NULL, 0, 3);
         remains(selections[i], two_prefixes, 35, zero, 1, 2);
@@ -336,6 +338,8 @@ static void picks(void) {
     remains(corbastrigo_select_diverse_unchecked, lone_jump, 1, NULL, 0, 1);
     IS(taken[0], 0);
     remains(corbastrigo_select_diverse_unchecked, lone_jump, 1, zero, 1, 0);
+    remains(old_pick, NULL, 0, NULL, 0, 3);
+    remains(old_pick, NULL, 0, of_the_last, 1, 2);
     group = BEFORE(1);
     IS(corbastrigo_netgroup_unchecked(peer, 20, 1, lone_jump, 1, &group), 0);
     IS(group, 0);
@@ -407,8 +411,8 @@ int main(void) {
     no_map(NULL, 0);
     empty_lists();
     picks();
-    lines_at_the_end(corbastrigo_page);
-    lines_at_the_end(corbastrigo_page_unchecked);
+    for (size_t i = 0; i < 3; i++)
+        lines_at_the_end(printings[i]);
     loads_at_the_end();
     groups_behind_a_hit();
     printf("memory lent to calls: %d answers, %d wrong\n", checks, failures);

@@ -28,6 +28,8 @@ static const uint8_t embedded[16] = {0, 0x64, 0xff, 0x9b, 0, 1, 0, 0, 0, 0, 0, 0
 #define MAPS MAP, lone_return, sizeof lone_return
 #define PICK (peers, sizeof peers, occupied, CORBASTRIGO_MAX_CANDIDATES, CORBASTRIGO_MAX_CANDIDATES, 1, MAP, places,                    \
               CORBASTRIGO_MAX_CANDIDATES, taken, CORBASTRIGO_MAX_CANDIDATES, &total, &first, &examined, &wide)
+#define OLD_PICK (peers, sizeof peers, occupied, CORBASTRIGO_MAX_CANDIDATES, CORBASTRIGO_MAX_CANDIDATES, places,                         \
+                  CORBASTRIGO_MAX_CANDIDATES, taken, CORBASTRIGO_MAX_CANDIDATES, &total, &first, &examined, &wide)
 #define LINES (peers, sizeof peers, 1, MAP, lines, sizeof lines, &size)
 
 /* The calls, each with its bound and its arguments. */
@@ -65,8 +67,10 @@ static const uint8_t embedded[16] = {0, 0x64, 0xff, 0x9b, 0, 1, 0, 0, 0, 0, 0, 0
     call(scan_occupied, OF_OTHERS, (UINT64_MAX, occupied, CORBASTRIGO_MAX_CANDIDATES, &small, &size, &total))                          \
     call(select_diverse, OF_A_PICK, PICK)                                                                                              \
     call(select_diverse_unchecked, OF_A_PICK, PICK)                                                                                    \
+    call(old_prefix_pick, OF_A_PICK, OLD_PICK)                                                                                         \
     call(page, OF_LINES, LINES)                                                                                                        \
     call(page_unchecked, OF_LINES, LINES)                                                                                              \
+    call(old_prefix_page, OF_LINES, (peers, sizeof peers, lines, sizeof lines, &size))                                                 \
     call(clearnet_unroutable, OF_OTHERS, (embedded, 16, &small))                                                                       \
     call(addrv2_skip_relay, OF_OTHERS, (2, embedded, 16, 8333, &small))                                                                \
     call(next_draw, OF_OTHERS, (CORBASTRIGO_DEFAULT_SEED, &wide))                                                                      \
