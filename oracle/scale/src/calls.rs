@@ -205,10 +205,19 @@ pub struct Left {
     pub totals: [u64; 4],
 }
 
-pub fn select_diverse(call: sys::SelectDiverse, asked: &Asked) -> Left {
+/// The numbers that a pick is lent: three totals and the instructions.
+type Totals<'a> = ([&'a mut usize; 3], &'a mut u64);
+
+/// What a call leaves of the outputs and numbers that are lent to it.
+fn left(asked: &Asked, call: impl FnOnce(&mut [u16], &mut [u64], Totals) -> u8) -> Left {
     let (mut picks, mut groups) = (vec![BEFORE16; asked.rooms[0]], vec![BEFORE64; asked.rooms[1]]);
     let (mut total, mut first, mut examined, mut instructions) = (BEFORE_SIZE, BEFORE_SIZE, BEFORE_SIZE, BEFORE64);
-    let answer = unsafe {
+    let answer = call(&mut picks, &mut groups, ([&mut total, &mut first, &mut examined], &mut instructions));
+    Left { answer, picks, groups, totals: [total as u64, first as u64, examined as u64, instructions] }
+}
+
+pub fn select_diverse(call: sys::SelectDiverse, asked: &Asked) -> Left {
+    left(asked, |picks, groups, ([total, first, examined], instructions)| unsafe {
         call(
             asked.candidates.as_ptr(),
             asked.candidates.len(),
@@ -222,13 +231,33 @@ pub fn select_diverse(call: sys::SelectDiverse, asked: &Asked) -> Left {
             picks.len(),
             groups.as_mut_ptr(),
             groups.len(),
-            &mut total,
-            &mut first,
-            &mut examined,
-            &mut instructions,
+            total,
+            first,
+            examined,
+            instructions,
         )
-    };
-    Left { answer, picks, groups, totals: [total as u64, first as u64, examined as u64, instructions] }
+    })
+}
+
+/// The pick by the old numbering, which takes no map: that of `asked` is not handed over.
+pub fn old_prefix_pick(asked: &Asked) -> Left {
+    left(asked, |picks, groups, ([total, first, examined], instructions)| unsafe {
+        sys::corbastrigo_old_prefix_pick(
+            asked.candidates.as_ptr(),
+            asked.candidates.len(),
+            asked.occupied.as_ptr(),
+            asked.occupied.len(),
+            asked.max,
+            picks.as_mut_ptr(),
+            picks.len(),
+            groups.as_mut_ptr(),
+            groups.len(),
+            total,
+            first,
+            examined,
+            instructions,
+        )
+    })
 }
 
 /// What stands behind the lent bytes is handed back too.
@@ -238,6 +267,14 @@ pub fn page(call: sys::Page, candidates: &[u8], has_map: u8, map: &[u8], room: u
         let at = out.as_mut_ptr();
         call(candidates.as_ptr(), candidates.len(), has_map, map.as_ptr(), map.len(), at, room, &mut written)
     };
+    (answer, written, out)
+}
+
+/// The page by the old numbering; what stands behind the lent bytes is handed back too.
+pub fn old_prefix_page(candidates: &[u8], room: usize) -> Bytes {
+    let (mut out, mut written) = (vec![BEFORE; room + sys::PAGE_LINE_BYTES], BEFORE_SIZE);
+    let answer =
+        unsafe { sys::corbastrigo_old_prefix_page(candidates.as_ptr(), candidates.len(), out.as_mut_ptr(), room, &mut written) };
     (answer, written, out)
 }
 
