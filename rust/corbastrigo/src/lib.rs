@@ -12,6 +12,10 @@
 //! [`AsMap4`]. Check, walk, unpack, list and compare have a form for the bytes of one whose name ends in `_bits` and which takes the width,
 //! 32 or 128. A map is walked at the width at which it was checked, and at no other; groups, picks and pages are by an [`AsMap`].
 //!
+//! Without a map a group is the prefix of an address, by a numbering that is not rbitcoin's: IPv4, mapped or not, has its groups from
+//! [`IPV4_GROUPS`] on, and IPv6 all below ([`netgroup()`]). rbitcoin's is the old numbering. [`prefix_group`], [`old_prefix_pick`] and
+//! [`old_prefix_page`] keep it for nodes that stored such groups, until these are made again.
+//!
 //! Nothing here panics or allocates more than a fixed multiple of what it is given. Every call answers, or refuses with a [`Refusal`]
 //! and has written nothing.
 //!
@@ -58,9 +62,9 @@ pub use map::{
 };
 pub use map::{Check, End, Stop, Walk};
 pub use netaddr::{addrv2_skip_relay, clearnet_unroutable};
-pub use netgroup::{netgroup, pick, prefix_group, scan_occupied, select_diverse, Candidate, Pick, Scan};
+pub use netgroup::{netgroup, old_prefix_pick, pick, prefix_group, scan_occupied, select_diverse, Candidate, Pick, Scan};
 pub use open::OpenError;
-pub use page::{page, Page, Share};
+pub use page::{old_prefix_page, page, Page, Share};
 pub use prefixes::{list, list_bits, list_bytes, list_bytes_bits, list_into, list_into_bits, prefixes, Prefix, PREFIX_BYTES};
 pub use records::{instructions, pack, pack_into, unpack, unpack_bits, unpack_into, unpack_into_bits, Instruction, RECORD_BYTES};
 pub use refusal::Refusal;
@@ -70,6 +74,9 @@ pub const MAX_MAP_BYTES: usize = 16_777_216;
 
 /// The most candidates of a pick or a page, and the most occupied groups; one more is refused, 12.
 pub const MAX_CANDIDATES: usize = 4_096;
+
+/// The first group of IPv4 without a map, by the new numbering; 256 * a + b more is the group of a.b.c.d, and the groups of IPv6 are all below.
+pub const IPV4_GROUPS: u64 = corbastrigo_sys::IPV4_GROUPS;
 
 /// The most pairs of a load; one more is refused, 20.
 pub const MAX_PAIRS: usize = corbastrigo_sys::MAX_PAIRS;

@@ -33,16 +33,22 @@ pub(crate) fn map_or_none(asmap: Option<&AsMap>) -> (u8, &[u8]) {
     }
 }
 
-/// The group of an address: with a map the number that it is sent to, without one its prefix. An [`AsMap`] was checked when it was made
-/// and is not checked again.
+/// The group of an address: with a map the number that it is sent to, without one its prefix by the new numbering. An [`AsMap`] was checked
+/// when it was made and is not checked again.
+///
+/// By the new numbering an IPv4 address a.b.c.d has the group [`IPV4_GROUPS`] + 256 * a + b, also where a dual-stack socket reports it as
+/// the mapped IPv6 address ::ffff:a.b.c.d. Every other IPv6 address has its first four bytes as a number, which is less, so that IPv4 never
+/// shares a group with IPv6. Groups that were stored by the old numbering ([`prefix_group`]) are not to be mixed with these.
 ///
 /// ```
-/// use corbastrigo::{netgroup, AsMap, Refusal};
-/// use std::net::{Ipv4Addr, SocketAddr};
+/// use corbastrigo::{netgroup, AsMap, Refusal, IPV4_GROUPS};
 ///
-/// let peer = SocketAddr::from((Ipv4Addr::new(3, 4, 5, 6), 8333));
+/// let [peer, mapped, other] = ["3.4.5.6:8333", "[::ffff:3.4.7.8]:8333", "[0:304::1]:8333"].map(|peer| peer.parse().unwrap());
+/// assert_eq!(netgroup(peer, None), IPV4_GROUPS + 3 * 256 + 4);
+/// assert_eq!((netgroup(mapped, None), netgroup(other, None)), (netgroup(peer, None), 0x0304));
+/// // A map that sends every address to 1.
 /// let map = AsMap::checked(vec![0, 0, 0])?;
-/// assert_eq!((netgroup(peer, Some(&map)), netgroup(peer, None)), (1, 3 * 256 + 4));
+/// assert_eq!(netgroup(peer, Some(&map)), 1);
 /// # Ok::<(), Refusal>(())
 /// ```
 pub fn netgroup(addr: SocketAddr, asmap: Option<&AsMap>) -> u64 {
@@ -55,14 +61,20 @@ pub fn netgroup(addr: SocketAddr, asmap: Option<&AsMap>) -> u64 {
     group
 }
 
-/// The group without a map: the first two bytes of an IPv4 address, the first four of an IPv6 address.
+/// The group without a map by the old numbering: the first two bytes of an IPv4 address, the first four of an IPv6 address, so 0 of one that
+/// is mapped. It is there for nodes that stored such groups; [`netgroup()`] goes by the new numbering, and [`old_prefix_pick`] and
+/// [`old_prefix_page`](crate::old_prefix_page) by this one.
 ///
 /// ```
 /// use corbastrigo::prefix_group;
 /// use std::net::{Ipv4Addr, Ipv6Addr};
 ///
-/// assert_eq!(prefix_group(Ipv4Addr::new(3, 4, 5, 6).into()), 0x0304);
+/// let four = Ipv4Addr::new(3, 4, 5, 6);
+/// assert_eq!(prefix_group(four.into()), 0x0304);
 /// assert_eq!(prefix_group(Ipv6Addr::new(0x2001, 0xdb8, 0, 0, 0, 0, 0, 1).into()), 0x2001_0db8);
+/// // What the new numbering mends: an IPv6 prefix has the same number, and every mapped address has 0.
+/// assert_eq!(prefix_group(Ipv6Addr::new(0, 0x304, 0, 0, 0, 0, 0, 1).into()), 0x0304);
+/// assert_eq!(prefix_group(four.to_ipv6_mapped().into()), 0);
 /// ```
 pub fn prefix_group(ip: IpAddr) -> u64 {
     let bytes = candidate(&SocketAddr::new(ip, 0));
@@ -136,57 +148,125 @@ impl Pick {
     }
 }
 
+/// What a pick lends to its call, and what it has of it afterwards.
+struct Lent {
+    candidates: Vec<Candidate>,
+    occupied: Vec<u64>,
+    places: Vec<u16>,
+    groups: Vec<u64>,
+    total: usize,
+    first: usize,
+    examined: usize,
+    instructions: u64,
+}
+
+impl Lent {
+    fn of(ranked: &[SocketAddr], max: usize, occupied_groups: &HashSet<u64>) -> Self {
+        let room = max.min(ranked.len()).min(MAX_CANDIDATES);
+        Lent {
+            candidates: packed(ranked),
+            occupied: occupied_groups.iter().copied().take(MAX_CANDIDATES + 1).collect(),
+            places: vec![0; room],
+            groups: vec![0; room],
+            total: 0,
+            first: 0,
+            examined: 0,
+            instructions: 0,
+        }
+    }
+
+    fn answered(mut self, answer: u8) -> Result<Pick, Refusal> {
+        Refusal::check(answer)?;
+        self.places.truncate(self.total);
+        self.groups.truncate(self.first);
+        Ok(Pick { places: self.places, groups: self.groups, examined: self.examined, instructions: self.instructions })
+    }
+}
+
 /// Picks up to `max` places of a ranked list: first, in order, each whose group is neither occupied nor taken; then, in order, those
-/// unequal to every pick. Refusal 12 over 4,096 candidates or occupied groups.
+/// unequal to every pick. The groups are those of [`netgroup()`], without a map by the new numbering, and so are those that it takes for
+/// occupied. Refusal 12 over 4,096 candidates or occupied groups.
 ///
 /// ```
-/// use corbastrigo::{pick, Refusal};
+/// use corbastrigo::{pick, Refusal, IPV4_GROUPS};
 /// use std::collections::HashSet;
 ///
-/// let ranked = ["3.4.0.1:8333", "3.4.0.2:8333", "1.2.0.1:8333"].map(|peer| peer.parse().unwrap());
+/// let ranked = ["3.4.0.1:8333", "[::ffff:3.4.0.2]:8333", "1.2.0.1:8333"].map(|peer| peer.parse().unwrap());
 /// let picked = pick(&ranked, 3, &HashSet::new(), None)?;
 /// // The second has the group of the first, so it is taken last, to fill up.
 /// assert_eq!((picked.first_pass(), picked.second_pass()), (&[0, 2][..], &[1][..]));
-/// assert_eq!(picked.groups, [0x0304, 0x0102]);
+/// assert_eq!(picked.groups, [IPV4_GROUPS + 0x0304, IPV4_GROUPS + 0x0102]);
 /// # Ok::<(), Refusal>(())
 /// ```
 pub fn pick(ranked: &[SocketAddr], max: usize, occupied_groups: &HashSet<u64>, asmap: Option<&AsMap>) -> Result<Pick, Refusal> {
-    let packed = packed(ranked);
-    let candidates = packed.as_flattened();
-    let occupied: Vec<u64> = occupied_groups.iter().copied().take(MAX_CANDIDATES + 1).collect();
+    let mut lent = Lent::of(ranked, max, occupied_groups);
+    let candidates = lent.candidates.as_flattened();
     let (has_map, map) = map_or_none(asmap);
-    let room = max.min(ranked.len()).min(MAX_CANDIDATES);
-    let (mut places, mut groups) = (vec![0; room], vec![0; room]);
-    let (mut total, mut first, mut examined, mut instructions) = (0, 0, 0, 0);
     // SAFETY: every slice gives its own pointer and length; the two outputs and the four numbers are borrowed for the call and overlap
     // nothing.
     let answer = unsafe {
         sys::corbastrigo_select_diverse_unchecked(
             candidates.as_ptr(),
             candidates.len(),
-            occupied.as_ptr(),
-            occupied.len(),
+            lent.occupied.as_ptr(),
+            lent.occupied.len(),
             max,
             has_map,
             map.as_ptr(),
             map.len(),
-            places.as_mut_ptr(),
-            places.len(),
-            groups.as_mut_ptr(),
-            groups.len(),
-            &mut total,
-            &mut first,
-            &mut examined,
-            &mut instructions,
+            lent.places.as_mut_ptr(),
+            lent.places.len(),
+            lent.groups.as_mut_ptr(),
+            lent.groups.len(),
+            &mut lent.total,
+            &mut lent.first,
+            &mut lent.examined,
+            &mut lent.instructions,
         )
     };
-    Refusal::check(answer)?;
-    places.truncate(total);
-    groups.truncate(first);
-    Ok(Pick { places, groups, examined, instructions })
+    lent.answered(answer)
 }
 
-/// The picked addresses of [`pick`], by the map's groups or, without a map, by prefixes.
+/// The [`pick`] without a map by the old numbering, for a node whose occupied groups are old ones: those of [`prefix_group`]. Its groups are
+/// old ones too. Refusal 12 over 4,096 candidates or occupied groups.
+///
+/// ```
+/// use corbastrigo::{old_prefix_pick, pick, Refusal};
+/// use std::collections::HashSet;
+///
+/// let ranked = ["1.2.0.1:8333", "[0:102::1]:8333", "[::ffff:3.4.0.1]:8333"].map(|peer| peer.parse().unwrap());
+/// let old = old_prefix_pick(&ranked, 3, &HashSet::new())?;
+/// // By the old numbering the second has the group of the first.
+/// assert_eq!((old.first_pass(), &old.groups[..]), (&[0, 2][..], &[0x0102, 0][..]));
+/// assert_eq!(pick(&ranked, 3, &HashSet::new(), None)?.first_pass(), [0, 1, 2]);
+/// # Ok::<(), Refusal>(())
+/// ```
+pub fn old_prefix_pick(ranked: &[SocketAddr], max: usize, occupied_groups: &HashSet<u64>) -> Result<Pick, Refusal> {
+    let mut lent = Lent::of(ranked, max, occupied_groups);
+    let candidates = lent.candidates.as_flattened();
+    // SAFETY: every slice gives its own pointer and length; the two outputs and the four numbers are borrowed for the call and overlap
+    // nothing.
+    let answer = unsafe {
+        sys::corbastrigo_old_prefix_pick(
+            candidates.as_ptr(),
+            candidates.len(),
+            lent.occupied.as_ptr(),
+            lent.occupied.len(),
+            max,
+            lent.places.as_mut_ptr(),
+            lent.places.len(),
+            lent.groups.as_mut_ptr(),
+            lent.groups.len(),
+            &mut lent.total,
+            &mut lent.first,
+            &mut lent.examined,
+            &mut lent.instructions,
+        )
+    };
+    lent.answered(answer)
+}
+
+/// The picked addresses of [`pick`], by the map's groups or, without a map, by prefixes in the new numbering.
 ///
 /// ```
 /// use corbastrigo::{select_diverse, Refusal};
