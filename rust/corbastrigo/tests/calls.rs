@@ -311,7 +311,7 @@ fn peers_are_grouped_and_picked() {
     let map = map();
     let ranked = peers(&["8.8.8.8", "3.4.0.1", "3.4.0.2", "1.2.0.1"]);
     assert_eq!(ranked.iter().map(|&peer| netgroup(peer, Some(&map))).collect::<Vec<_>>(), [0, 2, 2, 1]);
-    assert_eq!(netgroup(ranked[1], None), 3 * 256 + 4);
+    assert_eq!(netgroup(ranked[1], None), 4_294_967_296 + 3 * 256 + 4);
     assert_eq!((prefix_group(ip("3.4.5.6")), prefix_group(ip("2001:db8::"))), (772, 0x2001_0db8));
     let occupied = HashSet::from([0]);
     let picked = pick(&ranked, 3, &occupied, Some(&map)).expect("few");
@@ -325,6 +325,56 @@ fn peers_are_grouped_and_picked() {
     let many: HashSet<u64> = (0..=MAX_CANDIDATES as u64).collect();
     assert_eq!(number(select_diverse(&ranked, 3, &many, None)), 12);
     assert_eq!(select_diverse(&vec![ranked[0]; MAX_CANDIDATES], usize::MAX, &occupied, None), Ok(vec![ranked[0]]));
+}
+
+#[test]
+fn prefixes_have_a_new_numbering_and_an_old_one() {
+    for (text, old, new) in [
+        ("1.2.0.0", 258, 4_294_967_554),
+        ("::ffff:1.2.0.0", 0, 4_294_967_554),
+        ("0:102::", 258, 258),
+        ("0.0.0.0", 0, 4_294_967_296),
+        ("::ffff:0.0.0.0", 0, 4_294_967_296),
+        ("255.255.255.255", 65_535, 4_295_032_831),
+        ("::ffff:255.255.255.255", 0, 4_295_032_831),
+        ("::", 0, 0),
+        ("::fffe:1.2.0.0", 0, 0),
+        ("::1:ffff:1.2.0.0", 0, 0),
+        ("::1.2.0.0", 0, 0),
+        ("ffff:ffff::", 4_294_967_295, 4_294_967_295),
+    ] {
+        assert_eq!((prefix_group(ip(text)), netgroup(SocketAddr::new(ip(text), 8333), None)), (old, new), "{text}");
+    }
+    assert_eq!(IPV4_GROUPS, 4_294_967_296);
+}
+
+#[test]
+fn a_pick_goes_by_the_numbering_of_its_call() {
+    let ranked = ["1.2.0.1", "0:102::1", "::ffff:1.2.0.1", "::ffff:3.4.0.1"].map(|text| SocketAddr::new(ip(text), 8333));
+    let passes = |pick: Result<Pick, Refusal>| {
+        let pick = pick.expect("few");
+        assert_eq!((pick.examined, pick.instructions), (4, 0));
+        (pick.first_pass().to_vec(), pick.groups.clone(), pick.second_pass().to_vec())
+    };
+    let none = HashSet::new();
+    let (of_1_2, of_3_4) = (4_294_967_554, 4_294_968_068);
+    assert_eq!(passes(pick(&ranked, 9, &none, None)), (vec![0, 1, 3], vec![of_1_2, 258, of_3_4], vec![2]));
+    assert_eq!(passes(old_prefix_pick(&ranked, 9, &none)), (vec![0, 2], vec![258, 0], vec![1, 3]));
+    // A stored 258 is another group by each numbering.
+    let stored = HashSet::from([258]);
+    assert_eq!(passes(pick(&ranked, 9, &stored, None)), (vec![0, 3], vec![of_1_2, of_3_4], vec![1, 2]));
+    assert_eq!(passes(old_prefix_pick(&ranked, 9, &stored)), (vec![2], vec![0], vec![0, 1, 3]));
+}
+
+#[test]
+fn a_pick_by_the_old_numbering_is_refused_as_any_other() {
+    let peer = SocketAddr::new(ip("1.2.0.1"), 8333);
+    let most: HashSet<u64> = (0..MAX_CANDIDATES as u64).collect();
+    let many: HashSet<u64> = (0..=MAX_CANDIDATES as u64).collect();
+    assert_eq!(old_prefix_pick(&[], 3, &most).map(|pick| pick.places), Ok(vec![]));
+    assert_eq!(old_prefix_pick(&[peer], 3, &many), Err(Refusal::TooMany));
+    assert_eq!(old_prefix_pick(&vec![peer; MAX_CANDIDATES], usize::MAX, &most).map(|pick| pick.places), Ok(vec![0]));
+    assert_eq!(old_prefix_pick(&vec![peer; MAX_CANDIDATES + 1], 0, &HashSet::new()), Err(Refusal::TooMany));
 }
 
 #[test]

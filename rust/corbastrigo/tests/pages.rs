@@ -12,12 +12,12 @@ fn peers(texts: &[&str]) -> Vec<SocketAddr> {
     texts.iter().map(|text| SocketAddr::new(text.parse().expect("an address"), 8333)).collect()
 }
 
-/// A peer of a prefix group below 65,536, told apart from others of it by its port.
+/// A peer of the n-th prefix of IPv4, whose group is so much over [`IPV4_GROUPS`]; its port tells it apart from others.
 fn in_group(group: u16, port: u16) -> SocketAddr {
     SocketAddr::from((Ipv4Addr::from(u32::from(group) << 16), port))
 }
 
-/// So many candidates of group 2 among so many in all; the others have group 1.
+/// So many candidates of prefix 2 among so many in all; the others have prefix 1.
 fn so_many_of(candidates: u16, all: u16) -> Vec<SocketAddr> {
     (0..all).map(|place| in_group(if place < candidates { 2 } else { 1 }, place)).collect()
 }
@@ -34,16 +34,12 @@ fn shares(page: &Page) -> Vec<(u64, usize, u32)> {
 fn a_list_is_printed_by_prefixes_and_by_a_map() {
     let list = peers(&["3.4.0.1", "8.8.8.8", "1.2.0.1", "3.4.0.2", "::ffff:1.2.3.4", "2001:db8::1"]);
     let by_prefix = printed(&list, None);
-    let lines = [
-        "         0      1   16.7\n",
-        "       258      1   16.7\n",
-        "       772      2   33.3\n",
-        "      2056      1   16.7\n",
-        " 536939960      1   16.7\n",
-    ];
+    let lines =
+        [" 536939960      1   16.7\n", "4294967554      2   33.3\n", "4294968068      2   33.3\n", "4294969352      1   16.7\n"];
     assert_eq!(by_prefix.as_str(), lines.concat());
     assert_eq!(by_prefix.to_string(), by_prefix.as_str());
-    assert_eq!(shares(&by_prefix), [(0, 1, 167), (258, 1, 167), (772, 2, 333), (2_056, 1, 167), (0x2001_0db8, 1, 167)]);
+    let [of_1_2, of_3_4, of_8_8] = [258, 772, 2_056].map(|old| IPV4_GROUPS + old);
+    assert_eq!(shares(&by_prefix), [(0x2001_0db8, 1, 167), (of_1_2, 2, 333), (of_3_4, 2, 333), (of_8_8, 1, 167)]);
     let map = AsMap::checked(TWO_PREFIXES.to_vec()).expect("accepted");
     let by_map = printed(&list, Some(&map));
     assert_eq!(by_map.as_str(), "         0      2   33.3\n         1      2   33.3\n         2      2   33.3\n");
@@ -51,14 +47,26 @@ fn a_list_is_printed_by_prefixes_and_by_a_map() {
 }
 
 #[test]
+fn a_list_is_printed_by_the_old_numbering() {
+    let list = peers(&["3.4.0.1", "0:102::1", "1.2.0.1", "3.4.0.2", "::ffff:1.2.3.4", "2001:db8::1"]);
+    let page = old_prefix_page(&list).expect("within the limit");
+    let lines =
+        ["         0      1   16.7\n", "       258      2   33.3\n", "       772      2   33.3\n", " 536939960      1   16.7\n"];
+    assert_eq!(page.as_str(), lines.concat());
+    assert_eq!(shares(&page), [(0, 1, 167), (258, 2, 333), (772, 2, 333), (0x2001_0db8, 1, 167)]);
+    assert_eq!(old_prefix_page(&[]).map(|page| page.to_string()), Ok(String::new()));
+}
+
+#[test]
 fn the_order_of_a_list_is_nothing_to_its_page() {
     let mut list = peers(&["9.9.0.1", "1.2.0.1", "9.9.0.2", "5.6.0.1", "1.2.0.1"]);
-    let page = printed(&list, None);
-    assert_eq!(shares(&page), [(258, 2, 400), (1_286, 1, 200), (2_313, 2, 400)]);
+    let (page, old) = (printed(&list, None), old_prefix_page(&list));
+    let [of_1_2, of_5_6, of_9_9] = [258, 1_286, 2_313].map(|old| IPV4_GROUPS + old);
+    assert_eq!(shares(&page), [(of_1_2, 2, 400), (of_5_6, 1, 200), (of_9_9, 2, 400)]);
     list.reverse();
-    assert_eq!(printed(&list, None), page);
+    assert_eq!((printed(&list, None), old_prefix_page(&list)), (page.clone(), old.clone()));
     list.swap(0, 1);
-    assert_eq!(printed(&list, None), page);
+    assert_eq!((printed(&list, None), old_prefix_page(&list)), (page, old));
 }
 
 #[test]
@@ -86,8 +94,8 @@ fn exact_halves_are_rounded_up() {
         let half_tenths = 2_000 * u32::from(candidates);
         assert_eq!((half_tenths % u32::from(all), half_tenths / u32::from(all) % 2), (0, 1));
         let page = printed(&so_many_of(candidates, all), None);
-        assert_eq!(page.as_str().lines().last(), Some(&*format!("         2 {candidates:>6} {text:>6}")));
-        assert_eq!(shares(&page).last(), Some(&(2, usize::from(candidates), tenths)));
+        assert_eq!(page.as_str().lines().last(), Some(&*format!("4294967298 {candidates:>6} {text:>6}")));
+        assert_eq!(shares(&page).last(), Some(&(4_294_967_298, usize::from(candidates), tenths)));
     }
 }
 
@@ -97,7 +105,7 @@ fn what_is_no_half_is_rounded_to_the_nearer_tenth() {
         [(1, 3, 333), (2, 3, 667), (1, 2_001, 0), (1, 1_999, 1), (1, 17, 59), (1, 15, 67), (4_095, 4_096, 1_000)]
     {
         let page = printed(&so_many_of(candidates, all), None);
-        assert_eq!(shares(&page).last(), Some(&(2, usize::from(candidates), tenths)), "{candidates} of {all}");
+        assert_eq!(shares(&page).last(), Some(&(4_294_967_298, usize::from(candidates), tenths)), "{candidates} of {all}");
     }
 }
 
@@ -107,13 +115,18 @@ fn as_many_candidates_as_there_may_be() {
     let apart: Vec<SocketAddr> = (0..most).rev().map(|group| in_group(group, 8333)).collect();
     let page = printed(&apart, None);
     assert_eq!(page.as_str().len(), 102_400);
-    assert_eq!(page.as_str().lines().nth(4_095), Some("      4095      1    0.0"));
-    assert_eq!(shares(&page), (0..u64::from(most)).map(|group| (group, 1, 0)).collect::<Vec<_>>());
+    assert_eq!(page.as_str().lines().nth(4_095), Some("4294971391      1    0.0"));
+    assert_eq!(shares(&page), (0..u64::from(most)).map(|group| (IPV4_GROUPS + group, 1, 0)).collect::<Vec<_>>());
+    let old = old_prefix_page(&apart).expect("within the limit");
+    assert_eq!(old.as_str().lines().nth(4_095), Some("      4095      1    0.0"));
+    assert_eq!(shares(&old), (0..u64::from(most)).map(|group| (group, 1, 0)).collect::<Vec<_>>());
     let alike = vec![peers(&["ffff:ffff::1"])[0]; MAX_CANDIDATES];
     let page = printed(&alike, None);
     assert_eq!(page.as_str(), "4294967295   4096  100.0\n");
     assert_eq!(shares(&page), [(0xffff_ffff, 4_096, 1_000)]);
     assert_eq!(printed(&alike[..1], None).as_str(), "4294967295      1  100.0\n");
+    // The greatest group of all has as many digits.
+    assert_eq!(printed(&peers(&["255.255.0.1"]), None).as_str(), "4295032831      1  100.0\n");
 }
 
 #[test]
@@ -121,7 +134,9 @@ fn one_candidate_more_is_refused() {
     let map = AsMap::checked(TWO_PREFIXES.to_vec()).expect("accepted");
     for many in [MAX_CANDIDATES + 1, 3 * MAX_CANDIDATES] {
         let list = vec![in_group(1, 8333); many];
-        assert_eq!((page(&list, None), page(&list, Some(&map))), (Err(Refusal::TooMany), Err(Refusal::TooMany)));
+        for page in [page(&list, None), page(&list, Some(&map)), old_prefix_page(&list)] {
+            assert_eq!(page, Err(Refusal::TooMany));
+        }
     }
     assert_eq!(Refusal::TooMany.number(), 12);
 }

@@ -9,6 +9,7 @@ mod check;
 mod codes;
 mod loads;
 mod maps;
+mod numberings;
 mod order;
 mod packed;
 mod pages;

@@ -173,12 +173,12 @@ fn a_pick_asks_for_length_numbers_forms_map_and_rooms() {
         let before = [fault(faults.ragged != 0, 13), fault(faults.many_candidates || faults.many_occupied, 12), forms];
         let room = fault(rooms.iter().any(|&room| room < needed), 14);
         let (checked, unchecked) = if has_map == 0 { (0, 0) } else { refusals_of(&map) };
-        let calls = [
-            (sys::corbastrigo_select_diverse as sys::SelectDiverse, checked),
-            (sys::corbastrigo_select_diverse_unchecked, unchecked),
+        let picks = [
+            (calls::select_diverse(sys::corbastrigo_select_diverse, &asked), checked),
+            (calls::select_diverse(sys::corbastrigo_select_diverse_unchecked, &asked), unchecked),
+            (calls::old_prefix_pick(&asked), 0),
         ];
-        for (call, of_map) in calls {
-            let left = calls::select_diverse(call, &asked);
+        for (left, of_map) in picks {
             prop_assert_eq!(left.answer, first(&[first(&before), of_map, room]));
             // Behind the picks, or where it was refused everywhere, stands what stood there.
             let (total, first) = if left.answer == 0 { (left.totals[0] as usize, left.totals[1] as usize) } else { (0, 0) };

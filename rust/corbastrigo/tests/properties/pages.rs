@@ -1,9 +1,11 @@
-//! The page of a candidate list, worked through here as document 02 says it (CR 4), and the order of its refusals.
+//! The page of a candidate list, worked through here as document 02 says it (CR 4), by a map and by both numberings of prefixes, and the
+//! order of its refusals.
 use crate::calls::{self, BEFORE, BEFORE_SIZE};
 use crate::holds;
+use crate::numberings::By;
 use crate::order::{any_maps, candidates, fault, first, refusals_of, well_formed};
 use crate::programs::walked_programs;
-use corbastrigo::{netgroup, page, AsMap, MAX_CANDIDATES};
+use corbastrigo::{old_prefix_page, page, MAX_CANDIDATES};
 use corbastrigo_sys as sys;
 use proptest::prelude::*;
 use std::collections::{BTreeMap, BTreeSet};
@@ -11,10 +13,10 @@ use std::net::{IpAddr, Ipv4Addr, Ipv6Addr, SocketAddr};
 
 /// Groups in their order, each with its candidates and its tenths of a per cent: the nearest whole number to 1,000 times the candidates over
 /// all, of two that are as near the greater.
-fn counted(list: &[SocketAddr], map: Option<&AsMap>) -> Vec<(u64, usize, u32)> {
+fn counted(list: &[SocketAddr], by: &By) -> Vec<(u64, usize, u32)> {
     let mut counts = BTreeMap::new();
     for &peer in list {
-        *counts.entry(netgroup(peer, map)).or_insert(0) += 1;
+        *counts.entry(by.group(peer)).or_insert(0) += 1;
     }
     let tenths = |candidates| {
         let (whole, rest) = (1_000 * candidates / list.len(), 1_000 * candidates % list.len());
@@ -32,9 +34,13 @@ fn lines(counted: &[(u64, usize, u32)]) -> String {
 }
 
 /// The page is what was counted, and its shares are what is printed.
-fn agrees(list: &[SocketAddr], map: Option<&AsMap>) -> Result<(), TestCaseError> {
-    let page = page(list, map).map_err(|refusal| TestCaseError::fail(refusal.to_string()))?;
-    let expected = counted(list, map);
+fn agrees(list: &[SocketAddr], by: &By) -> Result<(), TestCaseError> {
+    let page = match by {
+        By::Old => old_prefix_page(list),
+        By::New | By::Map(_) => page(list, by.map()),
+    };
+    let page = page.map_err(|refusal| TestCaseError::fail(refusal.to_string()))?;
+    let expected = counted(list, by);
     prop_assert_eq!(page.as_str(), lines(&expected));
     let shares: Vec<(u64, usize, u32)> = page.shares().map(|share| (share.group, share.candidates, share.tenths)).collect();
     prop_assert!(shares.windows(2).all(|pair| pair[0].0 < pair[1].0));
@@ -46,11 +52,15 @@ fn agrees(list: &[SocketAddr], map: Option<&AsMap>) -> Result<(), TestCaseError>
 #[test]
 fn a_page_is_the_count_of_each_group_by_a_map_and_without() {
     let places = prop::collection::vec(any::<prop::sample::Index>(), 0..60);
-    holds(1_500, (walked_programs(), any::<bool>(), places), |((program, addresses), with_map, places)| {
+    holds(3_000, (walked_programs(), 0..4u8, places), |((program, addresses), by, places)| {
         let mut pool: Vec<IpAddr> = addresses.iter().map(|&address| Ipv6Addr::from(address).into()).collect();
         pool.extend(addresses.iter().map(|address| IpAddr::from(Ipv4Addr::new(address[0] % 3, address[1] % 2, 1, 2))));
+        pool.extend(addresses.iter().map(|address| IpAddr::from(Ipv4Addr::new(address[2] % 3, 0, 3, 4).to_ipv6_mapped())));
+        pool.extend(
+            addresses.iter().map(|address| IpAddr::from(Ipv6Addr::new(0, u16::from(address[0] % 3) << 8, 0, 0, 0, 0, 0, 1))),
+        );
         let list: Vec<SocketAddr> = places.iter().map(|place| SocketAddr::new(pool[place.index(pool.len())], 8333)).collect();
-        agrees(&list, AsMap::from_bytes(program.map()).filter(|_| with_map).as_ref())
+        agrees(&list, &By::drawn(by, program.map())?)
     });
 }
 
@@ -61,7 +71,8 @@ fn a_page_of_many_candidates_is_the_count_of_each_group() {
         .prop_flat_map(|(groups, length)| prop::collection::vec(0..groups, length));
     holds(200, list, |groups| {
         let list: Vec<SocketAddr> = groups.iter().map(|group| SocketAddr::from((Ipv4Addr::from(group << 16), 8333))).collect();
-        agrees(&list, None)
+        agrees(&list, &By::New)?;
+        agrees(&list, &By::Old)
     });
 }
 
@@ -73,14 +84,21 @@ fn every_share_of_a_list_of_two_groups_is_the_nearest_tenth() {
     holds(500, prop_oneof![lists, halves], |(all, some)| {
         let some = some.index(all + 1);
         let peer = |place| SocketAddr::from((Ipv4Addr::new(u8::from(place < some), 2, 3, 4), 8333));
-        agrees(&(0..all).map(peer).collect::<Vec<_>>(), None)
+        agrees(&(0..all).map(peer).collect::<Vec<_>>(), &By::New)
     });
 }
 
-/// How many groups well-formed candidates have: with a map as it is, whether it would be accepted or not.
-fn groups_of(list: &[Vec<u8>], has_map: u8, map: &[u8]) -> usize {
-    let group = |candidate: &Vec<u8>| calls::netgroup(sys::corbastrigo_netgroup_unchecked, candidate, has_map, map).1;
-    list.iter().map(group).collect::<BTreeSet<u64>>().len()
+/// How many groups candidates have.
+fn groups_of(list: &[Vec<u8>], group: impl Fn(&[u8]) -> u64) -> usize {
+    list.iter().map(|candidate| group(candidate)).collect::<BTreeSet<u64>>().len()
+}
+
+/// What a page left of its outputs, with so many bytes of lines: behind them, or where it was refused everywhere, stands what stood there; no
+/// line has such a byte.
+fn left_alone((answer, written, out): &calls::Bytes, needed: usize) -> bool {
+    let end = if *answer == 0 { needed } else { 0 };
+    let number = if *answer == 0 { needed } else { BEFORE_SIZE };
+    *written == number && out.iter().enumerate().all(|(place, &byte)| (byte == BEFORE) == (place >= end))
 }
 
 #[test]
@@ -96,19 +114,24 @@ fn a_page_asks_for_length_number_forms_map_and_room() {
         }
         let forms = fault(!list.iter().all(|candidate| well_formed(candidate)), 13);
         let before = first(&[fault(ragged != 0, 13), fault(many, 12), forms]);
-        let needed = if before == 0 { sys::PAGE_LINE_BYTES * groups_of(&list, has_map, &map) } else { 0 };
+        // By a map as it is, whether it would be accepted or not.
+        let by_call = |candidate: &[u8]| calls::netgroup(sys::corbastrigo_netgroup_unchecked, candidate, has_map, &map).1;
+        let lines = |groups: usize| if before == 0 { sys::PAGE_LINE_BYTES * groups } else { 0 };
+        let (needed, of_old) =
+            (lines(groups_of(&list, by_call)), lines(groups_of(&list, |candidate| calls::prefix_group(candidate).1)));
         let room = needed.saturating_add_signed(spare);
         let mut bytes = list.concat();
         bytes.extend(vec![0; ragged]);
         let (checked, unchecked) = if has_map == 0 { (0, 0) } else { refusals_of(&map) };
         for (call, of_map) in [(sys::corbastrigo_page as sys::Page, checked), (sys::corbastrigo_page_unchecked, unchecked)] {
-            let (answer, written, out) = calls::page(call, &bytes, has_map, &map, room);
-            prop_assert_eq!(answer, first(&[before, of_map, fault(room < needed, 14)]));
-            prop_assert_eq!(written, if answer == 0 { needed } else { BEFORE_SIZE });
-            // Behind the lines, or where it was refused everywhere, stands what stood there; no line has such a byte.
-            let end = if answer == 0 { needed } else { 0 };
-            prop_assert!(out.iter().enumerate().all(|(place, &byte)| (byte == BEFORE) == (place >= end)));
+            let left = calls::page(call, &bytes, has_map, &map, room);
+            prop_assert_eq!(left.0, first(&[before, of_map, fault(room < needed, 14)]));
+            prop_assert!(left_alone(&left, needed));
         }
+        let room = of_old.saturating_add_signed(spare);
+        let left = calls::old_prefix_page(&bytes, room);
+        prop_assert_eq!(left.0, first(&[before, fault(room < of_old, 14)]));
+        prop_assert!(left_alone(&left, of_old));
         Ok(())
     });
 }

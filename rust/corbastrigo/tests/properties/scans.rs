@@ -1,7 +1,7 @@
 //! The scan of the occupied groups, worked through here as document 02 says it (CR 2), and what a pick takes for occupied.
 use crate::calls::{self, BEFORE, BEFORE_SIZE};
 use crate::holds;
-use corbastrigo::{netgroup, pick, scan_occupied, MAX_CANDIDATES};
+use corbastrigo::{netgroup, pick, scan_occupied, IPV4_GROUPS, MAX_CANDIDATES};
 use proptest::prelude::*;
 use std::collections::HashSet;
 use std::net::{Ipv4Addr, SocketAddr};
@@ -39,7 +39,8 @@ fn over_4096_occupied_groups_are_refused_and_nothing_is_written() {
 
 #[test]
 fn a_pick_takes_a_group_for_occupied_where_a_scan_finds_it() {
-    holds(1_000, (0..60u32, prop::collection::vec(0..60u64, 0..80)), |(high, occupied)| {
+    let groups = prop::collection::vec(IPV4_GROUPS..IPV4_GROUPS + 60, 0..80);
+    holds(1_000, (0..60u32, groups), |(high, occupied)| {
         let peer = SocketAddr::from((Ipv4Addr::from(high << 16), 8333));
         let set: HashSet<u64> = occupied.iter().copied().collect();
         let picked = pick(&[peer], 1, &set, None).map_err(|refusal| TestCaseError::fail(refusal.to_string()))?;
