@@ -1,5 +1,5 @@
 //! The spread on a printed page, from document 02's sentences (CR 4). The original has no page, but its groups and its check decide: groups
-//! are those of `picks`, which are held to its `netgroup`, and which groups there are is held to its pick.
+//! are those of `picks`, which are held to its `netgroup` but for the new numbering, and which groups there are is held to its pick.
 use crate::document::Refusal;
 use crate::picks::{self, Groups};
 use std::collections::BTreeMap;

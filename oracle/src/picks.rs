@@ -1,15 +1,17 @@
-//! Document 01's groups and picks, worked through from its text. Groups over accepted maps and without a map are held to the original's
-//! `netgroup`, the picks and the number of candidates examined to its `select_diverse`.
+//! Document 01's groups and picks, worked through from its text, and document 02's groups without a map (CR 7). Groups over accepted maps are
+//! held to the original's `netgroup`, which also gives those of the old numbering; the picks and the number of candidates examined are held to
+//! its `select_diverse`, by whatever numbers.
 use crate::asmap::AsMap;
 use crate::document::{check, walk, Refusal, Verdict};
 use crate::netgroup;
 use std::cell::Cell;
 use std::net::{IpAddr, Ipv4Addr, Ipv6Addr, SocketAddr};
 
-/// No map, a map that is checked, or a map taken as it is.
+/// No map and document 02's numbering (CR 7), no map and the old one, which is the original's, a map that is checked, or a map taken as it is.
 #[derive(Clone, Copy)]
 pub enum By<'a> {
     Prefixes,
+    OldPrefixes,
     Map(&'a [u8]),
     Unchecked(&'a [u8]),
 }
@@ -44,8 +46,10 @@ impl<'a> Groups<'a> {
 
     /// A candidate's group, and the instructions of its walk.
     fn grouped(&self, candidate: &[u8]) -> (u64, u64) {
-        let (By::Map(map) | By::Unchecked(map)) = self.by else {
-            return (netgroup::netgroup(socket(candidate), None), 0);
+        let map = match self.by {
+            By::Prefixes => return (prefix_group(socket(candidate)), 0),
+            By::OldPrefixes => return (netgroup::netgroup(socket(candidate), None), 0),
+            By::Map(map) | By::Unchecked(map) => map,
         };
         let walked = walk(map, &address(candidate));
         if self.original.is_some() {
@@ -59,6 +63,22 @@ impl<'a> Groups<'a> {
             return Err(13);
         }
         self.map_refusal().map(|()| self.grouped(candidate).0)
+    }
+}
+
+/// The numbers of IPv4 prefixes begin here (document 02, CR 7).
+pub const IPV4_GROUPS: u64 = 4_294_967_296;
+
+/// "An IPv4 or mapped address gives 4,294,967,296 + 256 × a + b": of the address as one number, what is left without its last two bytes. Any
+/// other has the number that it had, which is the original's.
+pub fn prefix_group(peer: SocketAddr) -> u64 {
+    let ipv4 = match peer.ip() {
+        IpAddr::V4(ip) => Some(ip),
+        IpAddr::V6(ip) => ip.to_ipv4_mapped(),
+    };
+    match ipv4 {
+        Some(ip) => IPV4_GROUPS + u64::from(u32::from(ip) / 65_536),
+        None => netgroup::netgroup(peer, None),
     }
 }
 

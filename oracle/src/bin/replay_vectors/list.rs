@@ -68,7 +68,7 @@ pub struct List {
     width: Option<u32>,
 }
 
-/// What a pick is handed. The rooms are those of the places and of the groups. With `By::Prefixes` the map is there and not looked at.
+/// What a pick is handed. The rooms are those of the places and of the groups. Without a map one is there and not looked at.
 #[derive(Clone, Copy)]
 pub struct Picking<'a> {
     pub list: &'a [u8],
@@ -79,7 +79,7 @@ pub struct Picking<'a> {
     pub rooms: [usize; 2],
 }
 
-/// What a page is handed: the room is the output's. With `By::Prefixes` the map is there and not looked at.
+/// What a page is handed: the room is the output's. Without a map one is there and not looked at.
 #[derive(Clone, Copy)]
 pub struct Paging<'a> {
     pub list: &'a [u8],
@@ -296,17 +296,18 @@ impl List {
 
     // ---- peers
 
+    /// By the old numbering, whatever else changes.
     pub fn prefix_group(&mut self, candidate: &[u8]) {
-        self.add('n', &[candidate, &answered(&group(By::Prefixes, candidate))]);
+        self.add('n', &[candidate, &answered(&group(By::OldPrefixes, candidate))]);
     }
 
-    /// With `By::Prefixes` the map is there and not looked at.
+    /// Without a map one is there and not looked at.
     pub fn group(&mut self, by: By, candidate: &[u8], map: &[u8]) {
-        self.add('g', &[&[has_map(by)], candidate, map, &answered(&group(by, candidate))]);
+        self.add('g', &[&[word_of(by)], candidate, map, &answered(&group(by, candidate))]);
     }
 
     pub fn group_unchecked(&mut self, by: By, candidate: &[u8], map: &[u8]) {
-        self.add('h', &[&[has_map(by)], candidate, map, &answered(&group(by, candidate))]);
+        self.add('h', &[&[word_of(by)], candidate, map, &answered(&group(by, candidate))]);
     }
 
     pub fn pick(&mut self, inputs: &Picking) -> Result<Pick, Refusal> {
@@ -329,7 +330,7 @@ impl List {
         let taken = numbers(occupied);
         let outputs = [le(places.iter().map(|place| place.to_le_bytes())), numbers(&groups)];
         let max = word::number(max as u64);
-        self.add(call, &[&[has_map(by)], list, &taken, &max, map, &answered(&answer), &outputs[0], &outputs[1]]);
+        self.add(call, &[&[word_of(by)], list, &taken, &max, map, &answered(&answer), &outputs[0], &outputs[1]]);
         made
     }
 
@@ -355,7 +356,7 @@ impl List {
         let Paging { list, by, map, room } = *inputs;
         let made = page::page(list, &Groups::new(by));
         let Written { answer, left, bytes } = written_to(made.clone().map(String::into_bytes), room);
-        self.add(call, &[&[has_map(by)], list, map, &answer, &left]);
+        self.add(call, &[&[word_of(by)], list, map, &answer, &left]);
         bytes.and(made)
     }
 
@@ -473,8 +474,13 @@ fn loaded(seed: u64, pairs: u64) -> Answer {
     Ok(load.bytes())
 }
 
-fn has_map(by: By) -> u8 {
-    u8::from(!matches!(by, By::Prefixes))
+/// What a line has for what groups go by.
+fn word_of(by: By) -> u8 {
+    match by {
+        By::Prefixes => 0,
+        By::Map(_) | By::Unchecked(_) => 1,
+        By::OldPrefixes => 2,
+    }
 }
 
 fn group(by: By, candidate: &[u8]) -> Answer {

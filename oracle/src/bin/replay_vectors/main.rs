@@ -43,16 +43,17 @@
 //!     Q WIDTH MAP ANSWER                 bytes of a list,
 //!     V WIDTH OLD NEW ANSWER CHANGES     two maps compared,
 //!     Y WIDTH OLD NEW ANSWER FIRST       bytes of that
-//!     n CANDIDATE ANSWER                 group by prefix: group (8)
-//!     g HAS CANDIDATE MAP ANSWER         group (8). HAS is 1 with a map, and 0 without, where the map is not to be looked at
-//!     h HAS CANDIDATE MAP ANSWER         the same with a map that is not checked
-//!     s HAS LIST OCCUPIED MAX MAP ANSWER PLACES GROUPS
+//!     n CANDIDATE ANSWER                 group by prefix, of the old numbering: group (8)
+//!     g BY CANDIDATE MAP ANSWER          group (8). BY is 1 with a map; without, where the map is not to be looked at, it is 0 for document
+//!                                        02's numbering (CR 7) and 2 for the old one, which is the original's
+//!     h BY CANDIDATE MAP ANSWER          the same with a map that is not checked
+//!     s BY LIST OCCUPIED MAX MAP ANSWER PLACES GROUPS
 //!                                        pick: total, first, examined, instructions (8 each). Occupied groups have 8 bytes each, as GROUPS
 //!                                        have, and PLACES 2
 //!     t (the same)                       pick with a map that is not checked
 //!     o GROUP OCCUPIED ANSWER            occupied scan: whether there is a hit (1), its place or 0 (8), how many groups were read (8)
-//!     a HAS LIST MAP ANSWER PAGE         page: bytes written (4). HAS as above
-//!     z HAS LIST MAP ANSWER PAGE         the same with a map that is not checked
+//!     a BY LIST MAP ANSWER PAGE          page: bytes written (4). BY as above
+//!     z BY LIST MAP ANSWER PAGE          the same with a map that is not checked
 //!     m IPV4 ADDRESS                     IPv4-mapped address
 //!     f ADDRESS ANSWER                   unroutable (1)
 //!     r NETWORK PORT ADDRESS ANSWER      relay skip (1)
