@@ -52,11 +52,8 @@ fn by_text(ip: IpAddr) -> u64 {
 /// All mapped addresses lie behind one another, each group's 65,536 of them too; of all others a group's lie between two multiples of 2^96.
 fn by_place(address: Ipv6Addr) -> u64 {
     let place = u128::from(address);
-    let (of_its_kind, first) = if (MAPPED[0]..MAPPED[1]).contains(&place) {
-        ((place - MAPPED[0]) >> 16, 1 << 32)
-    } else {
-        (place >> 96, 0)
-    };
+    let (of_its_kind, first) =
+        if (MAPPED[0]..MAPPED[1]).contains(&place) { ((place - MAPPED[0]) >> 16, 1 << 32) } else { (place >> 96, 0) };
     first + of_its_kind as u64
 }
 

@@ -72,6 +72,7 @@ mod cuts;
 mod list;
 mod listings;
 mod loads;
+mod numbering;
 mod pages;
 mod peers;
 mod programs;
@@ -103,6 +104,7 @@ fn main() {
     crowded::cases(&mut list);
     scans::cases(&mut list, &mut tables);
     pages::cases(&mut list, &mut tables);
+    numbering::cases(&mut list, &mut tables);
     cuts::cases(&mut list, &mut tables);
     loads::cases(&mut list, &mut tables);
     addresses::cases(&mut list, &mut tables);

@@ -1,5 +1,5 @@
 //! Pages of the spread: exact halves and what lies beside them, numbers of each length in each column, candidates in any order, and every
-//! refusal in its order; with a map that is checked, with the same one as it is, and with none.
+//! refusal in its order; with a map that is checked, with the same one as it is, and with none, by both numberings.
 use crate::crowded::peer;
 use crate::list::{List, Paging};
 use crate::peers::{list_of, not_mapped, other_family, second_byte, twenty_one, LOOPBACK, MIXED, NONE};
@@ -46,14 +46,17 @@ fn spread(groups: Spread) -> Vec<u8> {
 }
 
 /// A page by a map that is checked and by the same one as it is, or by both calls without one.
-fn page(list: &mut List, candidates: &[u8], map: Option<&[u8]>, room: usize) -> [Result<String, Refusal>; 2] {
-    let [checked, unchecked] = map.map_or([By::Prefixes; 2], |map| [By::Map(map), By::Unchecked(map)]);
+pub fn page(list: &mut List, candidates: &[u8], by: By, room: usize) -> [Result<String, Refusal>; 2] {
     // Without a map what stands in its place is not looked at.
-    let inputs = Paging { list: candidates, by: checked, map: map.unwrap_or(NONE), room };
+    let (unchecked, map) = match by {
+        By::Map(map) => (By::Unchecked(map), map),
+        without => (without, NONE),
+    };
+    let inputs = Paging { list: candidates, by, map, room };
     [list.page(&inputs), list.page_unchecked(&Paging { by: unchecked, ..inputs })]
 }
 
-fn row(tables: &mut Tables, name: &str, made: &Result<String, Refusal>) {
+pub fn row(tables: &mut Tables, name: &str, made: &Result<String, Refusal>) {
     match made {
         Err(reason) => tables.row("page", format!("{name}: refused {reason}")),
         Ok(text) => {
@@ -71,24 +74,31 @@ fn rows(tables: &mut Tables, name: &str, [checked, unchecked]: [Result<String, R
     }
 }
 
-/// By prefixes the two calls take turns.
+/// By prefixes the two calls take turns. The candidates have the same groups by both numberings.
 fn teaching(list: &mut List, tables: &mut Tables) {
-    list.heading("pages by prefixes");
+    list.heading("pages by prefixes, of each list by the old numbering through one call and by the new through the other");
     for (place, (name, groups)) in TEACHING.into_iter().enumerate() {
         let candidates = spread(groups);
-        let inputs = Paging { list: &candidates, by: By::Prefixes, map: NONE, room: LINE * groups.len() };
-        let made = if place % 2 == 0 { list.page(&inputs) } else { list.page_unchecked(&inputs) };
-        row(tables, name, &made);
+        let old = Paging { list: &candidates, by: By::OldPrefixes, map: NONE, room: LINE * groups.len() };
+        let new = Paging { by: By::Prefixes, ..old };
+        let made = match place % 2 {
+            0 => [list.page(&old), list.page_unchecked(&new)],
+            _ => [list.page_unchecked(&old), list.page(&new)],
+        };
+        assert_eq!(made[0], made[1], "{name}");
+        row(tables, name, &made[0]);
     }
     list.heading("pages of a few candidates, with a map and without");
-    for (name, texts, map) in [
-        ("mixed by prefixes", &MIXED[..], None),
-        ("mixed by TWO_PREFIX_ASMAP", &MIXED, Some(TWO_PREFIX_ASMAP)),
-        ("loopback by prefixes", &LOOPBACK, None),
-        ("loopback by LOOPBACK_ASMAP", &LOOPBACK, Some(LOOPBACK_ASMAP)),
-        ("nobody by TWO_PREFIX_ASMAP", &[], Some(TWO_PREFIX_ASMAP)),
+    for (name, texts, by) in [
+        ("mixed by the old numbering", &MIXED[..], By::OldPrefixes),
+        ("mixed by the new numbering", &MIXED, By::Prefixes),
+        ("mixed by TWO_PREFIX_ASMAP", &MIXED, By::Map(TWO_PREFIX_ASMAP)),
+        ("loopback by the old numbering", &LOOPBACK, By::OldPrefixes),
+        ("loopback by the new numbering", &LOOPBACK, By::Prefixes),
+        ("loopback by LOOPBACK_ASMAP", &LOOPBACK, By::Map(LOOPBACK_ASMAP)),
+        ("nobody by TWO_PREFIX_ASMAP", &[], By::Map(TWO_PREFIX_ASMAP)),
     ] {
-        let made = page(list, &list_of(texts), map, LINE * texts.len());
+        let made = page(list, &list_of(texts), by, LINE * texts.len());
         assert_eq!(made[0], made[1], "{name}: both come to the same where the check accepts");
         row(tables, name, &made[0]);
     }
@@ -99,7 +109,7 @@ fn each_count(list: &mut List) {
     list.heading("pages of 16 candidates of two groups, each count of the first");
     for count in 1..16 {
         let candidates = spread(&[(10, count), (11, 16 - count)]);
-        let _ = list.page(&Paging { list: &candidates, by: By::Prefixes, map: &[], room: 2 * LINE });
+        let _ = list.page(&Paging { list: &candidates, by: By::OldPrefixes, map: &[], room: 2 * LINE });
     }
 }
 
@@ -112,7 +122,7 @@ fn many(list: &mut List) {
     for (groups, room, written) in
         [(&falling, 30 * LINE, Ok(30 * LINE)), (&turns, 12 * LINE, Ok(12 * LINE)), (&most, 8192, Err(14))]
     {
-        let made = list.page(&Paging { list: &spread(groups), by: By::Prefixes, map: &[], room });
+        let made = list.page(&Paging { list: &spread(groups), by: By::OldPrefixes, map: &[], room });
         assert_eq!(made.map(|page| page.len()), written);
     }
 }
@@ -121,17 +131,20 @@ fn many(list: &mut List) {
 fn rooms(list: &mut List, tables: &mut Tables) {
     list.heading("pages: outputs just long enough, a byte and a line shorter, none, and longer");
     let four = list_of(&MIXED[..4]);
-    for (name, candidates, map, needed) in [
-        ("the first four of mixed by prefixes", &four[..], None, 3 * LINE),
-        ("the first four of mixed by TWO_PREFIX_ASMAP", &four, Some(TWO_PREFIX_ASMAP), 3 * LINE),
-        ("the first of mixed by prefixes", &four[..20], None, LINE),
-        ("nobody by prefixes", &[], None, 0),
+    for (name, candidates, by, needed) in [
+        ("the first four of mixed by the old numbering", &four[..], By::OldPrefixes, 3 * LINE),
+        ("the first four of mixed by the new numbering", &four, By::Prefixes, 3 * LINE),
+        ("the first four of mixed by TWO_PREFIX_ASMAP", &four, By::Map(TWO_PREFIX_ASMAP), 3 * LINE),
+        ("the first of mixed by the old numbering", &four[..20], By::OldPrefixes, LINE),
+        ("the first of mixed by the new numbering", &four[..20], By::Prefixes, LINE),
+        ("nobody by the old numbering", &[], By::OldPrefixes, 0),
+        ("nobody by the new numbering", &[], By::Prefixes, 0),
     ] {
         let shorter = [0, LINE - 1, needed.saturating_sub(LINE), needed.saturating_sub(1)];
         let rooms: BTreeSet<usize> =
             shorter.into_iter().filter(|&room| room < needed).chain([0, 2, LINE].map(|more| needed + more)).collect();
         for room in rooms {
-            let made = page(list, candidates, map, room);
+            let made = page(list, candidates, by, room);
             assert_eq!(made[0], made[1], "{name}");
             let said = made[0].as_ref().map_or_else(|reason| format!("refused {reason}"), |page| format!("{} bytes", page.len()));
             tables.row("page", format!("{name}, an output of {room} bytes: {said}"));
@@ -144,22 +157,23 @@ fn refusals(list: &mut List, tables: &mut Tables) {
     list.heading("pages that are refused, each with all that is looked at later wrong too");
     let (two, wrong) = (list_of(&MIXED[..2]), other_family()[20..].to_vec());
     let (most, more) = (wrong.repeat(4096), wrong.repeat(4097));
-    for (name, candidates, map) in [
-        ("19 bytes, a map that is none, no room", &two[..19], Some(NONE)),
-        ("21 bytes, a map that is none, no room", &twenty_one(), Some(NONE)),
-        ("4,097 candidates of another family and a byte, a map that is none, no room", &[&more[..], &[0]].concat(), Some(NONE)),
-        ("4,097 candidates of another family, a map that is none, no room", &more, Some(NONE)),
-        ("4,096 candidates of another family, a map that is none, no room", &most, Some(NONE)),
-        ("another family, a map that is none, no room", &other_family(), Some(NONE)),
-        ("a second byte of 1, a map that is none, no room", &second_byte(), Some(NONE)),
-        ("family 4 without the mapped form, a map that is none, no room", &not_mapped(), Some(NONE)),
-        ("a map that is none, no room", &two, Some(NONE)),
-        ("no room", &two, Some(TWO_PREFIX_ASMAP)),
-        ("nobody, a map that is none, no room", &[], Some(NONE)),
-        ("4,097 candidates without a map", &two[..20].repeat(4097), None),
-        ("another family without a map, no room", &other_family(), None),
+    let by_none = By::Map(NONE);
+    for (name, candidates, by) in [
+        ("19 bytes, a map that is none, no room", &two[..19], by_none),
+        ("21 bytes, a map that is none, no room", &twenty_one(), by_none),
+        ("4,097 candidates of another family and a byte, a map that is none, no room", &[&more[..], &[0]].concat(), by_none),
+        ("4,097 candidates of another family, a map that is none, no room", &more, by_none),
+        ("4,096 candidates of another family, a map that is none, no room", &most, by_none),
+        ("another family, a map that is none, no room", &other_family(), by_none),
+        ("a second byte of 1, a map that is none, no room", &second_byte(), by_none),
+        ("family 4 without the mapped form, a map that is none, no room", &not_mapped(), by_none),
+        ("a map that is none, no room", &two, by_none),
+        ("no room", &two, By::Map(TWO_PREFIX_ASMAP)),
+        ("nobody, a map that is none, no room", &[], by_none),
+        ("4,097 candidates by the old numbering", &two[..20].repeat(4097), By::OldPrefixes),
+        ("another family by the old numbering, no room", &other_family(), By::OldPrefixes),
     ] {
-        rows(tables, name, page(list, candidates, map, 0));
+        rows(tables, name, page(list, candidates, by, 0));
     }
 }
 
@@ -170,7 +184,7 @@ fn forms(list: &mut List) {
         for place in [0, 1, 2] {
             let mut candidates = pair[..20].repeat(3);
             candidates[20 * place..20 * (place + 1)].copy_from_slice(&pair[20..]);
-            assert_eq!(page(list, &candidates, Some(TWO_PREFIX_ASMAP), LINE), [Err(13), Err(13)]);
+            assert_eq!(page(list, &candidates, By::Map(TWO_PREFIX_ASMAP), LINE), [Err(13), Err(13)]);
         }
     }
 }
@@ -180,11 +194,11 @@ fn reasons(list: &mut List, tables: &mut Tables) {
     list.heading("pages by the original's test maps and by document 01's refused ones");
     let four = list_of(&MIXED[..4]);
     for (name, map) in MAPS {
-        let made = page(list, &four, Some(map), 3 * LINE);
+        let made = page(list, &four, By::Map(map), 3 * LINE);
         rows(tables, &format!("the first four of mixed by {name}"), made);
     }
     for map in EXAMPLES.map(bytes) {
-        let [checked, unchecked] = page(list, &four[40..], Some(&map), 2 * LINE);
+        let [checked, unchecked] = page(list, &four[40..], By::Map(&map), 2 * LINE);
         assert!(checked.is_err() && unchecked.is_ok(), "{map:?}");
     }
 }
@@ -201,8 +215,8 @@ fn sample(list: &mut List) {
         let groups: Vec<(u32, usize)> =
             (0..count).map(|_| ((random.below(8) << 29) as u32, 1 + random.below(3) as usize)).collect();
         let candidates = spread(&groups);
-        for map in [None, Some(&whole[..]), Some(&damaged)] {
-            let _ = page(list, &candidates, map, LINE * random.below(5) as usize);
+        for by in [By::OldPrefixes, By::Map(&whole), By::Map(&damaged)] {
+            let _ = page(list, &candidates, by, LINE * random.below(5) as usize);
         }
     }
 }

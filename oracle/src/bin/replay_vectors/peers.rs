@@ -1,4 +1,4 @@
-//! Groups and picks over the original's test maps and without a map, and every refusal in its order.
+//! Groups and picks over the original's test maps and without a map, by both numberings, and every refusal in its order.
 use crate::list::{List, Picking};
 use crate::tables::{runs, Tables};
 use oracle::asmap::{self, LOOPBACK_ASMAP, TWO_PREFIX_ASMAP};
@@ -25,7 +25,7 @@ pub const LOOPBACK: [&str; 6] =
 /// A map that is none: its walks abort, and the check refuses it with 2.
 pub const NONE: &[u8] = asmap::ASMAP_JUMP_OFF_END;
 
-fn candidate(text: &str) -> Vec<u8> {
+pub fn candidate(text: &str) -> Vec<u8> {
     let socket: SocketAddr = text.parse().expect("an address and a port");
     let family = if socket.is_ipv4() { 4 } else { 6 };
     [&[family, 0][..], &asmap::ip16_for_lookup(socket.ip()), &socket.port().to_be_bytes()].concat()
@@ -62,23 +62,25 @@ pub fn twenty_one() -> Vec<u8> {
 
 // ---- groups
 
-/// By its prefix, by a map that is checked, and by the same map as it is.
+/// By its prefix, by a map that is checked, and by the same map as it is. Without a map by both numberings through both calls.
 pub fn group(list: &mut List, candidate: &[u8], map: &[u8]) {
     list.prefix_group(candidate);
-    list.group(By::Prefixes, candidate, map);
+    list.group(By::OldPrefixes, candidate, map);
     list.group(By::Map(map), candidate, map);
-    list.group_unchecked(By::Prefixes, candidate, map);
+    list.group_unchecked(By::OldPrefixes, candidate, map);
     list.group_unchecked(By::Unchecked(map), candidate, map);
+    list.group(By::Prefixes, candidate, map);
+    list.group_unchecked(By::Prefixes, candidate, map);
 }
 
-fn group_row(tables: &mut Tables, name: &str, what: &str, candidate: &[u8], map: &[u8]) {
+pub fn group_row(tables: &mut Tables, name: &str, what: &str, candidate: &[u8], map: &[u8]) {
     let group = |by| Groups::new(by).group(candidate).map_or_else(|reason| format!("refused {reason}"), |group| group.to_string());
-    let [prefix, mapped, unchecked] = [By::Prefixes, By::Map(map), By::Unchecked(map)].map(group);
-    tables.row("groups", format!("{name}, {what}: prefix {prefix}, map {mapped}, unchecked {unchecked}"));
+    let [new, old, mapped, unchecked] = [By::Prefixes, By::OldPrefixes, By::Map(map), By::Unchecked(map)].map(group);
+    tables.row("groups", format!("{name}, {what}: prefix {new}, old {old}, map {mapped}, unchecked {unchecked}"));
 }
 
 fn groups(list: &mut List, tables: &mut Tables) {
-    list.heading("groups: of each candidate by its prefix, by a map, and by the map unchecked");
+    list.heading("groups: of each candidate by its prefix, by both numberings, by a map, and by the map unchecked");
     for (name, map, texts) in [
         ("TWO_PREFIX_ASMAP", TWO_PREFIX_ASMAP, &MIXED[..]),
         ("LOOPBACK_ASMAP", LOOPBACK_ASMAP, &LOOPBACK),
@@ -123,12 +125,12 @@ fn said(made: &Result<Pick, Refusal>) -> String {
 
 /// A list of candidates under a name, with the groups that are occupied, and the map that is handed over, also where groups do not go
 /// by it.
-struct Case<'a> {
-    name: &'a str,
-    list: &'a [u8],
-    occupied: &'a [u64],
-    by: By<'a>,
-    map: &'a [u8],
+pub struct Case<'a> {
+    pub name: &'a str,
+    pub list: &'a [u8],
+    pub occupied: &'a [u64],
+    pub by: By<'a>,
+    pub map: &'a [u8],
 }
 
 fn most(max: usize) -> String {
@@ -162,7 +164,7 @@ impl Case<'_> {
 }
 
 /// Every max up to two above a list of ten, and the largest, into outputs of twelve places. Those that pick the same are one row.
-fn each_max(list: &mut List, tables: &mut Tables, case: &Case) {
+pub fn each_max(list: &mut List, tables: &mut Tables, case: &Case) {
     list.heading(&format!("picks: {}, every max", case.name));
     let all = (0..13).chain([usize::MAX]).map(|max| (max, case.pick(list, max, [12, 12])));
     for (first, last, made) in runs(all) {
@@ -171,17 +173,24 @@ fn each_max(list: &mut List, tables: &mut Tables, case: &Case) {
     }
 }
 
+/// Who the candidates of a list are.
+pub fn name_row(tables: &mut Tables, name: &str, texts: &[&str]) {
+    let places = texts.iter().enumerate().map(|(place, text)| format!(" {place} {text}")).collect::<Vec<String>>();
+    tables.row("pick", format!("{name}:{}", places.join(",")));
+}
+
 fn picks(list: &mut List, tables: &mut Tables) {
     let (mixed, loopback) = (list_of(&MIXED), list_of(&LOOPBACK));
     let by_two = By::Map(TWO_PREFIX_ASMAP);
     let by_loops = By::Map(LOOPBACK_ASMAP);
     for (name, texts) in [("mixed", &MIXED[..]), ("loopback", &LOOPBACK)] {
-        let places = texts.iter().enumerate().map(|(place, text)| format!(" {place} {text}")).collect::<Vec<String>>();
-        tables.row("pick", format!("{name}:{}", places.join(",")));
+        name_row(tables, name, texts);
     }
     for (name, candidates, occupied, by, map) in [
-        ("mixed by prefixes", &mixed[..], &[][..], By::Prefixes, NONE),
-        ("mixed by prefixes, 258 and 0 occupied", &mixed, &[258, 0], By::Prefixes, NONE),
+        ("mixed by the old numbering", &mixed[..], &[][..], By::OldPrefixes, NONE),
+        ("mixed by the old numbering, 258 and 0 occupied", &mixed, &[258, 0], By::OldPrefixes, NONE),
+        ("mixed by the new numbering", &mixed, &[], By::Prefixes, NONE),
+        ("mixed by the new numbering, 4294967554 occupied", &mixed, &[4_294_967_554], By::Prefixes, NONE),
         ("mixed by TWO_PREFIX_ASMAP", &mixed, &[], by_two, TWO_PREFIX_ASMAP),
         ("mixed by TWO_PREFIX_ASMAP, 258 and 0 occupied", &mixed, &[258, 0], by_two, TWO_PREFIX_ASMAP),
         ("loopback by LOOPBACK_ASMAP", &loopback, &[], by_loops, LOOPBACK_ASMAP),
@@ -233,15 +242,15 @@ fn rooms(list: &mut List, tables: &mut Tables) {
     let mixed = list_of(&MIXED);
     for (max, room) in [(3, 3), (usize::MAX, 10)] {
         for (name, rooms) in [
-            ("mixed by prefixes, outputs just long enough", [room, room]),
-            ("mixed by prefixes, a place too few", [room - 1, room]),
-            ("mixed by prefixes, a group too few", [room, room - 1]),
+            ("mixed by the old numbering, outputs just long enough", [room, room]),
+            ("mixed by the old numbering, a place too few", [room - 1, room]),
+            ("mixed by the old numbering, a group too few", [room, room - 1]),
         ] {
-            Case { name, list: &mixed, occupied: &[], by: By::Prefixes, map: NONE }.pick_row(list, tables, max, rooms);
+            Case { name, list: &mixed, occupied: &[], by: By::OldPrefixes, map: NONE }.pick_row(list, tables, max, rooms);
         }
     }
-    let name = "mixed by prefixes, outputs without a place";
-    Case { name, list: &mixed, occupied: &[], by: By::Prefixes, map: NONE }.pick_row(list, tables, 0, [0, 0]);
+    let name = "mixed by the old numbering, outputs without a place";
+    Case { name, list: &mixed, occupied: &[], by: By::OldPrefixes, map: NONE }.pick_row(list, tables, 0, [0, 0]);
 }
 
 /// Candidates of family 6 over zeros: the address of that at place i begins with i in two bytes.
@@ -255,15 +264,15 @@ fn limits(list: &mut List) {
     let own: Vec<u64> = (0..4096).map(|i| i << 16).collect();
     let map = TWO_PREFIX_ASMAP;
     for (name, candidates, occupied, max, by, room) in [
-        ("4,096 candidates by prefixes", &most[..], &[][..], 4096, By::Prefixes, 4096),
-        ("4,096 candidates by prefixes, the largest max", &most, &[], usize::MAX, By::Prefixes, 4096),
+        ("4,096 candidates by the old numbering", &most[..], &[][..], 4096, By::OldPrefixes, 4096),
+        ("4,096 candidates by the old numbering, the largest max", &most, &[], usize::MAX, By::OldPrefixes, 4096),
         ("4,096 candidates by a map, the largest max", &most, &[], usize::MAX, By::Map(map), 4096),
-        ("4,096 candidates, all of their groups occupied", &most, &own, 10, By::Prefixes, 4096),
-        ("4,096 candidates, all of their groups occupied, max above them", &most, &own, 4097, By::Prefixes, 4096),
-        ("4,097 candidates", &more, &[], 10, By::Prefixes, 0),
-        ("4,097 occupied groups, no candidates, no room", &[0; 81920], &[0; 4097], 10, By::Prefixes, 0),
-        ("no candidates, no room", &[0; 81920], &[], 10, By::Prefixes, 0),
-        ("a length of no candidates, 4,097 occupied groups, no room", &[0; 81939], &[0; 4097], 10, By::Prefixes, 0),
+        ("4,096 candidates, all of their groups occupied", &most, &own, 10, By::OldPrefixes, 4096),
+        ("4,096 candidates, all of their groups occupied, max above them", &most, &own, 4097, By::OldPrefixes, 4096),
+        ("4,097 candidates", &more, &[], 10, By::OldPrefixes, 0),
+        ("4,097 occupied groups, no candidates, no room", &[0; 81920], &[0; 4097], 10, By::OldPrefixes, 0),
+        ("no candidates, no room", &[0; 81920], &[], 10, By::OldPrefixes, 0),
+        ("a length of no candidates, 4,097 occupied groups, no room", &[0; 81939], &[0; 4097], 10, By::OldPrefixes, 0),
     ] {
         Case { name, list: candidates, occupied, by, map }.pick_many(list, max, room);
     }

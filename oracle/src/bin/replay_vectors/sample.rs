@@ -67,9 +67,11 @@ fn programs(list: &mut List, random: &mut Random) {
         let candidates: Vec<u8> = (0..random.below(6)).flat_map(|_| candidate(random)).collect();
         let occupied: Vec<u64> = (0..random.below(3)).map(|_| random.below(3)).collect();
         let max = random.below(6) as usize;
-        let inputs = Picking { list: &candidates, occupied: &occupied, max, by: By::Prefixes, map: &whole, rooms: [7, 8] };
+        let inputs = Picking { list: &candidates, occupied: &occupied, max, by: By::OldPrefixes, map: &whole, rooms: [7, 8] };
         let _ = list.pick(&inputs);
         let _ = list.pick_unchecked(&inputs);
+        let _ = list.pick(&Picking { by: By::Prefixes, ..inputs });
+        let _ = list.pick_unchecked(&Picking { by: By::Prefixes, ..inputs });
         let _ = list.pick(&Picking { by: By::Map(&whole), ..inputs });
         let _ = list.pick_unchecked(&Picking { by: By::Unchecked(&whole), ..inputs });
         peers::group(list, &candidate(random), &whole);

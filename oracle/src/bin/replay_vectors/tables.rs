@@ -70,12 +70,15 @@ const TABLES: [(&str, &str); 14] = [
     ),
     (
         "groups",
-        "The group of a candidate by its prefix, by a map that is checked, and by the same map as it is.\n\
-         Map, candidate: the three groups.",
+        "The group of a candidate without a map, by document 02's numbering of prefixes (CR 7) and by the old one, which is the original's;\n\
+         by a map that is checked, and by the same map as it is. IPv4 a.b.c.d, alone or mapped, gives 4294967296 + 256 × a + b by the new\n\
+         numbering; by the old one 256 × a + b, and 0 where it is mapped. Any other IPv6 address gives its first four bytes by both.\n\
+         Map, candidate: the four groups.",
     ),
     (
         "pick",
-        "Picks of at most so many (max) of these candidates, with or without a map, some groups being occupied.\n\
+        "Picks of at most so many (max) of these candidates, with or without a map, some groups being occupied. Without a map they go by\n\
+         document 02's numbering of prefixes (CR 7), the new, or by the old one; groups.txt has both numbers of an address.\n\
          Candidates by what, max: picks in all, those of the first pass, candidates examined, instructions of their walks;\n\
          the places picked; the groups of the first pass.",
     ),
@@ -88,8 +91,9 @@ const TABLES: [(&str, &str); 14] = [
         "page",
         "The groups of a candidate list on a printed page (document 02, CR 4), without a map or with one. Groups rise. A line has the group\n\
          in 10 columns, how many candidates have it in 6, and the per cent that these are of all in 6, rounded to a tenth, halves up.\n\
-         Columns are filled from the right, a blank stands between two, and a line feed makes 25 bytes. pick.txt says who mixed and\n\
-         loopback are; the other lists are of IPv6, whose group without a map is the number of their first four bytes.\n\
+         Columns are filled from the right, a blank stands between two, and a line feed makes 25 bytes. pick.txt says who mixed,\n\
+         loopback and dual are; a list of which no numbering is told is of IPv6, whose group without a map is the number of its first four\n\
+         bytes by both. Numbers from 4294967296 on are of IPv4 (document 02, CR 7).\n\
          List: the bytes that were written, or the refusal; then the page, here two columns in.",
     ),
     (
