@@ -8,7 +8,7 @@ use std::cell::Cell;
 use std::net::{IpAddr, Ipv4Addr, Ipv6Addr, SocketAddr};
 
 /// No map and document 02's numbering (CR 7), no map and the old one, which is the original's, a map that is checked, or a map taken as it is.
-#[derive(Clone, Copy)]
+#[derive(Clone, Copy, Debug)]
 pub enum By<'a> {
     Prefixes,
     OldPrefixes,

@@ -4,6 +4,7 @@ use crate::picks;
 use crate::tally::Tally;
 use crate::Form;
 use maps::{Node, Random, Tree};
+use oracle::picks::IPV4_GROUPS;
 
 /// The low bits that the groups of a pick share.
 const SHARED: u64 = 4_096;
@@ -35,20 +36,30 @@ impl Crowd {
         tree.bytes(nodes[0])
     }
 
-    /// Of IPv6, or one in five of IPv4 by the same low bits.
+    /// The first two bytes of an IPv4 address.
+    fn two_bytes(&self, random: &mut Random) -> u16 {
+        (self.low + SHARED * random.below(16)) as u16
+    }
+
+    /// Of IPv6, or one in five of IPv4 by the same low bits, alone or mapped.
     fn candidate(&self, random: &mut Random) -> Vec<u8> {
         let port = [0x20, random.below(2) as u8];
         if random.percent(20) {
-            let group = (self.low + SHARED * random.below(16)) as u16;
-            return [&[4, 0][..], &[0; 10], &[255, 255], &group.to_be_bytes(), &[0, 0], &port].concat();
+            let (family, group) = (4 + 2 * random.below(2) as u8, self.two_bytes(random));
+            return [&[family, 0][..], &[0; 10], &[255, 255], &group.to_be_bytes(), &[0, 0], &port].concat();
         }
         let group = self.prefix(random) as u32;
         [&[6, 0][..], &group.to_be_bytes(), &[0; 11], &[random.below(2) as u8], &port].concat()
     }
 
-    /// Groups of the one kind and of the other, and some that differ from them only far up.
+    /// Groups of each kind, those of IPv4 by either numbering, and some that differ from them only far up.
     fn occupied(&self, random: &mut Random) -> u64 {
-        let group = if random.percent(50) { self.prefix(random) } else { self.number(random) };
+        let group = match random.below(10) {
+            0 => self.two_bytes(random).into(),
+            1 => IPV4_GROUPS + u64::from(self.two_bytes(random)),
+            2..=5 => self.prefix(random),
+            _ => self.number(random),
+        };
         group | u64::from(random.percent(10)) << (32 + random.below(32))
     }
 }

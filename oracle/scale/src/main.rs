@@ -12,6 +12,7 @@ mod filters;
 mod limits;
 mod listing;
 mod loads;
+mod numberings;
 mod pages;
 mod picks;
 mod programs;
@@ -64,7 +65,7 @@ fn main() {
     println!("scale: seed {seed}");
     let mut tally = Tally::default();
     type Part = fn(&mut Tally, &mut Random, Form);
-    let parts: [(&str, Part); 16] = [
+    let parts: [(&str, Part); 17] = [
         ("codes", codes::run),
         ("short strings", programs::short_strings),
         ("random bytes", programs::random_bytes),
@@ -81,6 +82,7 @@ fn main() {
         ("pages", pages::run),
         ("cuts", cuts::run),
         ("loads", loads::run),
+        ("numberings", numberings::run),
     ];
     for (number, (name, part)) in parts.into_iter().enumerate() {
         let (start, before) = (Instant::now(), tally.compared);

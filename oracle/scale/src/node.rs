@@ -11,7 +11,7 @@ pub fn answers(map: Vec<u8>, ips: &[IpAddr]) -> Option<Vec<u64>> {
         let peer = SocketAddr::new(ip, 8333);
         let walked = map.interpret_ip16(&ip16_for_lookup(ip));
         answers.extend([u64::from(map.mapped_as(ip)), u64::from(walked), u64::from(clearnet_unroutable(ip))]);
-        answers.extend([netgroup(peer, Some(&map)), netgroup(peer, None), prefix_group(ip)]);
+        answers.extend([netgroup(peer, Some(&map)), prefix_group(ip)]);
     }
     Some(answers)
 }

@@ -15,29 +15,33 @@ const HALVES: [usize; 8] = [16, 32, 80, 400, 1_600, 2_000, 4_000, 4_096];
 
 /// A page by the same groups through some calls, into outputs just long enough, a byte and a line shorter, none, and longer. What stands
 /// behind an output is compared too.
-fn made(tally: &mut Tally, calls: &[sys::Page], candidates: &[u8], by: By, (has_map, map): (u8, &[u8])) {
+fn made(tally: &mut Tally, candidates: &[u8], by: By, calls: &[&dyn Fn(usize) -> calls::Bytes]) {
     let page = page::page(candidates, &Groups::new(by)).map(String::into_bytes);
     let needed = page.as_ref().map_or(LINE, Vec::len);
     let rooms = [needed, needed.saturating_sub(1), needed.saturating_sub(LINE), 0, needed + 7];
     for room in BTreeSet::from(rooms) {
         let (answer, written, out) = left(&page, room);
         let expected = (answer, written, [&out[..], &[BEFORE; LINE]].concat());
-        for &call in calls {
-            let ours = calls::page(call, candidates, has_map, map, room);
-            tally.same("page", &(candidates, has_map, map, room), ours, expected.clone());
+        for call in calls {
+            tally.same("page", &(candidates, by, room), &call(room), &expected);
         }
     }
 }
 
-fn by_prefixes(tally: &mut Tally, candidates: &[u8], map: &[u8]) {
-    made(tally, &[sys::corbastrigo_page, sys::corbastrigo_page_unchecked], candidates, By::Prefixes, (0, map));
+/// By the new numbering through both calls, and by the old one.
+pub fn by_prefixes(tally: &mut Tally, candidates: &[u8], map: &[u8]) {
+    let page = |call: sys::Page| move |room| calls::page(call, candidates, 0, map, room);
+    let both = [page(sys::corbastrigo_page), page(sys::corbastrigo_page_unchecked)];
+    made(tally, candidates, By::Prefixes, &[&both[0], &both[1]]);
+    made(tally, candidates, By::OldPrefixes, &[&|room| calls::old_prefix_page(candidates, room)]);
 }
 
 /// With prefixes, with the map checked, and with the map as it is.
 pub fn all_ways(tally: &mut Tally, candidates: &[u8], map: &[u8]) {
     by_prefixes(tally, candidates, map);
-    made(tally, &[sys::corbastrigo_page], candidates, By::Map(map), (1, map));
-    made(tally, &[sys::corbastrigo_page_unchecked], candidates, By::Unchecked(map), (255, map));
+    let (checked, unchecked) = (sys::corbastrigo_page, sys::corbastrigo_page_unchecked);
+    made(tally, candidates, By::Map(map), &[&|room| calls::page(checked, candidates, 1, map, room)]);
+    made(tally, candidates, By::Unchecked(map), &[&|room| calls::page(unchecked, candidates, 255, map, room)]);
 }
 
 /// A drawn list by a drawn map, either of them damaged now and then.

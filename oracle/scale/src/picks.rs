@@ -1,4 +1,4 @@
-//! Groups and picks over random lists, with few and with many groups.
+//! Groups and picks over random lists, with few and with many groups, with a map and without, by both numberings.
 use crate::calls::{self, Asked, Left, BEFORE16, BEFORE64};
 use crate::programs::{followed, number};
 use crate::tally::Tally;
@@ -7,14 +7,18 @@ use corbastrigo_sys as sys;
 use maps::{shapes, Random};
 use oracle::picks::{self, By, Groups};
 
-/// A candidate whose address comes from `address`: of family 4, 6, or 6 with the mapped form.
+/// A candidate whose address comes from `address`: of family 4, 6, 6 with the mapped form, or with a bit of that form turned over.
 fn candidate(random: &mut Random, address: [u8; 16]) -> Vec<u8> {
     let mut bytes = vec![6, 0];
     bytes.extend(address);
     bytes.extend([0x20, 0x8d - random.below(2) as u8]);
     if random.percent(50) {
         bytes[2..14].copy_from_slice(&[0, 0, 0, 0, 0, 0, 0, 0, 0, 0, 255, 255]);
-        bytes[0] = if random.percent(90) { 4 } else { 6 };
+        match random.below(20) {
+            0 => bytes[2 + random.below(12) as usize] ^= 1 << random.below(8),
+            1..=5 => {}
+            _ => bytes[0] = 4,
+        }
     }
     bytes
 }
@@ -70,33 +74,44 @@ fn left(made: Result<picks::Pick, u32>, rooms: [usize; 2]) -> Left {
     }
 }
 
-/// A pick with prefixes, with the map checked, and with the map as it is.
+/// A pick by prefixes, of the new numbering through both calls and of the old one, with the map checked, and with the map as it is.
 pub fn all_ways(tally: &mut Tally, candidates: &[u8], occupied: &[u64], max: usize, map: &[u8], rooms: [usize; 2]) {
-    let ways: [(By, u8, sys::SelectDiverse); 4] = [
-        (By::Prefixes, 0, sys::corbastrigo_select_diverse),
-        (By::Prefixes, 0, sys::corbastrigo_select_diverse_unchecked),
-        (By::Map(map), 1, sys::corbastrigo_select_diverse),
-        (By::Unchecked(map), 255, sys::corbastrigo_select_diverse_unchecked),
+    let asked = |has_map| Asked { candidates, occupied, max, has_map, map, rooms };
+    let (checked, unchecked) = (sys::corbastrigo_select_diverse, sys::corbastrigo_select_diverse_unchecked);
+    let ways: [(&str, By, Vec<Left>); 4] = [
+        ("pick", By::Prefixes, vec![calls::select_diverse(checked, &asked(0)), calls::select_diverse(unchecked, &asked(0))]),
+        ("old pick", By::OldPrefixes, vec![calls::old_prefix_pick(&asked(0))]),
+        ("pick", By::Map(map), vec![calls::select_diverse(checked, &asked(1))]),
+        ("pick", By::Unchecked(map), vec![calls::select_diverse(unchecked, &asked(255))]),
     ];
-    for (by, has_map, call) in ways {
-        let asked = Asked { candidates, occupied, max, has_map, map, rooms };
+    for (call, by, made) in ways {
         let expected = left(picks::pick(candidates, occupied, max, &Groups::new(by), rooms), rooms);
-        tally.same("pick", &(candidates, occupied, max, has_map, map, rooms), calls::select_diverse(call, &asked), expected);
+        for made in made {
+            tally.same(call, &(candidates, occupied, max, by, rooms), &made, &expected);
+        }
+    }
+}
+
+/// A group by prefixes through each call that has one, by both numberings.
+pub fn prefix_groups(tally: &mut Tally, candidate: &[u8], map: &[u8]) {
+    let (new, old) = (group(By::Prefixes, candidate), group(By::OldPrefixes, candidate));
+    tally.same("prefix group", &candidate, calls::prefix_group(candidate), old);
+    tally.same("group", &candidate, calls::netgroup(sys::corbastrigo_netgroup, candidate, 0, map), new);
+    tally.same("group", &candidate, calls::netgroup(sys::corbastrigo_netgroup_unchecked, candidate, 0, map), new);
+}
+
+fn group(by: By, candidate: &[u8]) -> (u8, u64) {
+    match Groups::new(by).group(candidate) {
+        Ok(group) => (0, group),
+        Err(reason) => (number(reason), BEFORE64),
     }
 }
 
 fn groups(tally: &mut Tally, candidate: &[u8], map: &[u8]) {
-    let answer = |by| match Groups::new(by).group(candidate) {
-        Ok(group) => (0, group),
-        Err(reason) => (number(reason), BEFORE64),
-    };
-    let input = (candidate, map);
     let (checked, unchecked) = (sys::corbastrigo_netgroup, sys::corbastrigo_netgroup_unchecked);
-    tally.same("prefix group", &input, calls::prefix_group(candidate), answer(By::Prefixes));
-    tally.same("group", &input, calls::netgroup(checked, candidate, 0, map), answer(By::Prefixes));
-    tally.same("group", &input, calls::netgroup(unchecked, candidate, 0, map), answer(By::Prefixes));
-    tally.same("group", &input, calls::netgroup(checked, candidate, 1, map), answer(By::Map(map)));
-    tally.same("group", &input, calls::netgroup(unchecked, candidate, 2, map), answer(By::Unchecked(map)));
+    prefix_groups(tally, candidate, map);
+    tally.same("group", &(candidate, map), calls::netgroup(checked, candidate, 1, map), group(By::Map(map), candidate));
+    tally.same("group", &(candidate, map), calls::netgroup(unchecked, candidate, 2, map), group(By::Unchecked(map), candidate));
 }
 
 fn occupied(random: &mut Random, found: &[u64]) -> Vec<u64> {
@@ -118,8 +133,11 @@ pub fn run(tally: &mut Tally, random: &mut Random, form: Form) {
         let most = if random.percent(5) { 200 } else { 24 };
         let count = random.below(most) as usize;
         let mut candidates = list(random, &map, count);
-        let by = Groups::new(By::Unchecked(&map));
-        let found: Vec<u64> = candidates.chunks(20).filter_map(|c| by.group(c).ok()).collect();
+        let found: Vec<u64> = [By::Unchecked(&map), By::Prefixes, By::OldPrefixes]
+            .map(Groups::new)
+            .iter()
+            .flat_map(|by| candidates.chunks(20).filter_map(|candidate| by.group(candidate).ok()))
+            .collect();
         let taken = occupied(random, &found);
         if random.percent(15) && count > 0 {
             spoiled(random, &mut candidates);

@@ -1,12 +1,13 @@
-//! The safe crate, asked as a node asks, against the original asked with the same text.
+//! The safe crate, asked as a node asks, against the original asked with the same text; and what it answers without a map, by both numberings.
 use crate::programs::{followed, number};
 use crate::tally::Tally;
 use crate::Form;
-use corbastrigo::{CompareError, End, Refusal};
+use corbastrigo::{CompareError, End, Page, Refusal};
 use maps::{shapes, Random};
+use oracle::asmap::AsMap;
 use oracle::document::{self, Verdict, CUT_OPCODE, CUT_OPERAND};
 use oracle::loads::NO_LOAD;
-use std::collections::HashSet;
+use std::collections::{BTreeMap, HashSet};
 use std::net::{IpAddr, Ipv6Addr, SocketAddr};
 
 mod original {
@@ -34,19 +35,66 @@ fn ips(random: &mut Random, map: &[u8]) -> Vec<IpAddr> {
         .collect()
 }
 
+/// What the original picks by these groups.
+fn original_picks(ranked: &[SocketAddr], max: usize, occupied: &HashSet<u64>, group_of: fn(SocketAddr) -> u64) -> Vec<SocketAddr> {
+    oracle::netgroup::select_diverse(ranked, max, occupied, group_of)
+}
+
+/// A list drawn from some addresses, the groups that some of them have by each way of grouping, and a max.
+fn drawn(random: &mut Random, ips: &[IpAddr], map: Option<&AsMap>) -> (Vec<SocketAddr>, HashSet<u64>, usize) {
+    let any = |random: &mut Random| ips[random.below(ips.len() as u64) as usize];
+    let ranked = (0..random.below(40)).map(|_| SocketAddr::new(any(random), 8333 + random.below(2) as u16)).collect();
+    let occupied = (0..random.below(6)).map(|_| {
+        let peer = SocketAddr::new(any(random), 1);
+        match random.below(4) {
+            0 => old_group(peer),
+            1 => oracle::picks::prefix_group(peer),
+            _ => oracle::netgroup::netgroup(peer, map),
+        }
+    });
+    (ranked, occupied.collect(), random.below(12) as usize)
+}
+
+fn old_group(peer: SocketAddr) -> u64 {
+    oracle::netgroup::netgroup(peer, None)
+}
+
+/// By the map where it is one; without it by the new numbering and by the old, which is the original's.
 fn picked(tally: &mut Tally, random: &mut Random, map: &[u8], ips: &[IpAddr]) {
-    let (ours, theirs) = (corbastrigo::AsMap::from_bytes(map.to_vec()), oracle::asmap::AsMap::from_bytes(map.to_vec()));
-    let ranked: Vec<SocketAddr> = (0..random.below(40))
-        .map(|_| SocketAddr::new(ips[random.below(ips.len() as u64) as usize], 8333 + random.below(2) as u16))
-        .collect();
-    let occupied: HashSet<u64> = (0..random.below(4))
-        .map(|_| oracle::netgroup::netgroup(SocketAddr::new(ips[random.below(20) as usize], 1), theirs.as_ref()))
-        .collect();
-    let max = random.below(12) as usize;
-    let expected =
-        oracle::netgroup::select_diverse(&ranked, max, &occupied, |peer| oracle::netgroup::netgroup(peer, theirs.as_ref()));
-    let made = corbastrigo::select_diverse(&ranked, max, &occupied, ours.as_ref());
-    tally.same("safe pick", &(map, &ranked, max, &occupied), made, Ok(expected));
+    let (ours, theirs) = (corbastrigo::AsMap::from_bytes(map.to_vec()), AsMap::from_bytes(map.to_vec()));
+    let (ranked, occupied, max) = &drawn(random, ips, theirs.as_ref());
+    let input = (map, ranked, max, occupied);
+    if theirs.is_some() {
+        let expected =
+            oracle::netgroup::select_diverse(ranked, *max, occupied, |peer| oracle::netgroup::netgroup(peer, theirs.as_ref()));
+        tally.same("safe pick", &input, corbastrigo::select_diverse(ranked, *max, occupied, ours.as_ref()), Ok(expected));
+    }
+    let new = original_picks(ranked, *max, occupied, oracle::picks::prefix_group);
+    tally.same("safe pick", &input, corbastrigo::select_diverse(ranked, *max, occupied, None), Ok(new));
+    let old = corbastrigo::old_prefix_pick(ranked, *max, occupied);
+    let old = old.map(|pick| pick.places.iter().map(|&place| ranked[usize::from(place)]).collect());
+    tally.same("safe old pick", &input, old, Ok(original_picks(ranked, *max, occupied, old_group)));
+    pages(tally, ranked);
+}
+
+/// The pages without a map by both numberings, held to the groups of each candidate: which there are, and how many candidates each has.
+fn pages(tally: &mut Tally, peers: &[SocketAddr]) {
+    let counted = |group_of: fn(SocketAddr) -> u64| {
+        let mut counts = BTreeMap::new();
+        peers.iter().for_each(|&peer| *counts.entry(group_of(peer)).or_insert(0) += 1);
+        counts.into_iter().collect::<Vec<(u64, usize)>>()
+    };
+    let shares = |page: Page| page.shares().map(|share| (share.group, share.candidates)).collect();
+    tally.same("safe page", &peers, corbastrigo::page(peers, None).map(shares), Ok(counted(oracle::picks::prefix_group)));
+    tally.same("safe old page", &peers, corbastrigo::old_prefix_page(peers).map(shares), Ok(counted(old_group)));
+}
+
+/// Without a map the safe crate's group goes by the new numbering, and not as the original's does.
+fn grouped(tally: &mut Tally, ips: &[IpAddr]) {
+    for &ip in ips {
+        let peer = SocketAddr::new(ip, 8333);
+        tally.same("safe group", &peer, corbastrigo::netgroup(peer, None), oracle::picks::prefix_group(peer));
+    }
 }
 
 fn from_file(tally: &mut Tally, map: &[u8]) {
@@ -104,6 +152,7 @@ pub fn run(tally: &mut Tally, random: &mut Random, form: Form) {
         let ips = ips(random, &map);
         let (made, expected) = (ours::answers(map.clone(), &ips), original::answers(map.clone(), &ips));
         tally.same("safe answers", &(&map, &ips), made, expected);
+        grouped(tally, &ips);
         picked(tally, random, &map, &ips);
         if round % 100 == 0 {
             from_file(tally, &map);
