@@ -145,6 +145,37 @@ pub fn candidates(count: usize) -> Vec<SocketAddr> {
     (0..count).map(|_| SocketAddr::new(ip(random), 8333)).collect()
 }
 
+/// Candidates of one kind: of IPv4, of IPv4 in its mapped form, as dual-stack sockets report it, and of IPv6.
+pub fn of_each_kind(count: usize) -> [(&'static str, Vec<SocketAddr>); 3] {
+    let of = |kind: fn(&mut Random) -> IpAddr| {
+        let random = &mut Random(SEED + 2);
+        (0..count).map(|_| SocketAddr::new(kind(random), 8333)).collect()
+    };
+    [
+        ("IPv4", of(|random| ipv4(random).into())),
+        ("mapped", of(|random| ipv4(random).to_ipv6_mapped().into())),
+        ("IPv6", of(|random| ipv6(random).into())),
+    ]
+}
+
+/// Candidates, of which the IPv4 ones have their mapped form.
+pub fn dual_stack(mut candidates: Vec<SocketAddr>) -> Vec<SocketAddr> {
+    for peer in &mut candidates {
+        if let IpAddr::V4(ip) = peer.ip() {
+            peer.set_ip(ip.to_ipv6_mapped().into());
+        }
+    }
+    candidates
+}
+
+/// Document 02's numbering of prefixes (CR 7), as a program in Rust would have it: the original has the old one.
+pub fn new_group(peer: SocketAddr) -> u64 {
+    match peer.ip().to_canonical() {
+        IpAddr::V4(ip) => (1 << 32) + u64::from(u32::from(ip) >> 16),
+        IpAddr::V6(ip) => (u128::from(ip) >> 96) as u64,
+    }
+}
+
 /// Candidates as the library takes them.
 pub fn packed(candidates: &[SocketAddr]) -> Vec<u8> {
     let mut bytes = Vec::with_capacity(20 * candidates.len());

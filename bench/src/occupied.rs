@@ -2,7 +2,7 @@
 //! hash set, which stands beside ours.
 use crate::asmap::AsMap;
 use crate::measure::{best, both, head, row};
-use crate::parts::{keep, original_pick, picked, Lists};
+use crate::parts::{keep, picked, By, Lists};
 use crate::{inputs, netgroup};
 use corbastrigo_sys as sys;
 use std::collections::HashSet;
@@ -30,17 +30,17 @@ fn cases(taken: usize, group_of: impl Fn(SocketAddr) -> u64) -> [Case; 4] {
 
 /// Of 1,000 candidates at most 125.
 pub fn picks(bytes: &[u8], map: &AsMap) {
-    head("Pick, hits early, late and never, of a map that was checked once", "us a pick");
-    let (max, call) = (125, sys::corbastrigo_select_diverse_unchecked as sys::SelectDiverse);
-    for (name, ours, original) in [("prefixes", None, None), ("map of 1.5 MB", Some(bytes), Some(map))] {
+    head("Pick, hits early, late and never, of a map that was checked once, and without one by both numberings", "us a pick");
+    let max = 125;
+    for by in By::all(bytes, map) {
         for taken in [300, 4_096] {
-            for (kind, ranked, occupied) in cases(taken, |peer| netgroup::netgroup(peer, original)) {
+            for (kind, ranked, occupied) in cases(taken, |peer| by.group_of(peer)) {
                 let set: HashSet<u64> = occupied.iter().copied().collect();
                 let mut lists = Lists::new(&ranked, occupied, max);
-                let total = lists.pick(call, max, ours);
-                assert_eq!(picked(&ranked, &lists, total), original_pick(&ranked, max, &set, original));
-                let times = both(|| keep(lists.pick(call, max, ours)), || keep(original_pick(&ranked, max, &set, original)));
-                row(&format!("{name}, 1000 candidates, {taken} occupied, max {max}; {kind}"), 1e3, &times);
+                let total = lists.pick(max, by);
+                assert_eq!(picked(&ranked, &lists, total), by.original_pick(&ranked, max, &set));
+                let times = both(|| keep(lists.pick(max, by)), || keep(by.original_pick(&ranked, max, &set)));
+                row(&format!("{}, 1000 candidates, {taken} occupied, max {max}; {kind}", by.name()), 1e3, &times);
             }
         }
     }

@@ -179,7 +179,65 @@ pub fn codes() {
     }
 }
 
-pub fn ours_group(candidate: &[u8], map: Option<&[u8]>) -> u64 {
+/// What groups go by: prefixes, by document 02's numbering or by the old one, or a map that was checked once, as both take it.
+#[derive(Clone, Copy)]
+pub enum By<'a> {
+    Prefixes,
+    OldPrefixes,
+    Map(&'a [u8], &'a AsMap),
+}
+
+impl<'a> By<'a> {
+    pub const PREFIXES: [By<'static>; 2] = [By::OldPrefixes, By::Prefixes];
+
+    /// Every way, with a map.
+    pub fn all(bytes: &'a [u8], map: &'a AsMap) -> [By<'a>; 3] {
+        [By::OldPrefixes, By::Prefixes, By::Map(bytes, map)]
+    }
+
+    pub fn name(self) -> &'static str {
+        match self {
+            By::Prefixes => "prefixes, new numbering",
+            By::OldPrefixes => "prefixes, old numbering",
+            By::Map(..) => "map of 1.5 MB",
+        }
+    }
+
+    pub fn map(self) -> Option<&'a [u8]> {
+        match self {
+            By::Map(bytes, _) => Some(bytes),
+            _ => None,
+        }
+    }
+
+    /// The original's group; by the new numbering, which it has not, one in plain Rust.
+    pub fn group_of(self, peer: SocketAddr) -> u64 {
+        match self {
+            By::Prefixes => inputs::new_group(peer),
+            By::OldPrefixes => netgroup::netgroup(peer, None),
+            By::Map(_, map) => netgroup::netgroup(peer, Some(map)),
+        }
+    }
+
+    /// The original's pick, by these groups.
+    pub fn original_pick(self, ranked: &[SocketAddr], max: usize, occupied: &HashSet<u64>) -> Vec<SocketAddr> {
+        match self {
+            By::Prefixes => netgroup::select_diverse(ranked, max, occupied, inputs::new_group),
+            By::OldPrefixes => original_pick(ranked, max, occupied, None),
+            By::Map(_, map) => original_pick(ranked, max, occupied, Some(map)),
+        }
+    }
+
+    /// Ours of a candidate.
+    pub fn ours_group(self, candidate: &[u8]) -> u64 {
+        match self {
+            By::OldPrefixes => ours_old_group(candidate),
+            by => ours_group(candidate, by.map()),
+        }
+    }
+}
+
+fn ours_group(candidate: &[u8], map: Option<&[u8]>) -> u64 {
     let bytes = map.unwrap_or(&[]);
     let mut group = 0;
     let has_map = u8::from(map.is_some());
@@ -190,19 +248,39 @@ pub fn ours_group(candidate: &[u8], map: Option<&[u8]>) -> u64 {
     group
 }
 
+fn ours_old_group(candidate: &[u8]) -> u64 {
+    let mut group = 0;
+    unsafe { sys::corbastrigo_prefix_group(candidate.as_ptr(), candidate.len(), &mut group) };
+    group
+}
+
+/// One row of groups. The original has no new numbering: beside ours by that one stands its own group of the same candidates.
+fn group_row(name: &str, peers: &[SocketAddr], ours: impl Fn(&[u8]) -> u64, original: Option<&AsMap>) {
+    let packed = inputs::packed(peers);
+    let times = both(
+        || packed.chunks(20).for_each(|candidate| keep(ours(black_box(candidate)))),
+        || peers.iter().for_each(|&peer| keep(netgroup::netgroup(black_box(peer), original))),
+    );
+    row(name, peers.len() as f64, &times);
+}
+
 pub fn group() {
-    head("Group, of a map that was checked once", "ns a group");
+    head("Group, of a map that was checked once, and without one by both numberings", "ns a group");
     let bytes = inputs::real(1_500_000);
     let map = AsMap::from_bytes(bytes.clone()).expect("accepted");
-    let candidates = inputs::candidates(4_096);
-    let packed = inputs::packed(&candidates);
-    for (name, ours, original) in [("prefixes", None, None), ("real, 1.5 MB", Some(&bytes[..]), Some(&map))] {
-        let times = both(
-            || packed.chunks(20).for_each(|candidate| keep(ours_group(black_box(candidate), ours))),
-            || candidates.iter().for_each(|&addr| keep(netgroup::netgroup(black_box(addr), original))),
-        );
-        row(name, candidates.len() as f64, &times);
+    let any = inputs::candidates(4_096);
+    for (kind, peers) in [("one in five IPv6", any.clone())].into_iter().chain(inputs::of_each_kind(4_096)) {
+        for by in By::PREFIXES {
+            let held = inputs::packed(&peers)
+                .chunks(20)
+                .map(|candidate| by.ours_group(candidate))
+                .eq(peers.iter().map(|&peer| by.group_of(peer)));
+            assert!(held, "{}, {kind}", by.name());
+        }
+        group_row(&format!("{}, {kind}", By::OldPrefixes.name()), &peers, ours_old_group, None);
+        group_row(&format!("{}, {kind}", By::Prefixes.name()), &peers, |candidate| ours_group(candidate, None), None);
     }
+    group_row("real, 1.5 MB", &any, |candidate| ours_group(candidate, Some(&bytes)), Some(&map));
 }
 
 /// The lists of a pick as the library takes them.
@@ -224,7 +302,38 @@ impl Lists {
         }
     }
 
-    pub fn pick(&mut self, call: sys::SelectDiverse, max: usize, map: Option<&[u8]>) -> usize {
+    /// A pick by a map that was checked once, or by prefixes.
+    pub fn pick(&mut self, max: usize, by: By) -> usize {
+        match by {
+            By::OldPrefixes => self.old_pick(max),
+            by => self.pick_by(sys::corbastrigo_select_diverse_unchecked, max, by.map()),
+        }
+    }
+
+    fn old_pick(&mut self, max: usize) -> usize {
+        let (mut total, mut first, mut examined, mut instructions) = (0, 0, 0, 0);
+        let answer = unsafe {
+            sys::corbastrigo_old_prefix_pick(
+                self.candidates.as_ptr(),
+                self.candidates.len(),
+                self.occupied.as_ptr(),
+                self.occupied.len(),
+                max,
+                self.picks.as_mut_ptr(),
+                self.picks.len(),
+                self.groups.as_mut_ptr(),
+                self.groups.len(),
+                &mut total,
+                &mut first,
+                &mut examined,
+                &mut instructions,
+            )
+        };
+        assert_eq!(answer, 0);
+        total
+    }
+
+    fn pick_by(&mut self, call: sys::SelectDiverse, max: usize, map: Option<&[u8]>) -> usize {
         let bytes = map.unwrap_or(&[]);
         let (mut total, mut first, mut examined, mut instructions) = (0, 0, 0, 0);
         let answer = unsafe {
@@ -252,7 +361,7 @@ impl Lists {
     }
 }
 
-pub fn original_pick(ranked: &[SocketAddr], max: usize, occupied: &HashSet<u64>, map: Option<&AsMap>) -> Vec<SocketAddr> {
+fn original_pick(ranked: &[SocketAddr], max: usize, occupied: &HashSet<u64>, map: Option<&AsMap>) -> Vec<SocketAddr> {
     netgroup::select_diverse(ranked, max, occupied, |addr| netgroup::netgroup(addr, map))
 }
 
@@ -260,55 +369,74 @@ pub fn picked(ranked: &[SocketAddr], lists: &Lists, total: usize) -> Vec<SocketA
     lists.picks[..total].iter().map(|&place| ranked[usize::from(place)]).collect()
 }
 
+/// One row of picks by a map that was checked once, or by prefixes.
+fn pick_row(by: By, name: &str, ranked: &[SocketAddr], taken: usize, max: usize) {
+    let occupied = inputs::occupied(taken, |peer| by.group_of(peer));
+    let mut lists = Lists::new(ranked, occupied.iter().copied(), max);
+    let total = lists.pick(max, by);
+    assert_eq!(picked(ranked, &lists, total), by.original_pick(ranked, max, &occupied));
+    let times = both(|| keep(lists.pick(max, by)), || keep(by.original_pick(ranked, max, &occupied)));
+    row(&format!("{}, {name}, {taken} occupied, max {max}", by.name()), 1e3, &times);
+}
+
 pub fn pick() {
     let bytes = inputs::real(1_500_000);
     let map = AsMap::from_bytes(bytes.clone()).expect("accepted");
-    let cases = [("prefixes", None), ("map of 1.5 MB", Some(&map))];
-    head("Pick, of a map that was checked once", "us a pick");
-    for (name, asmap) in cases {
+    head("Pick, of a map that was checked once, and without one by both numberings", "us a pick");
+    for by in By::all(&bytes, &map) {
         for count in [1_000, 4_096] {
             for taken in [0, 300, 4_096] {
                 for max in [8, 125] {
-                    let ranked = inputs::candidates(count);
-                    let occupied = inputs::occupied(taken, |addr| netgroup::netgroup(addr, asmap));
-                    let mut lists = Lists::new(&ranked, occupied.iter().copied(), max);
-                    let ours = asmap.map(|_| &bytes[..]);
-                    let total = lists.pick(sys::corbastrigo_select_diverse_unchecked, max, ours);
-                    assert_eq!(picked(&ranked, &lists, total), original_pick(&ranked, max, &occupied, asmap));
-                    let times = both(
-                        || keep(lists.pick(sys::corbastrigo_select_diverse_unchecked, max, ours)),
-                        || keep(original_pick(&ranked, max, &occupied, asmap)),
-                    );
-                    row(&format!("{name}, {count} candidates, {taken} occupied, max {max}"), 1e3, &times);
+                    pick_row(by, &format!("{count} candidates"), &inputs::candidates(count), taken, max);
                 }
             }
         }
     }
+    for by in By::PREFIXES {
+        pick_row(by, "1000 candidates, IPv4 mapped", &inputs::dual_stack(inputs::candidates(1_000)), 300, 125);
+    }
     occupied::picks(&bytes, &map);
+    checked_picks(&bytes, &map);
+    safe_picks(&bytes, &map);
+}
+
+fn checked_picks(bytes: &[u8], map: &AsMap) {
     head("Pick that checks its map on every call, beside the original's check and pick", "us a pick");
     for max in [8, 125] {
         let ranked = inputs::candidates(1_000);
-        let occupied = inputs::occupied(300, |addr| netgroup::netgroup(addr, Some(&map)));
+        let occupied = inputs::occupied(300, |addr| netgroup::netgroup(addr, Some(map)));
         let mut lists = Lists::new(&ranked, occupied.iter().copied(), max);
         let times = both(
-            || keep(lists.pick(sys::corbastrigo_select_diverse, max, Some(&bytes))),
+            || keep(lists.pick_by(sys::corbastrigo_select_diverse, max, Some(bytes))),
             || {
-                assert!(asmap::sanity_check(black_box(&bytes)));
-                keep(original_pick(&ranked, max, &occupied, Some(&map)));
+                assert!(asmap::sanity_check(black_box(bytes)));
+                keep(original_pick(&ranked, max, &occupied, Some(map)));
             },
         );
         row(&format!("map of 1.5 MB, 1000 candidates, 300 occupied, max {max}"), 1e3, &times);
     }
+}
+
+/// The old numbering's pick answers places, which are made addresses here, as the original answers.
+fn safe_old_pick(ranked: &[SocketAddr], max: usize, occupied: &HashSet<u64>) -> Vec<SocketAddr> {
+    let pick = corbastrigo::old_prefix_pick(ranked, max, occupied).expect("nothing that is refused");
+    pick.places.iter().map(|&place| ranked[usize::from(place)]).collect()
+}
+
+fn safe_picks(bytes: &[u8], map: &AsMap) {
     head("Pick through the safe crate, lists made anew in each call", "us a pick");
-    let safe = corbastrigo::AsMap::from_bytes(bytes.clone()).expect("accepted");
-    for (name, ours, original) in [("prefixes", None, None), ("map of 1.5 MB", Some(&safe), Some(&map))] {
+    let safe = corbastrigo::AsMap::from_bytes(bytes.to_vec()).expect("accepted");
+    for by in By::all(bytes, map) {
         let ranked = inputs::candidates(1_000);
-        let occupied = inputs::occupied(300, |addr| netgroup::netgroup(addr, original));
-        let times = both(
-            || keep(corbastrigo::select_diverse(&ranked, 125, &occupied, ours)),
-            || keep(original_pick(&ranked, 125, &occupied, original)),
-        );
-        row(&format!("{name}, 1000 candidates, 300 occupied, max 125"), 1e3, &times);
+        let occupied = inputs::occupied(300, |peer| by.group_of(peer));
+        let ours = by.map().map(|_| &safe);
+        let picks = || match by {
+            By::OldPrefixes => safe_old_pick(&ranked, 125, &occupied),
+            _ => corbastrigo::select_diverse(&ranked, 125, &occupied, ours).expect("nothing that is refused"),
+        };
+        assert_eq!(picks(), by.original_pick(&ranked, 125, &occupied));
+        let times = both(|| keep(picks()), || keep(by.original_pick(&ranked, 125, &occupied)));
+        row(&format!("{}, 1000 candidates, 300 occupied, max 125", by.name()), 1e3, &times);
     }
 }
 
@@ -358,7 +486,7 @@ fn pick_growth() {
         let ranked = inputs::alike(count);
         let occupied = (0..count as u64).map(|i| (1 << 40) + 4_096 * i);
         let mut lists = Lists::new(&ranked, occupied, count);
-        let time = best(&alone(|| keep(lists.pick(sys::corbastrigo_select_diverse_unchecked, count, None))));
+        let time = best(&alone(|| keep(lists.pick(count, By::Prefixes))));
         assert!(lists.groups.iter().copied().eq((0..count as u64).map(|i| 4_096 * i)), "every group is taken");
         let compared = count as f64 * (count as f64 + (count as f64 - 1.0) / 2.0);
         println!(
