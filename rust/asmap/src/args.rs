@@ -106,14 +106,23 @@ pub enum Command {
     Load(Load),
     /// Say in which group addresses are
     ///
-    /// With a map the group is the AS number that the address is sent to; without one it is the first two bytes of an IPv4 address, or the
-    /// first four of an IPv6 address, as a number. A group of 0 says why it is 0.
-    #[command(after_help = "Examples:\n  asmap group 1.2.3.4\n  asmap group --map node.asmap 1.2.3.4 2001:db8::1")]
+    /// With a map the group is the AS number that the address is sent to; without one it is the prefix of the address, as a number. Of an IPv4
+    /// address a.b.c.d, also where it is mapped into IPv6, that is 4,294,967,296 + 256 * a + b; of any other IPv6 address it is the first four
+    /// bytes. So IPv4 and IPv6 share no group. A group of 0 says why it is 0.
+    ///
+    /// With --old-prefixes it is the number that prefixes had before: 256 * a + b of an IPv4 address, the first four bytes of an IPv6 address, so
+    /// 0 of every mapped one. Do not mix the two: an old 258 may be 1.2.0.0/16 or 0:102::/32.
+    #[command(
+        after_help = "Examples:\n  asmap group 1.2.3.4\n  asmap group --map node.asmap 1.2.3.4 2001:db8::1\n  asmap group --old-prefixes 1.2.3.4"
+    )]
     Group(Group),
     /// Pick peers from a ranked list, spread over groups
     ///
     /// First, in order, each candidate whose group is neither occupied nor taken; then, in order, what is still wanted of the others. In
     /// both files blank lines and what is behind `#` are left out. At most 4,096 candidates and 4,096 occupied groups are taken.
+    ///
+    /// Groups are those of `asmap group` with the same options, and the occupied ones have to be: --old-prefixes is for those that were stored
+    /// by the old numbering of prefixes.
     #[command(after_help = "Example:\n  asmap pick --map node.asmap --max 8 --occupied groups.txt candidates.txt")]
     Pick(Pick),
     /// Say whether groups are occupied, and at which place
@@ -123,7 +132,7 @@ pub enum Command {
     /// 4,096 occupied groups are taken, one that stands twice as two.
     ///
     /// The exit status is 0 for occupied groups and for free ones alike.
-    #[command(after_help = "Example:\n  asmap scan --occupied groups.txt 258 772")]
+    #[command(after_help = "Example:\n  asmap scan --occupied groups.txt 4294967554 4294968068")]
     Scan(Scan),
     /// Print how a list of candidates spreads over groups: each group with its candidates and their per cent
     ///
@@ -131,7 +140,8 @@ pub enum Command {
     /// of all in 6, a line feed. Per cents are rounded to a tenth, halves up, so that they need not add up to 100.0. On a terminal each line
     /// has a bar behind it. In the file blank lines and what is behind `#` are left out. At most 4,096 candidates are taken.
     ///
-    /// Group 0 is not "unmapped": on a terminal, and with --json, stands what it comes from.
+    /// Groups are those of `asmap group` with the same options. Group 0 is not "unmapped": on a terminal, and with --json, stands what it comes
+    /// from.
     #[command(after_help = "Examples:\n  asmap page candidates.txt\n  asmap page --map node.asmap candidates.txt | lpr")]
     Page(Page),
     /// Say which addresses can be no peer on the open Internet, and by which range
@@ -285,14 +295,24 @@ pub struct Load {
     pub output: Option<PathBuf>,
 }
 
+/// What groups go by.
+#[derive(Args, Debug)]
+pub struct Grouped {
+    /// Group by this map; without one the prefix of the address is its group
+    #[arg(short, long, value_name = "MAP")]
+    pub map: Option<PathBuf>,
+    /// Without a map, number prefixes as before, for groups that were stored so: IPv4 from 0 on, among IPv6
+    #[arg(long, conflicts_with = "map")]
+    pub old_prefixes: bool,
+}
+
 #[derive(Args, Debug)]
 pub struct Group {
     /// Addresses; `-` reads them from standard input, one a line
     #[arg(required = true, value_name = "ADDRESS")]
     pub addresses: Vec<String>,
-    /// Group by this map; without one the prefix of the address is its group
-    #[arg(short, long, value_name = "MAP")]
-    pub map: Option<PathBuf>,
+    #[command(flatten)]
+    pub by: Grouped,
 }
 
 #[derive(Args, Debug)]
@@ -302,9 +322,8 @@ pub struct Pick {
     /// How many peers are wanted at most
     #[arg(long, value_name = "N")]
     pub max: usize,
-    /// Group by this map; without one the prefix of the address is its group
-    #[arg(short, long, value_name = "MAP")]
-    pub map: Option<PathBuf>,
+    #[command(flatten)]
+    pub by: Grouped,
     /// Groups that are occupied already, one a line, in decimal; `-` reads standard input
     #[arg(long, value_name = "FILE")]
     pub occupied: Option<PathBuf>,
@@ -324,9 +343,8 @@ pub struct Scan {
 pub struct Page {
     /// Candidates, one a line: 1.2.3.4:8333 or [2001:db8::1]:8333; `-` reads standard input
     pub candidates: PathBuf,
-    /// Group by this map; without one the prefix of the address is its group
-    #[arg(short, long, value_name = "MAP")]
-    pub map: Option<PathBuf>,
+    #[command(flatten)]
+    pub by: Grouped,
 }
 
 #[derive(Args, Debug)]

@@ -1,8 +1,7 @@
 //! `asmap group`: in which group addresses are, and why.
 use crate::args::Group;
 use crate::failure::{Outcome, Status};
-use crate::files::checked_map;
-use crate::grouping::Grouped;
+use crate::grouping::Grouping;
 use crate::out::{Out, Style};
 use crate::width::Width;
 use crate::words;
@@ -10,11 +9,11 @@ use serde_json::json;
 use std::net::SocketAddr;
 
 pub fn run(asked: &Group, out: &mut Out) -> Outcome {
-    let map = asked.map.as_deref().map(checked_map).transpose()?;
+    let grouping = Grouping::asked(&asked.by)?;
     let column = words::column(&asked.addresses, Width::MAPPED);
     words::each_address(&asked.addresses, Width::MAPPED, out, |address, out| {
         // A group is that of the address: no port matters.
-        let grouped = Grouped::of(SocketAddr::new(address, 0), map.as_ref())?;
+        let grouped = grouping.of(SocketAddr::new(address, 0))?;
         let address = address.to_string();
         if out.is_json() {
             let mut object = grouped.object();

@@ -1,38 +1,37 @@
 //! `asmap page`: how a list of candidates spreads over groups, as the library prints it. On a terminal each line has a bar behind it.
 use crate::args::Page as Asked;
 use crate::failure::{self, Failure, Outcome, Status};
-use crate::files::checked_map;
-use crate::grouping::{by, Grouped};
+use crate::grouping::Grouping;
 use crate::lists;
 use crate::out::{Out, Style};
-use corbastrigo::{page, AsMap, Page};
+use corbastrigo::Page;
 use serde_json::{json, Value};
 use std::net::SocketAddr;
 
 pub fn run(asked: &Asked, out: &mut Out) -> Outcome {
-    let map = asked.map.as_deref().map(checked_map).transpose()?;
+    let grouping = Grouping::asked(&asked.by)?;
     let candidates = lists::candidates(&asked.candidates)?;
-    let made = page(&candidates, map.as_ref());
+    let made = grouping.page(&candidates);
     let made = made.map_err(|refusal| lists::refused(&asked.candidates, refusal, "give fewer of them"))?;
     if out.is_json() {
-        objects(&made, &candidates, map.as_ref(), out)?;
+        objects(&made, &candidates, &grouping, out)?;
         return Ok(Status::Done);
     }
     if candidates.is_empty() {
         failure::say("nothing is printed, because the list has no candidates");
     }
     match out.columns() {
-        Some(columns) => bars(&made, why_zero(&candidates, map.as_ref())?, columns, out)?,
+        Some(columns) => bars(&made, why_zero(&candidates, &grouping)?, columns, out)?,
         None => out.bytes(made.as_str().as_bytes())?,
     }
     Ok(Status::Done)
 }
 
-/// Why candidates are in group 0, each reason once. By a map there is but one; by prefixes there are several.
-fn why_zero(candidates: &[SocketAddr], map: Option<&AsMap>) -> Result<Option<String>, Failure> {
+/// Why candidates are in group 0, each reason once. There is but one, except by the old numbering of prefixes.
+fn why_zero(candidates: &[SocketAddr], grouping: &Grouping) -> Result<Option<String>, Failure> {
     let mut reasons = Vec::new();
     for &candidate in candidates {
-        let why = Grouped::of(candidate, map)?.why_zero;
+        let why = grouping.of(candidate)?.why_zero;
         reasons.extend(why.filter(|why| !reasons.contains(why)));
     }
     Ok((!reasons.is_empty()).then(|| reasons.join("; or ")))
@@ -64,8 +63,8 @@ fn per_cent(tenths: u32) -> Value {
 }
 
 /// An object for each group and one for the whole.
-fn objects(page: &Page, candidates: &[SocketAddr], map: Option<&AsMap>, out: &mut Out) -> Result<(), Failure> {
-    let (by, why_zero) = (by(map.is_some()), why_zero(candidates, map)?);
+fn objects(page: &Page, candidates: &[SocketAddr], grouping: &Grouping, out: &mut Out) -> Result<(), Failure> {
+    let (by, why_zero) = (grouping.word(), why_zero(candidates, grouping)?);
     for share in page.shares() {
         out.object(&json!({
             "kind": "share", "by": by, "group": share.group, "candidates": share.candidates, "per_cent": per_cent(share.tenths),

@@ -1,12 +1,11 @@
 //! `asmap pick`: peers from a ranked list, spread over groups. The library picks; this says what each was picked for.
 use crate::args::Pick as Asked;
 use crate::failure::{Failure, Outcome, Status};
-use crate::files::checked_map;
-use crate::grouping::{by, Grouped};
+use crate::grouping::{Grouped, Grouping};
 use crate::lists::{self, candidates, entries, group, SO_MANY_GROUPS};
 use crate::out::{Out, Style};
 use crate::words::{counted, grouped};
-use corbastrigo::{pick, AsMap, Pick, Refusal, MAX_CANDIDATES};
+use corbastrigo::{Pick, Refusal, MAX_CANDIDATES};
 use serde_json::json;
 use std::collections::HashSet;
 use std::net::SocketAddr;
@@ -17,16 +16,21 @@ pub fn run(asked: &Asked, out: &mut Out) -> Outcome {
     if asked.candidates == standard && asked.occupied.as_deref() == Some(standard) {
         return Err(Failure::new("standard input can be the candidates or the occupied groups; give the other as a file"));
     }
-    let map = asked.map.as_deref().map(checked_map).transpose()?;
+    let grouping = Grouping::asked(&asked.by)?;
     let ranked = candidates(&asked.candidates)?;
     let occupied = asked.occupied.as_deref().map(occupied_groups).transpose()?.unwrap_or_default();
-    let picked = pick(&ranked, asked.max, &occupied, map.as_ref()).map_err(|refusal| refused(asked, ranked.len(), refusal))?;
-    let rows = rows(&picked, &ranked, asked.max, map.as_ref())?;
+    let picked = grouping.pick(&ranked, asked.max, &occupied).map_err(|refusal| refused(asked, ranked.len(), refusal))?;
+    let rows = rows(&picked, &ranked, asked.max, &grouping)?;
     if out.is_json() {
-        objects(asked, &picked, &rows, ranked.len(), out)?;
+        objects(asked.max, &rows, out)?;
+        out.object(&json!({
+            "kind": "summary", "by": grouping.word(), "max": asked.max, "picked": picked.places.len(),
+            "first_pass": picked.groups.len(), "candidates": ranked.len(), "examined": picked.examined,
+            "instructions": picked.instructions,
+        }))?;
     } else {
         table(&rows, out)?;
-        out.line(&summary(asked, &picked, ranked.len()))?;
+        out.line(&summary(asked.max, &grouping, &picked, ranked.len()))?;
     }
     Ok(Status::Done)
 }
@@ -69,10 +73,10 @@ enum Pass {
     },
 }
 
-fn rows(picked: &Pick, ranked: &[SocketAddr], max: usize, map: Option<&AsMap>) -> Result<Vec<Row>, Failure> {
+fn rows(picked: &Pick, ranked: &[SocketAddr], max: usize, grouping: &Grouping) -> Result<Vec<Row>, Failure> {
     let row = |(rank, &place): (usize, &u16)| {
         let candidate = ranked[usize::from(place)];
-        let grouped = Grouped::of(candidate, map)?;
+        let grouped = grouping.of(candidate)?;
         let pass = if rank < picked.groups.len() {
             Pass::First
         } else {
@@ -116,9 +120,9 @@ fn table(rows: &[Row], out: &mut Out) -> Result<(), Failure> {
 }
 
 /// The pick as a whole. A count of 0 says why.
-fn summary(asked: &Asked, picked: &Pick, candidates: usize) -> String {
+fn summary(max: usize, grouping: &Grouping, picked: &Pick, candidates: usize) -> String {
     let (total, first) = (picked.places.len(), picked.groups.len());
-    if asked.max == 0 {
+    if max == 0 {
         return String::from("none picked, because at most 0 were asked for");
     }
     if total == 0 {
@@ -129,17 +133,18 @@ fn summary(asked: &Asked, picked: &Pick, candidates: usize) -> String {
         _ if first == total => String::from("all in the first pass"),
         _ => format!("{first} in the first pass, {} to fill", total - first),
     };
-    let walks = match asked.map {
-        Some(_) => format!("by {} of the map", counted(picked.instructions, "instruction", "instructions")),
-        None => String::from("by prefixes"),
+    let by = match grouping {
+        Grouping::Map(_) => format!("by {} of the map", counted(picked.instructions, "instruction", "instructions")),
+        Grouping::Prefixes => String::from("by prefixes"),
+        Grouping::OldPrefixes => String::from("by prefixes in the old numbering"),
     };
     let examined = format!("{} of {}", picked.examined, counted(candidates as u64, "candidate", "candidates"));
-    let max = grouped(asked.max as u64);
-    format!("{total} picked of at most {max}: {passes}; {examined} examined, {walks}; places count from 1")
+    let max = grouped(max as u64);
+    format!("{total} picked of at most {max}: {passes}; {examined} examined, {by}; places count from 1")
 }
 
-/// An object for each pick and one for the whole. Ranks and places count from 0, as the library's.
-fn objects(asked: &Asked, picked: &Pick, rows: &[Row], candidates: usize, out: &mut Out) -> Result<(), Failure> {
+/// An object for each pick. Ranks and places count from 0, as the library's.
+fn objects(max: usize, rows: &[Row], out: &mut Out) -> Result<(), Failure> {
     for (rank, row) in rows.iter().enumerate() {
         let (pass, holder) = match row.pass {
             Pass::First => ("first", None),
@@ -151,12 +156,9 @@ fn objects(asked: &Asked, picked: &Pick, rows: &[Row], candidates: usize, out: &
         object["place"] = json!(row.place);
         object["candidate"] = json!(row.candidate.to_string());
         object["pass"] = json!(pass);
-        object["still_wanted"] = json!(asked.max - rank);
+        object["still_wanted"] = json!(max - rank);
         object["group_went_to"] = json!(holder);
         out.object(&object)?;
     }
-    out.object(&json!({
-        "kind": "summary", "by": by(asked.map.is_some()), "max": asked.max, "picked": picked.places.len(),
-        "first_pass": picked.groups.len(), "candidates": candidates, "examined": picked.examined, "instructions": picked.instructions,
-    }))
+    Ok(())
 }

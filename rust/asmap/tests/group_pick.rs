@@ -1,7 +1,7 @@
 //! `asmap group` and `asmap pick`: their outputs, their refusals, and that they say what the library says.
 mod common;
-use common::{asmap, drawn, stored, text, Draws, Folder, TWO_PREFIXES};
-use corbastrigo::{netgroup, pick, AsMap};
+use common::{asmap, drawn, stored, text, By, Draws, Folder};
+use corbastrigo::IPV4_GROUPS;
 use serde_json::Value;
 use std::collections::HashSet;
 use std::net::{Ipv4Addr, SocketAddr};
@@ -28,9 +28,11 @@ fn objects(output: &Output) -> Vec<Value> {
 #[test]
 fn groups() {
     let folder = Folder::new();
-    let addresses = ["1.2.3.4", "8.8.8.8", "0.0.1.2", "2001:db8::1", "::1", "::ffff:1.2.3.4"];
+    let addresses = ["1.2.3.4", "8.8.8.8", "0.0.1.2", "2001:db8::1", "::1", "::ffff:1.2.3.4", "0:102::1"];
     stored("group", &folder.output(&[&["group"], &addresses[..]].concat()));
     stored("group_json", &folder.output(&[&["group", "--json"], &addresses[..]].concat()));
+    stored("group_old", &folder.output(&[&["group", "--old-prefixes"], &addresses[..]].concat()));
+    stored("group_old_json", &folder.output(&[&["group", "--json", "--old-prefixes"], &addresses[..]].concat()));
     stored("group_map", &folder.output(&[&["group", "--map", "two.asmap"], &addresses[..]].concat()));
     stored("group_map_json", &folder.output(&[&["group", "--json", "--map", "two.asmap"], &addresses[..]].concat()));
     stored("group_default", &folder.output(&["group", "--map", "loopback.asmap", "127.0.0.2", "127.0.0.3"]));
@@ -54,21 +56,21 @@ fn groups_that_are_refused() {
     stored("group_port", &folder.output(&["group", "1.2.3.4:8333"]));
     stored("group_zone", &folder.output(&["group", "fe80::1%1"]));
     stored("group_none", &folder.output(&["group"]));
+    stored("group_old_and_map", &folder.output(&["group", "--old-prefixes", "--map", "two.asmap", "1.2.3.4"]));
 }
 
 #[test]
 fn groups_are_the_library_s() {
     let folder = Folder::new();
-    let map = AsMap::checked(TWO_PREFIXES.to_vec()).expect("accepted");
     let mut draws = Draws(1);
     let addresses: Vec<SocketAddr> = (0..2_000).map(|_| drawn(&mut draws)).collect();
     let input: String = addresses.iter().map(|address| format!("{}\n", address.ip())).collect();
-    for (arguments, map) in [(&["group", "--json", "-"][..], None), (&["group", "--json", "--map", "two.asmap", "-"], Some(&map))] {
-        let found = objects(&folder.output_of(arguments, &input));
+    for by in By::ALL {
+        let found = objects(&folder.output_of(&[&["group", "--json", "-"], by.arguments()].concat(), &input));
         assert_eq!(found.len(), addresses.len());
         for (object, address) in found.iter().zip(&addresses) {
             assert_eq!(object["address"], address.ip().to_string());
-            assert_eq!(object["group"], netgroup(*address, map), "{address}");
+            assert_eq!((&object["group"], &object["by"]), (&by.group(*address).into(), &by.word().into()), "{address}");
             assert_eq!(object["why_zero"].is_string(), object["group"] == 0, "{object}");
         }
     }
@@ -78,11 +80,21 @@ fn groups_are_the_library_s() {
 fn picks() {
     let folder = Folder::new();
     folder.write("candidates.txt", CANDIDATES);
-    folder.write("occupied.txt", "258\n# and\n 772 # 3.4.0.0/16\n\n");
+    folder.write("occupied.txt", "4294967554\n# and\n 4294968068 # 3.4.0.0/16\n\n");
+    folder.write("old.txt", "258\n# and\n 772 # 3.4.0.0/16\n\n");
     folder.write("none.txt", "# none\n");
     stored("pick", &folder.output(&["pick", "--max", "8", "candidates.txt"]));
     stored("pick_few", &folder.output(&["pick", "--max", "2", "candidates.txt"]));
     stored("pick_occupied", &folder.output(&["pick", "--max", "8", "--occupied", "occupied.txt", "candidates.txt"]));
+    stored("pick_old", &folder.output(&["pick", "--max", "8", "--old-prefixes", "candidates.txt"]));
+    stored(
+        "pick_old_occupied",
+        &folder.output(&["pick", "--max", "8", "--old-prefixes", "--occupied", "old.txt", "candidates.txt"]),
+    );
+    stored(
+        "pick_old_json",
+        &folder.output(&["pick", "--json", "--max", "5", "--old-prefixes", "--occupied", "old.txt", "candidates.txt"]),
+    );
     stored("pick_map", &folder.output(&["pick", "--max", "8", "--map", "two.asmap", "candidates.txt"]));
     stored("pick_map_json", &folder.output(&["pick", "--json", "--max", "5", "--map", "two.asmap", "candidates.txt"]));
     stored("pick_json", &folder.output(&["pick", "--json", "--max", "5", "--occupied", "occupied.txt", "candidates.txt"]));
@@ -97,27 +109,27 @@ fn a_pick_of_occupied_groups_only_says_so() {
     let folder = Folder::new();
     folder.write("candidates.txt", "1.2.3.4:1\n1.2.3.5:1\n");
     let asked = ["pick", "--max", "18446744073709551615", "--occupied", "-", "candidates.txt"];
-    stored("pick_all_occupied", &folder.output_of(&asked, "258"));
+    stored("pick_all_occupied", &folder.output_of(&asked, "4294967554"));
+    let asked = ["pick", "--old-prefixes", "--max", "18446744073709551615", "--occupied", "-", "candidates.txt"];
+    stored("pick_old_all_occupied", &folder.output_of(&asked, "258"));
 }
 
 #[test]
 fn picks_are_the_library_s() {
     let folder = Folder::new();
-    let map = AsMap::checked(TWO_PREFIXES.to_vec()).expect("accepted");
     let mut draws = Draws(2);
-    for round in 0..60 {
+    for (round, by) in (0..90).zip(By::ALL.into_iter().cycle()) {
         let ranked: Vec<SocketAddr> = (0..draws.below(40)).map(|_| drawn(&mut draws)).collect();
-        let occupied: HashSet<u64> =
-            (0..draws.below(4)).map(|_| netgroup(drawn(&mut draws), Some(&map).filter(|_| round % 2 == 0))).collect();
+        let occupied: HashSet<u64> = (0..draws.below(4)).map(|_| by.group(drawn(&mut draws))).collect();
         let max = draws.below(30) as usize;
         folder.write("candidates.txt", ranked.iter().map(|candidate| format!("{candidate}\n")).collect::<String>());
         folder.write("occupied.txt", occupied.iter().map(|group| format!("{group}\n")).collect::<String>());
-        let by: &[&str] = if round % 2 == 0 { &["--map", "two.asmap"] } else { &[] };
         let limit = max.to_string();
         let asked = ["pick", "--json", "--max", &limit, "--occupied", "occupied.txt", "candidates.txt"];
-        let mut found = objects(&folder.output(&[&asked, by].concat()));
-        let wanted = pick(&ranked, max, &occupied, Some(&map).filter(|_| round % 2 == 0)).expect("within the limits");
+        let mut found = objects(&folder.output(&[&asked, by.arguments()].concat()));
+        let wanted = by.pick(&ranked, max, &occupied).expect("within the limits");
         let summary = found.pop().expect("a summary");
+        assert!(found.iter().chain([&summary]).all(|object| object["by"] == by.word()), "round {round}");
         let counts = ["picked", "first_pass", "examined", "instructions"].map(|field| summary[field].as_u64().expect("a count"));
         let lengths = [wanted.places.len() as u64, wanted.groups.len() as u64, wanted.examined as u64, wanted.instructions];
         assert_eq!(counts, lengths, "round {round}");
@@ -181,7 +193,7 @@ fn wrong_groups_name_their_line() {
 fn long_lists_are_taken_up_to_the_limit() {
     let folder = Folder::new();
     let candidates = |count: u32| (0..count).map(|nth| format!("{}:8333\n", Ipv4Addr::from(nth << 16))).collect::<String>();
-    let groups = |count: u32| (0..count).map(|nth| format!("{nth}\n{nth}\n")).collect::<String>();
+    let groups = |count: u64| (IPV4_GROUPS..).take(count as usize).map(|group| format!("{group}\n{group}\n")).collect::<String>();
     folder.write("candidates.txt", candidates(4_096));
     folder.write("occupied.txt", groups(4_096));
     let output = folder.output(&["pick", "--json", "--max", "1", "--occupied", "occupied.txt", "candidates.txt"]);
@@ -200,6 +212,7 @@ fn picks_that_are_misused() {
     stored("pick_missing", &folder.output(&["pick", "--max", "8", "nothing.here"]));
     stored("pick_folder", &folder.output(&["pick", "--max", "8", "."]));
     stored("pick_occupied_missing", &folder.output(&["pick", "--max", "8", "--occupied", "nothing.here", "candidates.txt"]));
+    stored("pick_old_and_map", &folder.output(&["pick", "--max", "8", "--map", "two.asmap", "--old-prefixes", "candidates.txt"]));
     stored("pick_no_max", &folder.output(&["pick", "candidates.txt"]));
     stored("pick_max_word", &folder.output(&["pick", "--max", "many", "candidates.txt"]));
     stored("pick_max_negative", &folder.output(&["pick", "--max=-1", "candidates.txt"]));

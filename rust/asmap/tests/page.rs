@@ -34,7 +34,8 @@ fn folder() -> Folder {
         folder.write(name, fs::read(page_file("story").join(name)).expect("docs/story has it"));
     }
     folder.write("candidates.txt", "1.2.3.4:8333\n1.2.9.9:8333\n3.4.0.1:8333\n8.8.8.8:8333   # a resolver\n[2001:db8::1]:8333\n");
-    folder.write("occupied.txt", "258\n772   # 3.4.0.0/16\n2056\n772\n");
+    folder.write("occupied.txt", "4294967554\n4294968068   # 3.4.0.0/16\n4294969352\n4294968068\n");
+    folder.write("stored.txt", "258\n772   # 3.4.0.0/16\n");
     folder
 }
 
@@ -97,7 +98,7 @@ fn fields(object: &Value) -> Vec<&String> {
 }
 
 /// The sections of the page that name the fields, and a command line that prints them.
-const OBJECTS: [(&[&str], &[&str]); 15] = [
+const OBJECTS: [(&[&str], &[&str]); 16] = [
     (&["check"], &["check", "two.asmap", "cut.asmap"]),
     (&["walk"], &["walk", "two.asmap", "1.2.3.4"]),
     (&["walk", "trace"], &["trace", "two.asmap", "1.2.3.4"]),
@@ -109,8 +110,9 @@ const OBJECTS: [(&[&str], &[&str]); 15] = [
     (&["pack"], &["pack", "-o", "new.asmap", "list.txt"]),
     (&["load"], &["load", "--pairs", "2", "-o", "load.asmap"]),
     (&["group"], &["group", "1.2.3.4"]),
+    (&["group"], &["group", "--old-prefixes", "::ffff:1.2.3.4"]),
     (&["pick"], &["pick", "--max", "4", "candidates.txt"]),
-    (&["scan"], &["scan", "--occupied", "occupied.txt", "772"]),
+    (&["scan"], &["scan", "--occupied", "occupied.txt", "4294968068"]),
     (&["page"], &["page", "candidates.txt"]),
     (&["filter"], &["filter", "2002:a00:1::"]),
 ];

@@ -5,7 +5,7 @@ use corbastrigo::scan_occupied;
 use serde_json::Value;
 
 /// Occupied groups: 772 stands twice, and the greatest and the least are among them.
-const OCCUPIED: &str = "# by peer\n258\n 772 # 3.4.0.0/16\n\n2056\n772\n18446744073709551615\n0\n";
+const OCCUPIED: &str = "# by peer\n258\n 772 # a note\n\n2056\n772\n18446744073709551615\n0\n";
 
 #[test]
 fn scans() {

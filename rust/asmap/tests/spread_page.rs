@@ -1,7 +1,6 @@
 //! `asmap page`: its outputs, its bars, its refusals, and that it prints what the library makes.
 mod common;
-use common::{asmap, drawn, is_there, on_a_terminal, on_a_terminal_of, said, status, stored, text, Draws, Folder, TWO_PREFIXES};
-use corbastrigo::{netgroup, page, AsMap};
+use common::{asmap, drawn, is_there, on_a_terminal, on_a_terminal_of, said, status, stored, text, By, Draws, Folder};
 use serde_json::{json, Value};
 use std::collections::BTreeMap;
 use std::net::{Ipv4Addr, SocketAddr};
@@ -28,7 +27,7 @@ const CANDIDATES: &str = "\
 [::1]:8333
 ";
 
-/// A list with so many candidates in each of the groups from 256 on.
+/// A list with so many candidates in each of the prefixes from 1.0.0.0/16 on, whose group is 4,294,967,552.
 fn list(counts: &[u32]) -> String {
     let group =
         |(nth, &count): (u32, &u32)| (0..count).map(move |low| format!("{}:8333\n", Ipv4Addr::from((256 + nth) << 16 | low)));
@@ -42,6 +41,8 @@ fn pages() {
     folder.write("none.txt", "# none\n");
     stored("page", &folder.output(&["page", "candidates.txt"]));
     stored("page_json", &folder.output(&["page", "--json", "candidates.txt"]));
+    stored("page_old", &folder.output(&["page", "--old-prefixes", "candidates.txt"]));
+    stored("page_old_json", &folder.output(&["page", "--json", "--old-prefixes", "candidates.txt"]));
     stored("page_map", &folder.output(&["page", "--map", "two.asmap", "candidates.txt"]));
     stored("page_map_json", &folder.output(&["page", "--json", "-m", "two.asmap", "candidates.txt"]));
     stored("page_default", &folder.output(&["page", "--map", "loopback.asmap", "candidates.txt"]));
@@ -69,7 +70,7 @@ fn exact_halves_are_rounded_up() {
     let folder = Folder::new();
     for (count, all, first, second) in HALVES {
         let input = list(&[count, all - count]);
-        let wanted = format!("       256 {count:>6} {first:>6}\n       257 {:>6} {second:>6}\n", all - count);
+        let wanted = format!("4294967552 {count:>6} {first:>6}\n4294967553 {:>6} {second:>6}\n", all - count);
         assert_eq!(text(&folder.output_of(&["page", "-"], &input).stdout), wanted);
         let objects = folder.output_of(&["page", "--json", "-"], &input);
         for (line, per_cent) in text(&objects.stdout).lines().zip([first, second]) {
@@ -79,9 +80,9 @@ fn exact_halves_are_rounded_up() {
 }
 
 /// The shares of a page, counted here.
-fn counted(candidates: &[SocketAddr], map: Option<&AsMap>) -> Vec<Value> {
+fn counted(candidates: &[SocketAddr], by: By) -> Vec<Value> {
     let mut groups = BTreeMap::new();
-    candidates.iter().for_each(|&candidate| *groups.entry(netgroup(candidate, map)).or_insert(0) += 1);
+    candidates.iter().for_each(|&candidate| *groups.entry(by.group(candidate)).or_insert(0) += 1);
     let share = |(group, count): (&u64, &usize)| {
         let tenths = (2_000 * count / candidates.len()).div_ceil(2);
         let per_cent: f64 = format!("{}.{}", tenths / 10, tenths % 10).parse().expect("a number");
@@ -93,26 +94,22 @@ fn counted(candidates: &[SocketAddr], map: Option<&AsMap>) -> Vec<Value> {
 #[test]
 fn pages_are_the_library_s() {
     let folder = Folder::new();
-    let map = AsMap::checked(TWO_PREFIXES.to_vec()).expect("accepted");
     let mut draws = Draws(4);
-    for round in 0..60 {
+    for (round, by) in (0..90).zip(By::ALL.into_iter().cycle()) {
         let candidates: Vec<SocketAddr> = (0..draws.below(90)).map(|_| drawn(&mut draws)).collect();
-        let map = Some(&map).filter(|_| round % 2 == 0);
         folder.write("candidates.txt", candidates.iter().map(|candidate| format!("{candidate}\n")).collect::<String>());
-        let by: &[&str] = if map.is_some() { &["--map", "two.asmap"] } else { &[] };
-        let output = folder.output(&[&["page", "candidates.txt"], by].concat());
-        assert_eq!(text(&output.stdout), page(&candidates, map).expect("within the limit").as_str(), "round {round}");
-        let output = folder.output(&[&["page", "--json", "candidates.txt"], by].concat());
+        let output = folder.output(&[&["page", "candidates.txt"], by.arguments()].concat());
+        assert_eq!(text(&output.stdout), by.page(&candidates).expect("within the limit").as_str(), "round {round}");
+        let output = folder.output(&[&["page", "--json", "candidates.txt"], by.arguments()].concat());
         let mut found: Vec<Value> =
             text(&output.stdout).lines().map(|line| serde_json::from_str(line).expect("an object")).collect();
         let summary = found.pop().expect("a summary");
-        let by = if map.is_some() { "map" } else { "prefix" };
-        assert_eq!(summary, json!({ "kind": "summary", "by": by, "candidates": candidates.len(), "groups": found.len() }));
-        let wanted = counted(&candidates, map);
+        assert_eq!(summary, json!({ "kind": "summary", "by": by.word(), "candidates": candidates.len(), "groups": found.len() }));
+        let wanted = counted(&candidates, by);
         assert_eq!(found.len(), wanted.len(), "round {round}");
         for (object, wanted) in found.iter().zip(wanted) {
             wanted.as_object().expect("an object").iter().for_each(|(field, value)| assert_eq!(&object[field], value, "{object}"));
-            assert_eq!((&object["kind"], &object["by"]), (&json!("share"), &json!(by)));
+            assert_eq!((&object["kind"], &object["by"]), (&json!("share"), &json!(by.word())));
             assert_eq!(object["why_zero"].is_string(), object["group"] == 0, "{object}");
         }
     }
@@ -122,13 +119,17 @@ fn pages_are_the_library_s() {
 fn candidates_are_taken_up_to_the_limit() {
     let folder = Folder::new();
     let one = folder.output_of(&["page", "-"], list(&[4_096]));
-    assert_eq!((status(&one), text(&one.stdout), said(&one)), (0, "       256   4096  100.0\n", ""));
+    assert_eq!((status(&one), text(&one.stdout), said(&one)), (0, "4294967552   4096  100.0\n", ""));
     let each = folder.output_of(&["page", "-"], list(&[1; 4_096]));
-    let wanted: String = (256..256 + 4_096).map(|group| format!("{group:>10}      1    0.0\n")).collect();
+    let wanted: String = (4_294_967_552..).take(4_096).map(|group: u64| format!("{group:>10}      1    0.0\n")).collect();
+    assert_eq!((status(&each), text(&each.stdout), said(&each)), (0, wanted.as_str(), ""));
+    let each = folder.output_of(&["page", "--old-prefixes", "-"], list(&[1; 4_096]));
+    let wanted: String = (256..).take(4_096).map(|group: u64| format!("{group:>10}      1    0.0\n")).collect();
     assert_eq!((status(&each), text(&each.stdout), said(&each)), (0, wanted.as_str(), ""));
     folder.write("too_many.txt", list(&[4_097]) + "what stands behind is not read\n");
     stored("page_too_many", &folder.output(&["page", "too_many.txt"]));
     stored("page_too_many_map", &folder.output(&["page", "--map", "two.asmap", "too_many.txt"]));
+    stored("page_too_many_old", &folder.output(&["page", "--old-prefixes", "too_many.txt"]));
     stored("page_too_many_json", &folder.output(&["page", "--json", "too_many.txt"]));
 }
 
@@ -142,6 +143,7 @@ fn pages_that_are_misused() {
     stored("page_missing", &folder.output(&["page", "nothing.here"]));
     stored("page_folder", &folder.output(&["page", "."]));
     stored("page_without_a_list", &folder.output(&["page"]));
+    stored("page_old_and_map", &folder.output(&["page", "--old-prefixes", "-m", "two.asmap", "candidates.txt"]));
     stored("page_two_lists", &folder.output(&["page", "candidates.txt", "candidates.txt"]));
 }
 
@@ -153,8 +155,8 @@ fn a_terminal_shows_bars() {
     let folder = Folder::new();
     folder.write("spread.txt", list(&[1, 4, 3, 0, 72]));
     let shown = |columns, lengths: [usize; 4]| {
-        let lines = ["256      1    1.3", "257      4    5.0", "258      3    3.8", "260     72   90.0"];
-        let line = |(line, length)| format!("       {line}  {}", "#".repeat(length)).trim_end().to_string() + "\r\n";
+        let lines = ["2      1    1.3", "3      4    5.0", "4      3    3.8", "6     72   90.0"];
+        let line = |(line, length)| format!("429496755{line}  {}", "#".repeat(length)).trim_end().to_string() + "\r\n";
         let wanted: String = lines.into_iter().zip(lengths).map(line).collect();
         assert_eq!(on_a_terminal_of(columns, &folder, "page spread.txt", Some("1")), wanted, "{columns} columns");
     };
@@ -165,11 +167,11 @@ fn a_terminal_shows_bars() {
     shown(10, [0; 4]);
     folder.write("one.txt", list(&[3]));
     for (columns, length) in [(27, 1), (80, 54), (200, 174)] {
-        let wanted = format!("       256      3  100.0  {}\r\n", "#".repeat(length));
+        let wanted = format!("4294967552      3  100.0  {}\r\n", "#".repeat(length));
         assert_eq!(on_a_terminal_of(columns, &folder, "page one.txt", Some("1")), wanted);
     }
     // One that does not tell its width is taken for 80 columns.
-    let wanted = format!("       256      3  100.0  \x1b[2m{}\x1b[0m\r\n", "#".repeat(54));
+    let wanted = format!("4294967552      3  100.0  \x1b[2m{}\x1b[0m\r\n", "#".repeat(54));
     assert_eq!(on_a_terminal(&folder, "page one.txt", None), wanted);
 }
 
@@ -184,7 +186,9 @@ fn a_terminal_says_what_a_group_0_comes_from_and_why_there_is_no_line() {
     let zero = "group 0: the walk differed before any DEFAULT was met";
     assert_eq!(last("page --map two.asmap candidates.txt").as_deref(), Some(zero));
     assert!(!on_a_terminal(&folder, "page --map loopback.asmap candidates.txt", None).contains("group 0"));
-    let prefixes = last("page candidates.txt").expect("a line");
+    // By the new numbering IPv6 alone has a group 0; by the old also 0.0.0.0/16, and every mapped address.
+    assert_eq!(last("page candidates.txt").as_deref(), Some("group 0: the first four bytes are 0"));
+    let prefixes = last("page --old-prefixes candidates.txt").expect("a line");
     assert!(prefixes.starts_with("group 0: the first four bytes are 0, as of every mapped IPv4 address; "), "{prefixes}");
     assert!(prefixes.ends_with("; or the first two bytes are 0; or the first four bytes are 0"), "{prefixes}");
     folder.write("none.txt", "");

@@ -3,7 +3,8 @@
 //! With ASMAP_WRITE=1 in the environment the stored outputs are written anew; `git diff` then shows what changed.
 #![allow(dead_code)] // No test file uses all of it.
 use assert_cmd::Command;
-use corbastrigo::codes;
+use corbastrigo::{codes, netgroup, old_prefix_page, old_prefix_pick, page, pick, prefix_group, AsMap, Page, Pick, Refusal};
+use std::collections::HashSet;
 use std::fs::{self, File};
 use std::net::{Ipv4Addr, Ipv6Addr, SocketAddr};
 use std::path::{Path, PathBuf};
@@ -165,6 +166,59 @@ pub fn drawn(draws: &mut Draws) -> SocketAddr {
         1 => (Ipv4Addr::new(1 + 2 * (bytes[0] & 1), 2 + 2 * (bytes[1] & 1), 0, bytes[3] & 3), port).into(),
         2 => (Ipv6Addr::new(0x2001, u16::from(bytes[0] & 3), 0, 0, 0, 0, 0, 1), port).into(),
         _ => (Ipv4Addr::from(bytes).to_ipv6_mapped(), port).into(),
+    }
+}
+
+/// What groups go by: how the command is asked for it, which word it has for it, and what the library says then.
+#[derive(Clone, Copy, Debug)]
+pub enum By {
+    Map,
+    Prefixes,
+    OldPrefixes,
+}
+
+impl By {
+    pub const ALL: [By; 3] = [By::Map, By::Prefixes, By::OldPrefixes];
+
+    pub fn arguments(self) -> &'static [&'static str] {
+        match self {
+            By::Map => &["--map", "two.asmap"],
+            By::Prefixes => &[],
+            By::OldPrefixes => &["--old-prefixes"],
+        }
+    }
+
+    pub fn word(self) -> &'static str {
+        match self {
+            By::Map => "map",
+            By::Prefixes => "prefix",
+            By::OldPrefixes => "old_prefix",
+        }
+    }
+
+    fn map(self) -> Option<AsMap> {
+        matches!(self, By::Map).then(|| AsMap::checked(TWO_PREFIXES.to_vec()).expect("accepted"))
+    }
+
+    pub fn group(self, peer: SocketAddr) -> u64 {
+        match self {
+            By::OldPrefixes => prefix_group(peer.ip()),
+            By::Map | By::Prefixes => netgroup(peer, self.map().as_ref()),
+        }
+    }
+
+    pub fn pick(self, ranked: &[SocketAddr], max: usize, occupied: &HashSet<u64>) -> Result<Pick, Refusal> {
+        match self {
+            By::OldPrefixes => old_prefix_pick(ranked, max, occupied),
+            By::Map | By::Prefixes => pick(ranked, max, occupied, self.map().as_ref()),
+        }
+    }
+
+    pub fn page(self, candidates: &[SocketAddr]) -> Result<Page, Refusal> {
+        match self {
+            By::OldPrefixes => old_prefix_page(candidates),
+            By::Map | By::Prefixes => page(candidates, self.map().as_ref()),
+        }
     }
 }
 
