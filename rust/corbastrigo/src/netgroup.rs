@@ -36,9 +36,9 @@ pub(crate) fn map_or_none(asmap: Option<&AsMap>) -> (u8, &[u8]) {
 /// The group of an address: with a map the number that it is sent to, without one its prefix by the new numbering. An [`AsMap`] was checked
 /// when it was made and is not checked again.
 ///
-/// By the new numbering an IPv4 address a.b.c.d has the group [`IPV4_GROUPS`] + 256 * a + b, also where a dual-stack socket reports it as
-/// the mapped IPv6 address ::ffff:a.b.c.d. Every other IPv6 address has its first four bytes as a number, which is less, so that IPv4 never
-/// shares a group with IPv6. Groups that were stored by the old numbering ([`prefix_group`]) are not to be mixed with these.
+/// By the new numbering an IPv4 address a.b.c.d has the group [`IPV4_GROUPS`](crate::IPV4_GROUPS) + 256 * a + b, also where a dual-stack
+/// socket reports it as the mapped IPv6 address ::ffff:a.b.c.d. Every other IPv6 address has its first four bytes as a number, which is less,
+/// so that IPv4 never shares a group with IPv6. Groups that were stored by the old numbering ([`prefix_group`]) are not to be mixed with these.
 ///
 /// ```
 /// use corbastrigo::{netgroup, AsMap, Refusal, IPV4_GROUPS};
