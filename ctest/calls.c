@@ -820,7 +820,7 @@ static void make_mixed(uint8_t *peers) {
 
 /* What the pick by the old numbering refuses, in its order, and that it has written nothing then. */
 static void refused_old_pick(void) {
-    static uint8_t many[20 * (CORBASTRIGO_MAX_CANDIDATES + 1)];
+    static uint8_t many[20 * (CORBASTRIGO_MAX_CANDIDATES + 2)];
     static uint64_t occupied[CORBASTRIGO_MAX_CANDIDATES + 1];
     uint8_t peers[80];
     uint16_t places[4] = {BEFORE(1), BEFORE(1), BEFORE(1), BEFORE(1)};
@@ -830,8 +830,9 @@ static void refused_old_pick(void) {
     corbastrigo_old_prefix_pick(from, bytes, occupied, groups, 3, places, room, taken, group_room, &total, &first, &examined, &instructions)
     make_mixed(peers);
     peers[60] = 5;
-    IS(PICK(many, sizeof many - 1, CORBASTRIGO_MAX_CANDIDATES + 1, 0, 0), CORBASTRIGO_CANDIDATE);
-    IS(PICK(many, sizeof many, 0, 0, 0), CORBASTRIGO_TOO_MANY);
+    IS(PICK(many, sizeof many - 1, 0, 0, 0), CORBASTRIGO_CANDIDATE);
+    IS(PICK(peers, 79, CORBASTRIGO_MAX_CANDIDATES + 1, 0, 0), CORBASTRIGO_CANDIDATE);
+    IS(PICK(many, sizeof many - 20, 0, 0, 0), CORBASTRIGO_TOO_MANY);
     IS(PICK(peers, 80, CORBASTRIGO_MAX_CANDIDATES + 1, 0, 0), CORBASTRIGO_TOO_MANY);
     IS(PICK(peers, 80, CORBASTRIGO_MAX_CANDIDATES, 0, 0), CORBASTRIGO_CANDIDATE);
     make_mixed(peers);
@@ -919,13 +920,13 @@ static void refused_page(printing *call, uint8_t checked) {
 
 /* What the page by the old numbering refuses, in its order, and that it has written nothing then. The mixed peers have two old groups. */
 static void refused_old_page(void) {
-    static uint8_t many[20 * (CORBASTRIGO_MAX_CANDIDATES + 1)];
+    static uint8_t many[20 * (CORBASTRIGO_MAX_CANDIDATES + 2)];
     uint8_t peers[80], out[100];
     size_t written = BEFORE(2);
     make_mixed(peers);
     memset(out, BEFORE(1), sizeof out);
     IS(corbastrigo_old_prefix_page(many, sizeof many - 1, out, 0, &written), CORBASTRIGO_CANDIDATE);
-    IS(corbastrigo_old_prefix_page(many, sizeof many, out, 0, &written), CORBASTRIGO_TOO_MANY);
+    IS(corbastrigo_old_prefix_page(many, sizeof many - 20, out, 0, &written), CORBASTRIGO_TOO_MANY);
     for (size_t place = 0; place < 80; place += 20) {
         make_mixed(peers);
         peers[place] = 5;
