@@ -1,7 +1,7 @@
 //! Groups without a map by other ways than `picks` has: from the text of an address, and from where it lies among all addresses. Both
 //! numberings are asked, the old one of the original.
 use maps::Random;
-use oracle::picks::{By, Groups};
+use oracle::picks::{pick, By, Groups};
 use std::collections::HashSet;
 use std::net::{IpAddr, Ipv4Addr, Ipv6Addr};
 
@@ -123,6 +123,16 @@ fn each_two_bytes_have_a_group_to_themselves() {
             });
         assert_eq!([first, first], [drawn, last], "{prefix}");
         assert!(first > groups_of("ffff:ffff:ffff:ffff:ffff:ffff:ffff:ffff")[0] && met.insert(first), "{prefix}");
+    }
+}
+
+/// Both candidates had group 0, which is occupied, so that the first was filled in; by the new numbering the second has a group of its own.
+#[test]
+fn a_pick_that_tells_the_numberings_apart() {
+    let ranked = [candidate(6, Ipv6Addr::UNSPECIFIED), candidate(4, Ipv4Addr::UNSPECIFIED.to_ipv6_mapped())].concat();
+    for (by, place, groups) in [(By::OldPrefixes, 0, vec![]), (By::Prefixes, 1, vec![4_294_967_296])] {
+        let made = pick(&ranked, &[0], 1, &Groups::new(by), [1, 1]).expect("nothing that is refused");
+        assert_eq!((made.places, made.groups, made.examined), (vec![place], groups, 2));
     }
 }
 
