@@ -178,6 +178,8 @@ fn a_pick_asks_for_length_numbers_forms_map_and_rooms() {
             (calls::select_diverse(sys::corbastrigo_select_diverse_unchecked, &asked), unchecked),
             (calls::old_prefix_pick(&asked), 0),
         ];
+        // The old pick walks no map, and says so.
+        prop_assert!(picks[2].0.answer != 0 || picks[2].0.totals[3] == 0);
         for (left, of_map) in picks {
             prop_assert_eq!(left.answer, first(&[first(&before), of_map, room]));
             // Behind the picks, or where it was refused everywhere, stands what stood there.
