@@ -98,7 +98,7 @@ fn group(ip: IpAddr) -> u64 {
 
 #[test]
 fn a_group_without_a_map_is_the_number_that_document_02_says() {
-    holds(20_000, ips(), |ip| {
+    holds(5_000, ips(), |ip| {
         prop_assert_eq!((group(ip), prefix_group(ip)), (new_number(ip), old_number(ip)));
         Ok(())
     });
@@ -106,7 +106,7 @@ fn a_group_without_a_map_is_the_number_that_document_02_says() {
 
 #[test]
 fn ipv4_has_groups_apart_and_shares_them_where_two_bytes_are_the_same() {
-    holds(20_000, (ips(), ips()), |(one, other)| {
+    holds(5_000, (ips(), ips()), |(one, other)| {
         let shared = group(one) == group(other);
         match (ipv4_of(one), ipv4_of(other)) {
             (Some(one), Some(other)) => prop_assert_eq!(shared, one.octets()[..2] == other.octets()[..2]),
@@ -119,7 +119,7 @@ fn ipv4_has_groups_apart_and_shares_them_where_two_bytes_are_the_same() {
 
 #[test]
 fn the_new_number_of_family_4_is_the_old_one_and_more_and_that_of_other_ipv6_the_same() {
-    holds(20_000, ips(), |ip| {
+    holds(5_000, ips(), |ip| {
         match (ip, ipv4_of(ip)) {
             (IpAddr::V4(_), _) => prop_assert_eq!(group(ip), 4_294_967_296 + prefix_group(ip)),
             (_, None) => prop_assert_eq!(group(ip), prefix_group(ip)),
