@@ -2,7 +2,7 @@
 -- Assumes nothing.
 use mathlib.Core.Path.{_≡_, _∙_, refl, subst}
 use mathlib.Core.List.{List, [], _∷_}
-use mathlib.Core.Bool.{Bool, true, false, _&&_, _||_, and-true, and-false, or-false}
+use mathlib.Core.Bool.{Bool, true, false, _&&_, _||_, or-false}
 use Prim.Native.Nat.{ℕ}
 use native.Mathlib.Omega.{arith}
 use native.Mathlib.Decide.{ℕ-discrete}
@@ -57,13 +57,13 @@ module _ (c : List ℕ) (h : length c ≡ 20) where
       let k : Word 0 (0 ∷ 0 ∷ 0 ∷ 0 ∷ []) = record { value = refl; small = (omega arith, (omega arith, (omega arith, (omega arith, tt)))) } in
       same-word u 0 (take 4 (drop 2 c)) (0 ∷ 0 ∷ 0 ∷ 0 ∷ []) (length-take-le 4 (drop 2 c) (omega (arith, length-drop 2 c))) p k
 
-  -- the word decides, or the four bytes before it do
-  module _ (v : ℕ) (q : Word v (take 8 (drop 6 c))) where
-    pub other-word : (v ≡ 18446462598732840960 → ⊥) → mapped c ≡ false
-    other-word d = by-four ∙ rw (last-word v q, ne-eqb v 18446462598732840960 d) (and-false (same (take 4 (drop 2 c)) (0 ∷ 0 ∷ 0 ∷ 0 ∷ [])))
+  -- the first four bytes decide, or the word after them does
+  module _ (u : ℕ) (p : Word u (take 4 (drop 2 c))) where
+    pub other-half : (u ≡ 0 → ⊥) → mapped c ≡ false
+    other-half d = by-four ∙ rw (first-half u p, ne-eqb u 0 d)
 
-    pub mapped-word : v ≡ 18446462598732840960 → (u : ℕ) → Word u (take 4 (drop 2 c)) → mapped c ≡ eqb u 0
-    mapped-word e u p = by-four ∙ rw (last-word v q, eq-eqb v 18446462598732840960 e, first-half u p) (and-true (eqb u 0))
+    pub zero-half : u ≡ 0 → (v : ℕ) → Word v (take 8 (drop 6 c)) → mapped c ≡ eqb v 18446462598732840960
+    zero-half e v q = by-four ∙ rw (first-half u p, eq-eqb u 0 e, last-word v q)
 
   module _ (w : ℕ) (p : Word w (take 8 (drop 0 c))) where
     word : Word w front

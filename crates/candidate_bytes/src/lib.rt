@@ -53,11 +53,11 @@ pub fn is_mapped(candidate: &[u8]) -> bool
     requires { ⌜ length (now candidate) ≡ 20 ⌝ }
     ensures { λ r. ⌜ r ≡ mapped (now (candidate .entry)) ⌝ }
 {
-    // The word comes first: of other addresses hardly any has it.
-    if byte_numbers::word_at(candidate, 6) != MAPPED_WORD {
+    // The four bytes come first: other addresses hardly ever begin with zeros, and a group by its prefix reads the same bytes.
+    if byte_numbers::half_at(candidate, 2) != 0 {
         return false;
     }
-    byte_numbers::half_at(candidate, 2) == 0
+    byte_numbers::word_at(candidate, 6) == MAPPED_WORD
 }
 
 // Whether bytes are a candidate: 20 of them, family 6, or 4 with the mapped form, and a zero. Of family 4 two words hold the

@@ -1,3 +1,4 @@
+pub mod Which
 pub mod Refusals
 pub mod Walked
 pub mod Calls

@@ -1,9 +1,13 @@
 // The group of a peer (document 01, Groups and pick; document 02, CR 7): one candidate, and a map or none.
 ghost use mathlib.Core.Path.{_≡_};
 ghost use Prim.Native.Nat.{_+_, _*_, _≤_, _<_};
+ghost use mathlib.Core.Bool.{cond, not, _&&_, _||_};
+ghost use lib.Dec.{eqb};
 ghost use lib.ListN.{length};
+ghost use Rattle.candidate_bytes.specs.Candidate.{family, mapped};
 ghost use Rattle.asmap_program.specs.Map.{limit};
-ghost use Rattle.netgroup.specs.Group.{numbering, prefix4, prefix6, oldPrefixGroup, ipv4, prefixGroup, walkFor, groupedOf};
+ghost use Rattle.netgroup.specs.Group.{numbering, prefix4, prefix6, walkFor, groupedOf};
+ghost use Rattle.netgroup.specs.models.Which.{isMap, isOld, byNumbers};
 ghost use Rattle.netgroup.specs.Refusal.{limitRefusal, checkRefusal};
 ghost use Rattle.netgroup.specs.Netgroup.{prefixGroupCall, netgroupOf, netgroupUnchecked, Whole};
 use asmap_program::MAX_MAP_BYTES;
@@ -19,8 +23,8 @@ pub enum Grouping {
     Map,
 }
 
-// The number of the IPv4 prefix 0.0.0.0/16, one past the greatest IPv6 prefix.
-const IPV4_RANGE: u64 = 4294967296;
+// The first group of IPv4, that of 0.0.0.0/16: one past the greatest of IPv6.
+const IPV4_GROUPS: u64 = 4294967296;
 
 // A candidate's group, and the instructions of the walk that found it.
 pub struct Grouped {
@@ -60,37 +64,59 @@ fn ipv6_prefix(candidate: &[u8]) -> u64
     65536 * high + low
 }
 
-// The group of a candidate by its prefix, in the old numbering. The family decides, so a mapped address of family 6 gives 0.
-fn old_prefix_number(candidate: &[u8]) -> u64
+// Whether a candidate goes by the rule for IPv4: of family 4, and in the new numbering mapped too.
+fn is_ipv4(candidate: &[u8], old: bool) -> bool
     requires { ⌜ length (now candidate) ≡ 20 ⌝ }
-    ensures { λ r. ⌜ r ≡ oldPrefixGroup (now (candidate .entry)) ⌝ }
-{
-    if candidate[0] == 4 {
-        return ipv4_prefix(candidate);
-    }
-    ipv6_prefix(candidate)
-}
-
-// Whether a candidate's address is one of IPv4, of family 4 or mapped.
-fn is_ipv4(candidate: &[u8]) -> bool
-    requires { ⌜ length (now candidate) ≡ 20 ⌝ }
-    ensures { λ r. ⌜ r ≡ ipv4 (now (candidate .entry)) ⌝ }
+    ensures { λ r. ⌜ r ≡ (eqb (family (now (candidate .entry))) 4 || (not old && mapped (now (candidate .entry)))) ⌝ }
 {
     if candidate[0] == 4 {
         return true;
     }
+    if old {
+        return false;
+    }
     candidate_bytes::is_mapped(candidate)
 }
 
-// The group of a candidate by its prefix. IPv4 prefixes lie above all of IPv6, so that the two never meet.
-fn prefix_number(candidate: &[u8]) -> u64
-    requires { ⌜ length (now candidate) ≡ 20 ⌝ }
-    ensures { λ r. ⌜ r ≡ prefixGroup (now (candidate .entry)) ⌝ }
+// The group of 0.0.0.0/16.
+fn first_ipv4_group(old: bool) -> u64
+    ensures { λ r. ⌜ (r ≡ cond old 0 4294967296) × (r ≤ 4294967296) ⌝ }
 {
-    if is_ipv4(candidate) {
-        return IPV4_RANGE + ipv4_prefix(candidate);
+    if old { 0 } else { IPV4_GROUPS }
+}
+
+// The group of a candidate by its prefix, in the old numbering or in the new. In the old one the family decides, so a mapped address of family 6
+// gives 0. Both share their code, which is then small enough for the compiler to put it into the loops of pick and page.
+fn prefix_number(candidate: &[u8], old: bool) -> u64
+    requires { ⌜ length (now candidate) ≡ 20 ⌝ }
+    ensures { λ r. ⌜ r ≡ byNumbers old (now (candidate .entry)) ⌝ }
+{
+    if is_ipv4(candidate, old) {
+        return first_ipv4_group(old) + ipv4_prefix(candidate);
     }
     ipv6_prefix(candidate)
+}
+
+// Whether groups go by the map.
+fn is_map(grouping: Grouping) -> bool
+    ensures { λ r. ⌜ r ≡ isMap grouping ⌝ }
+{
+    match grouping {
+        Grouping::Prefixes => false,
+        Grouping::OldPrefixes => false,
+        Grouping::Map => true,
+    }
+}
+
+// Whether they go by the old numbering.
+fn is_old(grouping: Grouping) -> bool
+    ensures { λ r. ⌜ r ≡ isOld grouping ⌝ }
+{
+    match grouping {
+        Grouping::Prefixes => false,
+        Grouping::OldPrefixes => true,
+        Grouping::Map => false,
+    }
 }
 
 // The group of a candidate by a map within the limit, with the walk's count.
@@ -114,16 +140,12 @@ pub fn group_of(candidate: &[u8], grouping: Grouping, map: &[u8]) -> Grouped
     requires { ⌜ (length (now candidate) ≡ 20) × (limitRefusal (numbering grouping (now map)) ≡ Refusal.None) ⌝ }
     ensures { λ r. ⌜ r ≡ groupedOf (numbering grouping (now (map .entry))) (now (candidate .entry)) ⌝ }
 {
-    match grouping {
-        Grouping::Prefixes => Grouped {
-            group: prefix_number(candidate),
-            count: 0,
-        },
-        Grouping::OldPrefixes => Grouped {
-            group: old_prefix_number(candidate),
-            count: 0,
-        },
-        Grouping::Map => walked_group(candidate, map),
+    if is_map(grouping) {
+        return walked_group(candidate, map);
+    }
+    Grouped {
+        group: prefix_number(candidate, is_old(grouping)),
+        count: 0,
     }
 }
 
@@ -131,32 +153,26 @@ pub fn group_of(candidate: &[u8], grouping: Grouping, map: &[u8]) -> Grouped
 pub fn limit_refusal(grouping: Grouping, map: &[u8]) -> Refusal
     ensures { λ r. ⌜ r ≡ limitRefusal (numbering grouping (now (map .entry))) ⌝ }
 {
-    match grouping {
-        Grouping::Prefixes => Refusal::None,
-        Grouping::OldPrefixes => Refusal::None,
-        Grouping::Map => {
-            if MAX_MAP_BYTES < map.len() {
-                return Refusal::Number(1);
-            }
-            Refusal::None
-        }
+    if !is_map(grouping) {
+        return Refusal::None;
     }
+    if MAX_MAP_BYTES < map.len() {
+        return Refusal::Number(1);
+    }
+    Refusal::None
 }
 
 // Why the check refuses the map of a call: 1 to 10 or 19. It reads the whole map.
 pub fn check_refusal(grouping: Grouping, map: &[u8]) -> Refusal
     ensures { λ r. ⌜ r ≡ checkRefusal (numbering grouping (now (map .entry))) ⌝ }
 {
-    match grouping {
-        Grouping::Prefixes => Refusal::None,
-        Grouping::OldPrefixes => Refusal::None,
-        Grouping::Map => {
-            let verdict = asmap_check::sanity_check(map);
-            match verdict {
-                Verdict::Accepted(_, _) => Refusal::None,
-                Verdict::Refused(number) => Refusal::Number(number),
-            }
-        }
+    if !is_map(grouping) {
+        return Refusal::None;
+    }
+    let verdict = asmap_check::sanity_check(map);
+    match verdict {
+        Verdict::Accepted(_, _) => Refusal::None,
+        Verdict::Refused(number) => Refusal::Number(number),
     }
 }
 
@@ -167,7 +183,7 @@ pub fn prefix_group(candidate: &[u8]) -> GroupAnswer
     if !candidate_bytes::is_candidate(candidate) {
         return GroupAnswer::Refused(13);
     }
-    GroupAnswer::Group(old_prefix_number(candidate))
+    GroupAnswer::Group(prefix_number(candidate, true))
 }
 
 // The group of one candidate over a map taken as it is, for callers who checked it when they loaded it. Refusals 13, 1.
@@ -198,5 +214,6 @@ pub fn netgroup(candidate: &[u8], grouping: Grouping, map: &[u8]) -> GroupAnswer
     if let Refusal::Number(number) = checked {
         return GroupAnswer::Refused(number);
     }
-    netgroup_unchecked(candidate, grouping, map)
+    let grouped = group_of(candidate, grouping, map);
+    GroupAnswer::Group(grouped.group)
 }

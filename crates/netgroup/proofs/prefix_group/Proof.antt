@@ -17,12 +17,12 @@ is-candidate-requires c κs = search needs
 returns : tie.Need-returns
 returns c = call-invalid None byOldPrefixes (c .before .before .before .args .candidate .now) (sym (c .before .is-candidate .ensures) ∙ not-true _ (c .if1 .taken))
 
-old-prefix-number-requires : tie.Need-old-prefix-number-requires
-old-prefix-number-requires c κs = valid-length (c .before .before .before .args .candidate .now) (sym (c .before .is-candidate .ensures) ∙ not-false _ (c .if1 .left))
+prefix-number-requires : tie.Need-prefix-number-requires
+prefix-number-requires c κs = valid-length (c .before .before .before .args .candidate .now) (sym (c .before .is-candidate .ensures) ∙ not-false _ (c .if1 .left))
 
 returns-2 : tie.Need-returns-2
-returns-2 c = ap Group (c .old-prefix-number .ensures) ∙ call-group None byOldPrefixes (c .before .before .before .before .args .candidate .now) (sym (c .before .before .is-candidate .ensures) ∙ not-false _ (c .before .if1 .left)) refl
+returns-2 c = ap Group (c .prefix-number .ensures) ∙ call-group None byOldPrefixes (c .before .before .before .before .args .candidate .now) (sym (c .before .before .is-candidate .ensures) ∙ not-false _ (c .before .if1 .left)) refl
 
 pub prefix-group-spec : {M : Type 1} → statement M
 prefix-group-spec =
-    tie.close (tie.spec is-candidate-requires returns old-prefix-number-requires returns-2)
+    tie.close (tie.spec is-candidate-requires returns prefix-number-requires returns-2)
