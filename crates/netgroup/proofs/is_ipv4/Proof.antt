@@ -1,6 +1,5 @@
 -- `is_ipv4`: the family, then the numbering, then the mapped form.
 -- Assumes nothing.
-use mathlib.Core.Bool.{not}
 use borrow.Author.Tests.{eq-eqb, ne-eqb}
 use native.Mathlib.Omega.{arith}
 use lib.ListN.{getD}
