@@ -65,12 +65,12 @@ ipv6-stays c e = go (ℕ-discrete (family c) 4)
     go (yes f) = let z : true ≡ false = sym (rw (eq-eqb (family c) 4 f)) ∙ e in absurd (true≢false z)
     go (no n) = rw (ne-eqb (family c) 4 n) (of-ipv6 c e)
 
--- a mapped one of family 6 is IPv4
+-- an IPv4 address that is not of family 4 is mapped
 pub mapped-ipv4 : (c : List ℕ) → family c ≢ 4 → ipv4 c ≡ true → mapped c ≡ true
 unfolding ipv4
 mapped-ipv4 c n e = subst (λ (t : Bool). (t || mapped c) ≡ true) (ne-eqb (family c) 4 n) e
 
--- and a mapped one had the number 0: its first ten bytes are zeros
+-- and had the number 0: its first ten bytes are zeros
 pub mapped-was-0 : (c : List ℕ) → family c ≢ 4 → mapped c ≡ true → oldPrefixGroup c ≡ 0
 unfolding oldPrefixGroup mapped
 mapped-was-0 c n e =
