@@ -1,0 +1,3 @@
+pub mod Build
+pub mod Promise
+pub mod models
