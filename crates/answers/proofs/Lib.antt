@@ -5,3 +5,4 @@ pub mod NeverZeroMaps
 pub mod NeverZeroGroups
 pub mod NeverZeroFilters
 pub mod NeverZeroLoads
+pub mod NeverZeroBuilds
