@@ -8,6 +8,7 @@ pub mod RecordAnswers
 pub mod ScanAnswers
 pub mod ListBytes
 pub mod LoadAnswers
+pub mod BuildAnswers
 pub mod ListAnswers
 pub mod CandidateLaws
 pub mod ApartLaws

@@ -5,6 +5,7 @@ pub mod Apart
 pub mod Same
 pub mod Listed
 pub mod Loaded
+pub mod Built
 pub mod Agreed
 pub mod Printed
 pub mod Cut

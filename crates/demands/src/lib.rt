@@ -2,10 +2,10 @@
 // exported calls (`corbastrigo_…`) as a user would. This is the page to read first for whoever doubts the rest.
 //
 // A contract here uses no definition of the project but the check (`checkOf`), the place where it stops (`stopOf`, `StopsAt`), the walk
-// (`walkOf`), the unpacked list (`unpacked`), the first pass (`firstPass`), the draws (`next`, `draw`) with the load made of them (`loadOf`), and Core's
+// (`walkOf`), the unpacked list (`unpacked`), the first pass (`firstPass`), the draws (`next`, `draw`) with the load made of them (`loadOf`), the map built from prefixes (`buildAt`), and Core's
 // functions (`coreCheck`, `coreInterpret`, its four decoders), with how these take bytes (`mapOf`, `fileOf`, `addressBit`) and when rows of bytes are equal (`same`). All else is numbers, bytes and equations, in
 // `demand_statements/specs`. Each is proved from the contracts of the exported calls and from laws about those definitions
-// (`demand_statements/proofs`); no code below them is looked at. So what a contract there no longer says is refused here. All 41 exported
+// (`demand_statements/proofs`); no code below them is looked at. So what a contract there no longer says is refused here. All 42 exported
 // calls have a caller.
 //
 // Demand 1, any input: `any_input`, and `refused` in `picks` and `pages`. Maps, addresses, lists and lengths of every kind get an answer, 0, or one
@@ -42,8 +42,12 @@
 // address, and two share one exactly where they share their first two bytes; what becomes of a group of the old numbering. The calls that keep it are in
 // `picks` (`group_by_prefix`, `pick_by_old_prefixes`) and `pages` (`page_by_old_prefixes`).
 //
+// Request 8, a map built from prefixes: `builds`. Which lists are built from, said of their bytes; the map written is accepted, and every address of the
+// width walks to a RETURN with the number of the record in which it lies, or with the given one.
+//
 // Two maps compared: `comparisons`. Where a comparison needs no byte, the two walks by any address end with the same number.
 pub mod any_input;
+pub mod builds;
 pub mod comparisons;
 pub mod cuts;
 pub mod lists;
