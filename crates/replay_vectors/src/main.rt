@@ -9,6 +9,7 @@ ghost use lib.ListN.{length};
 use crate::addresses::mapped;
 use crate::addresses::relay_skip;
 use crate::addresses::unroutable;
+use crate::builds::build;
 use crate::codes::read_code;
 use crate::codes::read_instruction;
 use crate::codes::read_item;
@@ -42,6 +43,7 @@ use replay_words::word;
 use std::num::wrapping_add_u64;
 
 mod addresses;
+mod builds;
 mod codes;
 mod groups;
 mod loads;
@@ -66,7 +68,7 @@ fn word_room() -> [u8; 262144]
 
 // ---- a line
 
-// The kinds of call by their letters, and 35 for any other letter. They are counted and printed in this order; the capitals are calls at a width, but for X,
+// The kinds of call by their letters, and 36 for any other letter. They are counted and printed in this order; the capitals are calls at a width, but for X,
 // which is a draw.
 fn kind_of(letter: u8) -> usize {
     match letter {
@@ -105,7 +107,8 @@ fn kind_of(letter: u8) -> usize {
         b'r' => 32,
         b'X' => 33,
         b'x' => 34,
-        _ => 35,
+        b'B' => 35,
+        _ => 36,
     }
 }
 
@@ -130,6 +133,7 @@ fn shape_of(kind: usize) -> [u8; 9]
         32 => [1, 2, 9, 9, 0, 0, 0, 0, 0],
         33 => [8, 9, 0, 0, 0, 0, 0, 0, 0],
         34 => [8, 8, 9, 9, 0, 0, 0, 0, 0],
+        35 => [4, 4, 9, 9, 9, 0, 0, 0, 0],
         _ => [9, 9, 0, 0, 0, 0, 0, 0, 0],
     }
 }
@@ -226,10 +230,11 @@ fn replay_address(kind: usize, bytes: &[u8], words: Words) -> Seen {
     }
 }
 
-fn replay_load(kind: usize, bytes: &[u8], words: Words) -> Seen {
+fn replay_made(kind: usize, bytes: &[u8], words: Words) -> Seen {
     match kind {
         33 => draw(bytes, words),
-        _ => load(bytes, words),
+        34 => load(bytes, words),
+        _ => build(bytes, words),
     }
 }
 
@@ -250,7 +255,7 @@ fn replay_words(kind: usize, bytes: &[u8], words: Words) -> Seen {
     if kind < 33 {
         return replay_address(kind, bytes, words);
     }
-    replay_load(kind, bytes, words)
+    replay_made(kind, bytes, words)
 }
 
 // The letter of a line, which a blank follows; 0 where there is none.
@@ -265,7 +270,7 @@ fn letter_of(line: &[u8]) -> u8 {
 }
 
 fn replay_line(kind: usize, line: &[u8], bytes: &mut [u8]) -> Seen {
-    if 34 < kind {
+    if 35 < kind {
         return Seen::Unread;
     }
     let words = read_words(line, bytes);
@@ -281,19 +286,19 @@ fn replay_line(kind: usize, line: &[u8], bytes: &mut [u8]) -> Seen {
 
 // ---- the list
 
-// Every line is counted at one of 73 places: for each kind of call the answers that are ours and, 35 places on, those that differ; then
+// Every line is counted at one of 75 places: for each kind of call the answers that are ours and, 36 places on, those that differ; then
 // headings, lines with a wrong count of words, and lines that could not be read.
 fn place_of(kind: usize, seen: Seen) -> usize
-    ensures { λ r. ⌜ r < 73 ⌝ }
+    ensures { λ r. ⌜ r < 75 ⌝ }
 {
-    if 34 < kind {
-        return 72;
+    if 35 < kind {
+        return 74;
     }
     match seen {
         Seen::Same => kind,
-        Seen::Differs => 35 + kind,
-        Seen::Count => 71,
-        Seen::Unread => 72,
+        Seen::Differs => 36 + kind,
+        Seen::Count => 73,
+        Seen::Unread => 74,
     }
 }
 
@@ -306,18 +311,18 @@ fn is_heading(line: &[u8]) -> bool {
 }
 
 fn line_place(line: &[u8], bytes: &mut [u8]) -> usize
-    ensures { λ r. ⌜ r < 73 ⌝ }
+    ensures { λ r. ⌜ r < 75 ⌝ }
 {
     if is_heading(line) {
-        return 70;
+        return 72;
     }
     let kind = kind_of(letter_of(line));
     place_of(kind, replay_line(kind, line, bytes))
 }
 
 // One line more. The list is far too short for a count to wrap.
-fn add_one(counts: &mut [u64; 73], place: usize)
-    requires { ⌜ place < 73 ⌝ }
+fn add_one(counts: &mut [u64; 75], place: usize)
+    requires { ⌜ place < 75 ⌝ }
 {
     counts[place] = wrapping_add_u64(counts[place], 1);
 }
@@ -332,16 +337,16 @@ fn say_number(n: u64) {
 
 // Names a line that is neither a heading nor has our answer, by the place where it is counted.
 fn say_line(line: u64, place: usize) {
-    if place < 35 || place == 70 {
+    if place < 36 || place == 72 {
         return;
     }
     say(b"line ");
     say_number(line);
-    if place < 70 {
+    if place < 72 {
         say(b" differs\n");
         return;
     }
-    if place < 72 {
+    if place < 74 {
         say(b" has a wrong count of words\n");
         return;
     }
@@ -349,7 +354,7 @@ fn say_line(line: u64, place: usize) {
 }
 
 // Hands back how many lines there are.
-fn replay_list(list: &[u8], bytes: &mut [u8], counts: &mut [u64; 73]) -> u64 {
+fn replay_list(list: &[u8], bytes: &mut [u8], counts: &mut [u64; 75]) -> u64 {
     let mut lines: u64 = 0;
     let mut at: usize = 0;
     while at < list.len() {
@@ -363,10 +368,10 @@ fn replay_list(list: &[u8], bytes: &mut [u8], counts: &mut [u64; 73]) -> u64 {
     lines
 }
 
-fn say_kind(name: &[u8], counts: &[u64; 73], kind: usize)
-    requires { ⌜ kind < 35 ⌝ }
+fn say_kind(name: &[u8], counts: &[u64; 75], kind: usize)
+    requires { ⌜ kind < 36 ⌝ }
 {
-    let differ = counts[kind + 35];
+    let differ = counts[kind + 36];
     say(name);
     say_number(wrapping_add_u64(counts[kind], differ));
     say(b" answers, ");
@@ -374,7 +379,7 @@ fn say_kind(name: &[u8], counts: &[u64; 73], kind: usize)
     say(b" differ\n");
 }
 
-fn say_codes(counts: &[u64; 73]) {
+fn say_codes(counts: &[u64; 75]) {
     say_kind(b"code read: ", counts, 0);
     say_kind(b"code written: ", counts, 1);
     say_kind(b"instruction read: ", counts, 2);
@@ -382,7 +387,7 @@ fn say_codes(counts: &[u64; 73]) {
     say_kind(b"bit reader: ", counts, 4);
 }
 
-fn say_maps(counts: &[u64; 73]) {
+fn say_maps(counts: &[u64; 75]) {
     say_kind(b"check: ", counts, 5);
     say_kind(b"where a check stops: ", counts, 6);
     say_kind(b"walk: ", counts, 7);
@@ -394,7 +399,7 @@ fn say_maps(counts: &[u64; 73]) {
     say_kind(b"bytes of a comparison: ", counts, 13);
 }
 
-fn say_widths(counts: &[u64; 73]) {
+fn say_widths(counts: &[u64; 75]) {
     say_kind(b"check at a width: ", counts, 14);
     say_kind(b"where a check at a width stops: ", counts, 15);
     say_kind(b"walk at a width: ", counts, 16);
@@ -405,7 +410,7 @@ fn say_widths(counts: &[u64; 73]) {
     say_kind(b"bytes of a comparison at a width: ", counts, 21);
 }
 
-fn say_peers(counts: &[u64; 73]) {
+fn say_peers(counts: &[u64; 75]) {
     say_kind(b"group by prefix: ", counts, 22);
     say_kind(b"group: ", counts, 23);
     say_kind(b"group, map unchecked: ", counts, 24);
@@ -416,25 +421,26 @@ fn say_peers(counts: &[u64; 73]) {
     say_kind(b"page, map unchecked: ", counts, 29);
 }
 
-fn say_addresses(counts: &[u64; 73]) {
+fn say_addresses(counts: &[u64; 75]) {
     say_kind(b"IPv4-mapped address: ", counts, 30);
     say_kind(b"unroutable: ", counts, 31);
     say_kind(b"relay skip: ", counts, 32);
 }
 
-fn say_loads(counts: &[u64; 73]) {
+fn say_made(counts: &[u64; 75]) {
     say_kind(b"draw: ", counts, 33);
     say_kind(b"load: ", counts, 34);
+    say_kind(b"build: ", counts, 35);
 }
 
-fn say_lines(lines: u64, counts: &[u64; 73]) {
+fn say_lines(lines: u64, counts: &[u64; 75]) {
     say_number(lines);
     say(b" lines, ");
-    say_number(counts[70]);
-    say(b" of them headings, ");
-    say_number(counts[71]);
-    say(b" with a wrong count of words, ");
     say_number(counts[72]);
+    say(b" of them headings, ");
+    say_number(counts[73]);
+    say(b" with a wrong count of words, ");
+    say_number(counts[74]);
     say(b" not read\n");
 }
 
@@ -442,14 +448,14 @@ fn main() {
     let mut list = list_room();
     let mut bytes = word_room();
     let n = io::read_full(STDIN_FILENO, &mut list);
-    let mut counts = [0u64; 73];
+    let mut counts = [0u64; 75];
     let lines = replay_list(&list[..n], &mut bytes, &mut counts);
     say_codes(&counts);
     say_maps(&counts);
     say_widths(&counts);
     say_peers(&counts);
     say_addresses(&counts);
-    say_loads(&counts);
+    say_made(&counts);
     say_lines(lines, &counts);
     if n == list.len() {
         say(b"the list is too long: what follows these bytes was not read\n");
