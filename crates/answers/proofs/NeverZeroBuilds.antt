@@ -1,6 +1,6 @@
 -- Which numbers a build refuses with, in document 02's order: 18, 21 and 22, 1, 14; none of them is 0.
 -- Assumes nothing.
-use Prim.Native.Nat.{ℕ, _≤_, _<_}
+use Prim.Native.Nat.{ℕ, _<_}
 use mathlib.Core.Bool.{Bool, true, false, cond}
 use mathlib.Core.Path.{_≡_, refl, sym, subst}
 use mathlib.Core.List.{List}
@@ -11,7 +11,7 @@ use Rattle.prefix_lists.specs.declared.Judged.{Judged}
 use Rattle.prefix_lists.specs.declared.Judged.the-variants as judged
 use Rattle.prefix_lists.specs.List.{judge}
 use Rattle.prefix_lists.proofs.ListLaws.{judged-refused}
-use Rattle.asmap_records.specs.Output.{Result, No, within, answerOf}
+use Rattle.asmap_records.specs.Output.{No, within, answerOf}
 use Rattle.asmap_build.specs.Build.{treeBits, buildAs, buildOf, buildAt}
 use Rattle.answer_bytes.specs.Bytes.{bytesWritten}
 use Rattle.answers.proofs.Handing.{Counted, Refuses, counted}

@@ -9,7 +9,6 @@ use lib.Dec.{ltb}
 use lib.ListN.{length, getD, take, drop}
 use lib.Seq.{sets, take-at}
 use borrow.Author.Tests.{lt-ltb, le-ltb, ltb-false}
-use Rattle.prefix_lists.specs.declared.Judged.{Judged}
 use Rattle.prefix_lists.specs.declared.Judged.the-variants as judged
 use Rattle.prefix_lists.specs.List.{countOf, pieceAt, judge}
 use Rattle.prefix_lists.proofs.ListLaws.{judged-rising}

@@ -5,7 +5,7 @@ use Prim.Native.Nat.{ℕ, zero, suc, _+_, _-_, _*_, _/_, _%_, _^_, _≤_, _<_}
 use mathlib.Core.Bool.{Bool, true, false}
 use mathlib.Core.Path.{_≡_, refl, sym, ap, _∙_}
 use mathlib.Core.Logic.{_≢_}
-use mathlib.Core.List.{List, [], _∷_, _++_, append-assoc, append-nil}
+use mathlib.Core.List.{List, [], _++_, append-assoc, append-nil}
 use native.Mathlib.Omega.{arith}
 use native.Mathlib.Nat.{mod-lt}
 use lib.Dec.{eqb}
@@ -15,7 +15,7 @@ use lib.Seq.{getD-set-same, getD-set-other}
 use borrow.Author.Tests.{eq-eqb, ne-eqb}
 use Rattle.asmap_program.specs.Map.{JUMP}
 use Rattle.asmap_codes.specs.Encode.{pickBits, instructionBits}
-use Rattle.asmap_shapes.specs.Shape.{Shape, Leaf, Fork, join, shape, bitsOf}
+use Rattle.asmap_shapes.specs.Shape.{Shape, Leaf, shape, bitsOf}
 use Rattle.asmap_build.specs.models.Pass.{beside, whole}
 use Rattle.asmap_shapes.proofs.ShapeLaws.{join-law, all-leaf, leaf-all}
 

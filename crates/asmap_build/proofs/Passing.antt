@@ -7,7 +7,7 @@ use mathlib.Core.Path.{_≡_, refl, sym, ap, ap₂, _∙_, subst}
 use mathlib.Core.Logic.{_≢_}
 use mathlib.Core.List.{List, [], _∷_, _++_, append-assoc, append-nil}
 use native.Mathlib.Omega.{arith}
-use native.Mathlib.Nat.{pow-succ', mul-assoc, mul-left-comm, add-mul, one-mul, mod-lt}
+use native.Mathlib.Nat.{pow-succ', mul-assoc, mul-left-comm, add-mul, one-mul}
 use lib.Pow as pow
 use lib.Dec.{eqb}
 use borrow.Author.Tests.{eqb-true, eqb-false}
@@ -20,10 +20,10 @@ use Rattle.asmap_codes.specs.Encode.{instructionBits}
 use Rattle.asmap_bit_writer.specs.Bytes.{toBytes, bytesOf}
 use Rattle.prefix_runs.specs.declared.Run.{Run}
 use Rattle.asmap_front_writer.specs.declared.Front.{Front}
-use Rattle.asmap_build.specs.declared.Size.the-variants.{Ends, Over}
+use Rattle.asmap_build.specs.declared.Size.the-variants.{Ends}
 use Rattle.prefix_records.specs.models.Cursor.{valueOf}
 use Rattle.asmap_build.specs.models.Size.{Sized, WriteReady, Filled}
-use Rattle.asmap_shapes.specs.Shape.{Shape, Leaf, Fork, shape, bitsOf}
+use Rattle.asmap_shapes.specs.Shape.{Shape, Leaf, shape, bitsOf}
 use Rattle.asmap_build.specs.models.Pass.{whole}
 use Rattle.prefix_runs.specs.models.Runs.{RunAt}
 use Rattle.asmap_front_writer.specs.models.Front.{filled, Room, Moved, Emitted}

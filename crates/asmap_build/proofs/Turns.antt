@@ -1,7 +1,7 @@
 -- The turns of the pass as its loop meets them, and its measure. Assumes nothing.
 use Prim.Native.Nat.{ℕ, zero, suc, _+_, _-_, _*_, _/_, _%_, _^_, _≤_, _<_}
 use mathlib.Core.Bool.{Bool, true, false, _&&_}
-use mathlib.Core.Path.{_≡_, refl, sym, ap, _∙_, subst}
+use mathlib.Core.Path.{_≡_, sym, ap, _∙_, subst}
 use mathlib.Core.List.{List}
 use native.Mathlib.Omega.{arith}
 use lib.Pow as pow
@@ -12,7 +12,7 @@ use Rattle.asmap_codes.specs.Row.{typeRow, operandRow, inRange}
 use Rattle.asmap_codes.specs.Encode.{instructionBits}
 use Rattle.prefix_runs.specs.declared.Run.{Run}
 use Rattle.asmap_front_writer.specs.declared.Front.{Front}
-use Rattle.asmap_build.specs.declared.Size.the-variants.{Ends, Over}
+use Rattle.asmap_build.specs.declared.Size.the-variants.{Ends}
 use Rattle.prefix_records.specs.models.Cursor.{valueOf}
 use Rattle.asmap_shapes.specs.Shape.{shape, bitsOf}
 use Rattle.asmap_shapes.proofs.TreeLaws.{Number}

@@ -1,10 +1,10 @@
 -- The bytes of a shape are a map: it is accepted, and walks end where the address finds its number (document 02, CR 8). Assumes nothing.
 use Prim.Native.Nat.{ℕ, _+_, _-_, _*_, _≤_}
 use mathlib.Core.Bool.{true}
-use mathlib.Core.Path.{_≡_, ap, _∙_}
+use mathlib.Core.Path.{_≡_, _∙_}
 use mathlib.Core.List.{List}
 use native.Mathlib.Omega.{arith}
-use lib.ListN.{length, drop}
+use lib.ListN.{length}
 use borrow.Author.Tests.{le-leb}
 use Rattle.asmap_program.specs.declared.Kind.the-variants.{Returned}
 use Rattle.asmap_program.specs.declared.Verdict.the-variants.{Accepted}

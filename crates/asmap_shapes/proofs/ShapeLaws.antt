@@ -1,12 +1,11 @@
 -- Laws of shapes: a RETURN stands exactly where all addresses have one number; what an address finds is its number; address bits that do not
 -- matter make no difference. Assumes nothing.
-use Prim.Native.Nat.{ℕ, zero, suc, _+_, _-_, _*_, _/_, _^_, _≤_, _<_, max}
+use Prim.Native.Nat.{ℕ, zero, suc, _+_, _-_, _*_, _/_, _^_, _≤_, max}
 use mathlib.Core.Bool.{Bool, true, false, cond}
 use mathlib.Core.Path.{_≡_, refl, sym, ap, ap₂, _∙_}
 use native.Mathlib.Omega.{arith}
-use native.Mathlib.Nat.{le-max-left, le-max-right}
 use lib.Dec.{eqb}
-use borrow.Author.Tests.{eqb-true, eqb-false, eq-eqb, ne-eqb}
+use borrow.Author.Tests.{eqb-true, eqb-false, eq-eqb}
 use Rattle.prefix_records.specs.Tiling.{numberOf, Bits}
 use Rattle.asmap_codes.proofs.BitLaws.{halved}
 use Rattle.asmap_shapes.specs.Shape.{Shape, Leaf, Fork, pick, join, shape}

@@ -1,7 +1,7 @@
 -- A shape's bits in a map are a tree of the map, and a walk through them finds what the address finds in the shape.
 -- Assumes nothing.
-use Prim.Native.Nat.{ℕ, zero, suc, _+_, _-_, _*_, _≤_, _<_, max}
-use mathlib.Core.Bool.{Bool, true, false, cond}
+use Prim.Native.Nat.{ℕ, zero, suc, _+_, _-_, _≤_, _<_}
+use mathlib.Core.Bool.{Bool, true, false}
 use mathlib.Core.Path.{_≡_, refl, sym, ap, _∙_}
 use mathlib.Core.List.{List, [], _∷_, _++_, append-assoc}
 use native.Mathlib.Omega.{arith}
@@ -13,9 +13,9 @@ use borrow.Author.Tests.{lt-ltb}
 use Rattle.asmap_program.specs.declared.Instruction.{Instruction}
 use Rattle.asmap_program.specs.declared.Previous.the-variants.{Other}
 use Rattle.asmap_program.specs.declared.Kind.the-variants.{Returned}
-use Rattle.asmap_program.specs.Map.{RETURN, JUMP, Whole, Map, targetOf, endOf}
+use Rattle.asmap_program.specs.Map.{RETURN, JUMP, Whole}
 use Rattle.asmap_program.specs.Tree.{Tree, return, jump}
-use Rattle.asmap_program.specs.Walk.{Walked, enough, push, walkFrom}
+use Rattle.asmap_program.specs.Walk.{Walked, enough, walkFrom}
 use Rattle.asmap_program.proofs.Demand.{walk-at}
 use Rattle.asmap_codes.specs.Bits.{mapBits}
 use Rattle.asmap_codes.specs.Row.{operandRow}

@@ -3,23 +3,23 @@
 use Prim.Native.Nat.{ℕ, zero, suc, _+_, _-_, _*_, _/_, _%_, _^_, _≤_, _<_}
 use mathlib.Core.Bool.{Bool, true, false, _&&_}
 use mathlib.Core.Path.{_≡_, _∙_, refl, sym, ap, subst}
-use mathlib.Core.Logic.{_⊎_, inl, inr, _≢_}
+use mathlib.Core.Logic.{_⊎_, inl, inr}
 use mathlib.Core.List.{List, [], _∷_}
 use native.Mathlib.Numerals.{add-one}
 use native.Mathlib.Omega.{arith}
 use lib.Dec.{ltb, leb, eqb}
 use lib.Pow as pow
 use lib.ListN.{length, take, getD}
-use borrow.Author.Tests.{eqb-true, eq-eqb, leb-true, le-leb, lt-ltb, le-ltb, ltb-true, ltb-false}
+use borrow.Author.Tests.{eqb-true, eq-eqb, leb-true, le-leb, ltb-false}
 use Rattle.asmap_program.specs.Map.{addressBit}
 use Rattle.asmap_program.specs.Widths.{isWidth, atWidth}
 use Rattle.asmap_program.proofs.Widths.{at-width, no-width, a-width, neither-width, narrow}
 use Rattle.byte_numbers.proofs.NumberLaws.{AllBytes}
-use Rattle.prefix_records.specs.Tiling.{firstOf, pastOf, holds, numberOf}
+use Rattle.prefix_records.specs.Tiling.{pastOf, holds, numberOf}
 use Rattle.prefix_records.proofs.PlaceLaws.{held-from, held-if}
 use Rattle.prefix_lists.specs.declared.Judged.{Judged}
 use Rattle.prefix_lists.specs.declared.Judged.the-variants as judged
-use Rattle.prefix_lists.specs.List.{big, countOf, addressAt, lengthAt, pieceAt, numberAt, zerosAt, earliest, fits, isNumber, judge}
+use Rattle.prefix_lists.specs.List.{big, countOf, addressAt, lengthAt, pieceAt, numberAt, earliest, fits, isNumber, judge}
 use Rattle.prefix_lists.specs.models.Listed.{Rising}
 use Rattle.prefix_lists.proofs.BigLaws.{halves, big-eight}
 use Rattle.prefix_lists.proofs.FitLaws.{Fitting, fitting, and-true, clean-first, clean-past}
@@ -28,17 +28,16 @@ use Rattle.prefix_lists.proofs.ListLaws.{Passes, Judgement, all-passed, judged-
 use Rattle.prefix_lists.proofs.ListLaws as lists
 use Rattle.prefix_lists.proofs.NumberLaws.{number-held, number-none}
 use Rattle.asmap_listing.proofs.AddressLaws.{number-wider}
-use Rattle.asmap_walk_bits.specs.Walk.{walkOf}
 use Rattle.asmap_bit_writer.specs.Bytes.{bytesOf}
 use Rattle.asmap_bit_writer.proofs.ByteLaws.{length-bytesOf}
 use Rattle.asmap_records.specs.Output.{Result, Made, No, refuse, within, answerOf}
 use Rattle.asmap_build.specs.Build.{numberIn, treeBits, buildAs, buildOf, buildAt}
 use Rattle.asmap_build.specs.Promise as promise
 use Rattle.asmap_build.proofs.WidthLaws.{number-scaled}
-use Rattle.answer_outcome.specs.Outcome.{Outcome, Hands}
+use Rattle.answer_outcome.specs.Outcome.{Outcome}
 use Rattle.answer_bytes.specs.Bytes.{bytesWritten, Writes}
 use Rattle.answers.proofs.NeverZeroBuilds.{build-numbers}
-use Rattle.demand_statements.specs.Listed.{eight, address, first, prefix, past, number}
+use Rattle.demand_statements.specs.Listed.{eight, address, first, past, number}
 use Rattle.demand_statements.specs.Built.{InRange, Right, Builds, Built}
 use Rattle.demand_statements.proofs.AnswerLaws.{numbered, refused-as}
 use Rattle.demand_statements.proofs.TripLaws.{wrote, has-room, no-room, left-alone}

@@ -1,5 +1,5 @@
 -- Addresses in two halves of 64 bits: compared, 0, and with zeros past their first bits. Assumes nothing.
-use Prim.Native.Nat.{ℕ, suc, _+_, _-_, _*_, _/_, _%_, _^_, _≤_, _<_}
+use Prim.Native.Nat.{ℕ, _+_, _-_, _*_, _%_, _^_, _≤_, _<_}
 use mathlib.Core.Bool.{Bool, true, false}
 use mathlib.Core.Path.{_≡_, refl, sym, ap, _∙_}
 use native.Mathlib.Nat.{suc-mul, mul-assoc, mul-le-mul-right, mul-add-mod-self-right, mod-eq-of-lt}

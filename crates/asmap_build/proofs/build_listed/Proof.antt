@@ -3,7 +3,7 @@ use borrow.Author.Needs.{needs}
 use mathlib.Core.Path.{_≡_, _∙_, refl, sym, ap, subst}
 use mathlib.Core.Bool.{true, false}
 use mathlib.Core.List.{List}
-use Prim.Native.Nat.{ℕ, _+_, _/_, _≤_, _<_}
+use Prim.Native.Nat.{ℕ, _+_, _/_, _≤_}
 use native.Mathlib.Omega.{arith}
 use lib.ListN.{length}
 use lib.Seq.{sets}
@@ -12,7 +12,6 @@ use Rattle.asmap_records.specs.Output.{Hands}
 use Rattle.asmap_records.specs.declared.Answer.{Answer}
 use Rattle.asmap_build.specs.Build.{treeBits}
 use Rattle.asmap_build.specs.declared.Size.{Size}
-use Rattle.asmap_build.specs.declared.Size.the-variants.{Ends, Over}
 use Rattle.asmap_build.specs.models.Size.{Sized, WriteReady, Filled}
 use Rattle.asmap_build.proofs.CallLaws.{made, hands-over, hands-no-room, hands-bits}
 use Rattle.asmap_build.proofs.build_listed.Statement.{statement}

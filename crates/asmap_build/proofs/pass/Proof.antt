@@ -1,10 +1,9 @@
 -- `asmap_build::pass` meets its contract: each turn keeps what the loop knows (`Turns`). Assumes nothing.
 use borrow.Author.Needs.{needs}
-use mathlib.Core.Path.{_≡_, _∙_, refl, sym, ap, subst}
+use mathlib.Core.Path.{_≡_, _∙_, ap, subst}
 use mathlib.Core.List.{List}
-use Prim.Native.Nat.{ℕ, suc, _+_, _-_, _*_, _/_, _^_, _≤_, _<_}
+use Prim.Native.Nat.{ℕ, suc, _+_, _-_, _^_, _≤_}
 use native.Mathlib.Omega.{arith}
-use lib.ListN.{length, getD}
 use Rattle.prefix_records.specs.models.Cursor.{valueOf}
 use Rattle.prefix_lists.specs.List.{countOf, pieceAt}
 use Rattle.prefix_lists.specs.models.Listed.{Number, Rising}

@@ -1,13 +1,12 @@
 -- The pass over the tree from its end to its start, as the loop keeps it: the subtree where it stands, and what is behind it.
 -- Assumes nothing.
 use Prim.Native.Nat.{ℕ, zero, suc, _-_, _/_, _%_}
-use mathlib.Core.Bool.{Bool}
-use mathlib.Core.List.{List, [], _∷_, _++_}
+use mathlib.Core.List.{List, _++_}
 use lib.Dec.{eqb}
 use lib.ListN.{length, getD}
 use Rattle.asmap_program.specs.Map.{JUMP}
 use Rattle.asmap_codes.specs.Encode.{pickBits, instructionBits}
-use Rattle.asmap_shapes.specs.Shape.{Shape, shape, bitsOf}
+use Rattle.asmap_shapes.specs.Shape.{shape, bitsOf}
 
 module _ (f : ℕ → ℕ) (w : ℕ) where
   -- The half with bit 0 beside the subtree of the prefix p of d bits, which ends with bit 1.

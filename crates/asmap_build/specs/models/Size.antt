@@ -1,5 +1,5 @@
 -- What a pass answers and leaves. Assumes nothing.
-use Prim.Native.Nat.{ℕ, _*_, _+_, _/_, _≤_, _<_}
+use Prim.Native.Nat.{ℕ, _+_, _/_, _≤_, _<_}
 use mathlib.Core.Bool.{Bool, true, false}
 use mathlib.Core.Path.{_≡_}
 use mathlib.Core.List.{List}
