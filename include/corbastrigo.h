@@ -1,4 +1,4 @@
-/* Bitcoin's address map (asmap), peer groups, address filters and loads: the calls of libcorbastrigo.a.
+/* Bitcoin's address map (asmap), maps built from prefixes, peer groups, address filters and loads: the calls of libcorbastrigo.a.
  *
  * Every call answers 0 when it is done, or the number of its refusal (below; corbastrigo_reason says it in words). The check of a map refuses
  * with 1 to 10 and 19, and "the check's" below are these. Of a call that takes two maps a number over 100 is the new map's refusal:
@@ -12,9 +12,9 @@
  *
  * Lengths. A length that a call refuses is refused as a number: nothing behind its pointer is looked at. That is so of a map over the
  * limit (1, 101), of addresses (11, 17), of one candidate (13), of candidates that are no multiple of 20 bytes (13), of too many candidates
- * or occupied groups (12), of records that are no multiple of 16 bytes (16) and of outputs that are too short (14). The number of
- * records has no limit of its own: they are read up to the first that is wrong. A width that is refused (18) is so before anything else is
- * looked at, lengths too; a seed or a number of pairs (20) is so before the output's length.
+ * or occupied groups (12), of records that are no multiple of 16 bytes (16) or, of prefixes, of 24 (21), and of outputs that are too
+ * short (14). The number of records has no limit of its own: they are read up to the first that is wrong. A width that is refused (18) is so
+ * before anything else is looked at, lengths too; a seed or a number of pairs (20) is so before the output's length.
  *
  * Threads. Any number of threads may be in any calls at once: the archive has no variables. Calls at once may read the same lists; what
  * one of them writes to is its own until it returns.
@@ -56,7 +56,7 @@ extern "C" {
 
 /* Refusals. */
 enum corbastrigo_refusal {
-    CORBASTRIGO_MAP_TOO_LONG = 1,        /* a map over 16,777,216 bytes, given or packed */
+    CORBASTRIGO_MAP_TOO_LONG = 1,        /* a map over 16,777,216 bytes, given, packed or built */
     CORBASTRIGO_MAP_ENDS = 2,            /* the map ends where an instruction must start */
     CORBASTRIGO_PAST_TARGET = 3,         /* an instruction at or past the innermost open jump's target */
     CORBASTRIGO_CUT_OPCODE = 4,          /* an opcode cut by the map's end */
@@ -75,7 +75,10 @@ enum corbastrigo_refusal {
     CORBASTRIGO_RELAY_LENGTH = 17,       /* an addrv2 address of a length that its network has not */
     CORBASTRIGO_WIDTH = 18,              /* a width that is neither 32 nor 128 */
     CORBASTRIGO_CUT_OPERAND = 19,        /* an operand cut by the map's end */
-    CORBASTRIGO_LOAD = 20                /* a seed of 0, or more than 128 pairs */
+    CORBASTRIGO_LOAD = 20,               /* a seed of 0, or more than 128 pairs */
+    CORBASTRIGO_PREFIX = 21,             /* record bytes no multiple of 24, or a prefix out of order, overlapping, longer than the width,
+                                            with ones past it or wrong zeros */
+    CORBASTRIGO_NUMBER = 22              /* a number that is not within 1 to 33,521,664 */
 };
 
 /* Added to the check's refusal where a call takes two maps and the new one is refused. */
@@ -108,6 +111,9 @@ CORBASTRIGO_INLINE const char *corbastrigo_reason(uint8_t answer) {
     case CORBASTRIGO_WIDTH: return "the width is neither 32 nor 128";
     case CORBASTRIGO_CUT_OPERAND: return "an operand is cut by the map's end";
     case CORBASTRIGO_LOAD: return "the seed is 0, or there are more than 128 pairs";
+    case CORBASTRIGO_PREFIX:
+        return "record bytes no multiple of 24, or a prefix out of order, overlapping, longer than the width, with ones past it or wrong zeros";
+    case CORBASTRIGO_NUMBER: return "a number that is not within 1 to 33,521,664";
     default: return "a reason that this version does not know";
     }
 }
@@ -274,6 +280,24 @@ uint8_t corbastrigo_compare_bits(const uint8_t *old_map, size_t old_map_len, con
  * zeros. Refusals: as above, 14 being a `first` of fewer than 16 bytes. */
 uint8_t corbastrigo_compare_bytes_bits(const uint8_t *old_map, size_t old_map_len, const uint8_t *new_map, size_t new_map_len,
                                        uint32_t width, uint8_t *first, size_t first_len, size_t *bytes);
+
+/* ---- A map built from prefixes, for whoever undoes single prefixes: a list is taken from a map, changed, and made a map again.
+ *
+ * Writes the map of records of prefixes, which are those of corbastrigo_list, or at width 32 of corbastrigo_list_bits: rising by address,
+ * none in another, each with a number within 1 to 33,521,664. All other addresses are sent to `given`. Where all addresses of a subtree have
+ * one number the map has a RETURN, elsewhere a JUMP, the half with bit 0 and the half with bit 1; so records and gaps of one number are
+ * joined, the same numbers make the same bytes whatever the records are, and no records make a lone RETURN of `given`. Zeros stand to the
+ * end of the last byte. Every map that is written is accepted at the width, and every address of the width walks to the number of its record,
+ * or to `given` where it lies in none.
+ *
+ * A list may hold the number 0, of addresses whose walk differed before a DEFAULT was met. No RETURN holds it, and it is refused: leave such
+ * records out, so that their addresses get `given`, or give them a number of their own.
+ *
+ * `records` has 24 bytes for each prefix. How long the map is no call tells before; `out` with CORBASTRIGO_MAX_MAP_BYTES is always long
+ * enough. Writes the bytes written; those behind them remain. Refusals 18, first of all; 21 for bytes that are no multiple of 24; for each
+ * record 21 where its prefix is wrong, then 22 for its number; 22 for `given`; 1 where the map would be longer than a map may be; 14. */
+uint8_t corbastrigo_build(const uint8_t *records, size_t records_len, uint32_t given, uint32_t width, uint8_t *out, size_t out_len,
+                          size_t *written);
 
 /* ---- Groups, picks and pages. A candidate is 20 bytes: family 4 or 6, a zero, 16 address bytes (family 4: in the mapped form), the
  * port big-endian. `has_map` 0 is without a map: then `map` is not looked at (hand over NULL and 0), and a group is the prefix of the

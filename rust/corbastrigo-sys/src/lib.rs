@@ -214,6 +214,16 @@ extern "C" {
         first_len: usize,
         bytes: *mut usize,
     ) -> u8;
+    /// Writes the map of records of prefixes over 32 or 128 address bits, in which all other addresses are sent to the given number.
+    pub fn corbastrigo_build(
+        records: *const u8,
+        records_len: usize,
+        given: u32,
+        width: u32,
+        out: *mut u8,
+        out_len: usize,
+        written: *mut usize,
+    ) -> u8;
     /// The group of a candidate without a map, by the old numbering.
     pub fn corbastrigo_prefix_group(candidate: *const u8, candidate_len: usize, group: *mut u64) -> u8;
     /// The group of a candidate; a map is checked first. Without one it is the prefix by the new numbering, here and below.

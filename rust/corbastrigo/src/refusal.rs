@@ -36,7 +36,7 @@ macro_rules! refusals {
                 }
             }
 
-            /// The number, which stays the same in every version: 1 to 20 of those that have a name.
+            /// The number, which stays the same in every version: 1 to 22 of those that have a name.
             pub fn number(self) -> u8 {
                 match self {
                     $(Refusal::$name => $number,)*
@@ -83,6 +83,8 @@ refusals! {
     Width = 18: "the width is neither 32 nor 128",
     CutOperand = 19: "an operand is cut by the map's end",
     Load = 20: "the seed is 0, or there are more than 128 pairs",
+    Prefix = 21: "record bytes no multiple of 24, or a prefix out of order, overlapping, longer than the width, with ones past it or wrong zeros",
+    Number = 22: "a number that is not within 1 to 33,521,664",
 }
 
 impl Refusal {

@@ -429,7 +429,7 @@ fn every_refusal_has_the_headers_name_and_number() {
         })
         .collect();
     assert_eq!(named, header());
-    assert_eq!(named.iter().map(|row| row.1).collect::<Vec<_>>(), (1..=20).collect::<Vec<u8>>());
+    assert_eq!(named.iter().map(|row| row.1).collect::<Vec<_>>(), (1..=22).collect::<Vec<u8>>());
 }
 
 #[test]
@@ -442,7 +442,7 @@ fn a_number_makes_its_refusal_and_each_has_its_own_words() {
         assert_eq!(Refusal::NAMED.contains(&refusal), refusal != Refusal::Other(number));
     }
     assert_eq!(Refusal::from_number(0), None);
-    assert_eq!(Refusal::from_number(21), Some(Refusal::Other(21)));
+    assert_eq!(Refusal::from_number(23), Some(Refusal::Other(23)));
 }
 
 #[test]
