@@ -1,6 +1,7 @@
 /* Every call of the header once done and once refused, from C. Exits with 1 where an answer differs from the one written here. The numbers
  * are chosen so that no two parameters of a call can be exchanged unseen (swaps.c). */
 #include "cases.h"
+#include "built.h"
 #include "old.h"
 
 static const uint8_t none[1] = {0};
@@ -1185,6 +1186,309 @@ static void loads(void) {
             load(seeds[i], pairs);
 }
 
+/* Whether an address lies in the prefix of a record. */
+static int lies_in(const uint8_t *address, const uint8_t *record) {
+    const unsigned whole = record[16] / 8, rest = record[16] % 8;
+    return memcmp(address, record, whole) == 0 && (rest == 0 || (address[whole] ^ record[whole]) >> (8 - rest) == 0);
+}
+
+/* The walk by an address ends at a RETURN with the number of its record, or with the given one. */
+static void walks_to(const uint8_t *map, size_t len, const uint8_t *address, const uint8_t *records, size_t count, uint32_t given,
+                     uint32_t width) {
+    uint8_t kind = BEFORE(1), bits = BEFORE(4);
+    uint32_t number = BEFORE(2), instructions = BEFORE(3), wanted = given;
+    for (size_t i = 0; i < count; i++)
+        if (lies_in(address, records + 24 * i))
+            wanted = listed_number(records + 24 * i);
+    IS(corbastrigo_interpret_bits(map, len, address, width / 8, width, &kind, &number, &instructions, &bits), 0);
+    IS(kind, CORBASTRIGO_RETURNED);
+    IS(number, wanted);
+    IS(instructions, bits + 1);
+}
+
+/* The address one further up, or down where `by` is 0xff; behind the last comes the first. */
+static void step(uint8_t *address, uint32_t width, uint8_t by) {
+    const uint8_t turned = by == 1 ? 0 : 0xff;
+    for (size_t i = width / 8; i-- > 0;) {
+        address[i] = (uint8_t)(address[i] + by);
+        if (address[i] != turned)
+            return;
+    }
+}
+
+/* The walks by the first and the last address of a record, and by those next to it on either side. */
+static void walks_around(const uint8_t *map, size_t len, size_t place, const uint8_t *records, size_t count, uint32_t given,
+                         uint32_t width) {
+    uint8_t address[16];
+    memcpy(address, records + 24 * place, 16);
+    walks_to(map, len, address, records, count, given, width);
+    step(address, width, 0xff);
+    walks_to(map, len, address, records, count, given, width);
+    memcpy(address, records + 24 * place, 16);
+    for (unsigned bit = records[24 * place + 16]; bit < width; bit++)
+        address[bit / 8] |= (uint8_t)(0x80 >> bit % 8);
+    walks_to(map, len, address, records, count, given, width);
+    step(address, width, 1);
+    walks_to(map, len, address, records, count, given, width);
+}
+
+/* The map of records is the one made here, in an output of just its length and in a longer one, whose rest remains; it is accepted, and
+ * addresses walk to their numbers. */
+static void build(const uint8_t *records, size_t count, uint32_t given, uint32_t width) {
+    static uint8_t out[MOST_BITS / 8 + 8];
+    const size_t len = make_built(records, count, given);
+    uint32_t instructions = BEFORE(1);
+    uint8_t depth = BEFORE(2);
+    for (size_t room = len; room <= len + 8; room += 8) {
+        size_t written = BEFORE(3);
+        memset(out, BEFORE(1), len + 8);
+        IS(corbastrigo_build(records, 24 * count, given, width, out, room, &written), 0);
+        IS(written, len);
+        IS(memcmp(out, built.bytes, len), 0);
+        IS(untouched(out + len, 8), 8);
+    }
+    IS(corbastrigo_sanity_check_bits(out, len, width, &instructions, &depth), 0);
+    IS(instructions % 2, 1);
+    for (size_t i = 0; i < count; i++)
+        walks_around(out, len, i, records, count, given, width);
+}
+
+/* A map worked out by hand of at most three records. */
+static void by_hand(const uint8_t *records, size_t count, uint32_t given, const uint8_t *map, size_t len) {
+    for (uint32_t width = 32; width <= 128; width += 96) {
+        IS(make_built(records, count, given), len);
+        IS(memcmp(built.bytes, map, len), 0);
+        build(records, count, given, width);
+    }
+}
+
+/* A RETURN of 1 has 17 zeros; one of 2 ends with 1, one of 7 with 110; that of the greatest number has 33 ones behind its zero. A JUMP over one
+ * of 17 bits has the byte 01, over 42 bits 99. */
+static void built_by_hand(void) {
+    static const uint8_t two[3] = {0x00, 0x00, 0x01}, seven[3] = {0x00, 0xc0, 0x00}, greatest[5] = {0xfe, 0xff, 0xff, 0xff, 0x03};
+    static const uint8_t half_zero[6] = {0x01, 0x00, 0x00, 0x01, 0x00, 0x00}, half_one[6] = {0x01, 0x00, 0x00, 0x00, 0x00, 0x02};
+    static const uint8_t second_quarter[9] = {0x99, 0x01, 0x00, 0x00, 0x00, 0x00, 0x02, 0x00, 0x00};
+    static const uint8_t seven_and_two[6] = {0x01, 0x00, 0xc0, 0x00, 0x00, 0x02};
+    uint8_t records[72];
+    by_hand(none, 0, 1, lone_return, 3);
+    by_hand(none, 0, 7, seven, 3);
+    by_hand(none, 0, 33521664, greatest, 5);
+    listed(records, 0, 0, 7);
+    by_hand(records, 1, 2, seven, 3);
+    listed(records, 0, 1, 2);
+    by_hand(records, 1, 1, half_zero, 6);
+    listed(records, 0x80000000, 1, 2);
+    by_hand(records, 1, 1, half_one, 6);
+    listed(records, 0x40000000, 2, 2);
+    by_hand(records, 1, 1, second_quarter, 9);
+    /* A record of the given number tells nothing apart. */
+    by_hand(records, 1, 2, two, 3);
+    /* Two neighbours of one number join; with a third, or with gaps of the given number, up to a lone RETURN. */
+    listed(records, 0, 2, 7);
+    listed(records + 24, 0x40000000, 2, 7);
+    listed(records + 48, 0x80000000, 1, 2);
+    by_hand(records, 3, 1, seven_and_two, 6);
+    by_hand(records, 2, 2, seven_and_two, 6);
+    by_hand(records, 2, 7, seven, 3);
+    /* A gap joins the record next to it. */
+    listed(records + 24, 0x80000000, 1, 2);
+    by_hand(records, 2, 7, seven_and_two, 6);
+}
+
+/* Records that are drawn: rising, and none in another. */
+#define MOST_RECORDS 48
+static struct {
+    uint8_t records[24 * MOST_RECORDS], address[16];
+    size_t count;
+    uint64_t s;
+} list;
+
+/* A record below so many bits of the address, of one of three numbers, so that neighbours often join, and now and then of one of many. */
+static void draw_record(unsigned depth) {
+    uint8_t *const record = list.records + 24 * list.count;
+    const uint64_t draw = list.s = drawn(list.s);
+    if (list.count == MOST_RECORDS)
+        return;
+    listed(record, 0, (uint8_t)depth, draw % 4 < 3 ? 1 + draw % 4 : 1 + draw / 4 % 33521664);
+    memcpy(record, list.address, 16);
+    list.count++;
+}
+
+/* What lies below so many bits of the address: a record, a gap, or two halves, of which mostly only one is gone on with. */
+static void draw_below(unsigned depth, unsigned width) {
+    const uint64_t draw = list.s = drawn(list.s);
+    const int both = draw % 32 < 6;
+    if (depth == width || draw % 32 == 31)
+        draw_record(depth);
+    else if (draw % 32 < 30 && list.count < MOST_RECORDS)
+        for (unsigned bit = 0; bit < 2; bit++) {
+            list.address[depth / 8] |= (uint8_t)(bit << (7 - depth % 8));
+            if (both || draw / 32 % 2 == bit)
+                draw_below(depth + 1, width);
+            else if (draw / 64 % 2)
+                draw_record(depth + 1);
+            list.address[depth / 8] &= (uint8_t)~(0x80 >> depth % 8);
+        }
+}
+
+/* Maps of drawn records, and of records at the last bit, at both widths; among the given numbers one that records have too. */
+static void builds(void) {
+    static const uint32_t givens[] = {1, 2, 65536, 33521664};
+    uint8_t record[24];
+    size_t most = 0;
+    list.s = CORBASTRIGO_DEFAULT_SEED;
+    for (size_t i = 0; i < 48; i++) {
+        const uint32_t width = i % 2 == 0 ? 32 : 128;
+        list.count = 0;
+        memset(list.address, 0, sizeof list.address);
+        draw_below(0, width);
+        build(list.records, list.count, givens[i / 2 % 4], width);
+        most = list.count > most ? list.count : most;
+    }
+    IS(most > MOST_RECORDS / 2, 1);
+    for (uint32_t width = 32; width <= 128; width += 96)
+        for (unsigned last = 0; last < 2; last++) {
+            listed(record, last ? 0xffffffff : 0, (uint8_t)width, 3);
+            memset(record + 4, last && width == 128 ? 0xff : 0, 12);
+            build(record, 1, 1, width);
+        }
+}
+
+/* Three records whose prefixes and numbers are right. */
+static void make_three(uint8_t *records) {
+    listed(records, 0x0a000000, 8, 1);
+    listed(records + 24, 0x0b000000, 9, 33521664);
+    listed(records + 48, 0xc0000200, 24, 3);
+}
+
+/* A build that is refused for its records, whatever the given number and the output are; nothing is written. */
+static void refused_build(const uint8_t *records, size_t bytes, uint32_t width, int reason) {
+    uint8_t out[64];
+    size_t written = BEFORE(2);
+    memset(out, BEFORE(1), sizeof out);
+    IS(corbastrigo_build(records, bytes, 5, width, out, sizeof out, &written), reason);
+    IS(corbastrigo_build(records, bytes, 5, width, out, 0, &written), reason);
+    IS(corbastrigo_build(records, bytes, 0, width, out, sizeof out, &written), reason);
+    IS(corbastrigo_build(records, bytes, 33521665, width, out, 0, &written), reason);
+    IS(untouched(out, sizeof out), sizeof out);
+    IS(written, BEFORE(2));
+}
+
+/* Each prefix that is wrong by itself, in each of the three records: longer than the width, ones past it, wrong zeros. Its number may be
+ * wrong too: the prefix comes first. */
+static void wrong_prefixes(uint32_t width) {
+    static const uint8_t lengths[3] = {8, 9, 24};
+    uint8_t records[72];
+    for (size_t place = 0; place < 3; place++)
+        for (uint32_t number = 0; number < 2; number++) {
+            uint8_t *const record = records + 24 * place;
+            make_three(records);
+            if (number == 0)
+                memset(record + 20, 0, 4);
+            for (unsigned length = width + 1; length <= 255; length += length < 250 ? 6 : 1) {
+                record[16] = (uint8_t)length;
+                refused_build(records, 72, width, CORBASTRIGO_PREFIX);
+            }
+            record[16] = lengths[place];
+            for (unsigned bit = lengths[place]; bit < 160; bit++)
+                if (bit / 8 != 16) {
+                    record[bit / 8] ^= (uint8_t)(0x80 >> bit % 8);
+                    refused_build(records, 72, width, CORBASTRIGO_PREFIX);
+                    record[bit / 8] ^= (uint8_t)(0x80 >> bit % 8);
+                }
+        }
+}
+
+/* Two records of prefixes of four bytes: whether they rise and do not overlap. */
+static void two_records(uint32_t first, uint8_t first_length, uint32_t second, uint8_t second_length, int reason) {
+    uint8_t records[48];
+    for (uint32_t width = 32; width <= 128; width += 96) {
+        listed(records, first, first_length, 2);
+        listed(records + 24, second, second_length, 2);
+        if (reason == 0)
+            build(records, 2, 1, width);
+        else
+            refused_build(records, 48, width, reason);
+    }
+}
+
+/* In order, and out of it; in each other, the same, and next to each other. */
+static void orders(void) {
+    two_records(0x0a000000, 8, 0x0b000000, 8, 0);
+    two_records(0x0b000000, 8, 0x0a000000, 8, CORBASTRIGO_PREFIX);
+    two_records(0x0a000000, 8, 0x0a000000, 8, CORBASTRIGO_PREFIX);
+    two_records(0x0a000000, 8, 0x0a000000, 9, CORBASTRIGO_PREFIX);
+    two_records(0x0a000000, 9, 0x0a000000, 8, CORBASTRIGO_PREFIX);
+    two_records(0x0a000000, 8, 0x0affffff, 32, CORBASTRIGO_PREFIX);
+    two_records(0x0affffff, 32, 0x0a000000, 8, CORBASTRIGO_PREFIX);
+    two_records(0x0affffff, 32, 0x0b000000, 32, 0);
+    two_records(0x7fffffff, 32, 0x80000000, 1, 0);
+    two_records(0, 0, 0, 32, CORBASTRIGO_PREFIX);
+    two_records(0, 0, 0xffffffff, 32, CORBASTRIGO_PREFIX);
+    two_records(0, 32, 0, 0, CORBASTRIGO_PREFIX);
+    /* Behind the last address none can follow. */
+    two_records(0x80000000, 1, 0, 32, CORBASTRIGO_PREFIX);
+    two_records(0xffffffff, 32, 0, 1, CORBASTRIGO_PREFIX);
+}
+
+/* Numbers that are none in a map: in each record, and as the given one, which comes after them. */
+static void wrong_numbers(uint32_t width) {
+    static const uint32_t wrong[] = {0, 33521665, 33554432, UINT32_C(1) << 31, UINT32_MAX};
+    uint8_t records[72], out[64];
+    size_t written = BEFORE(2);
+    memset(out, BEFORE(1), sizeof out);
+    for (size_t i = 0; i < sizeof wrong / sizeof *wrong; i++) {
+        for (size_t place = 0; place < 3; place++) {
+            make_three(records);
+            for (unsigned byte = 0; byte < 4; byte++)
+                records[24 * place + 20 + byte] = (uint8_t)(wrong[i] >> 8 * byte);
+            refused_build(records, 72, width, CORBASTRIGO_NUMBER);
+            /* What is wrong behind it is not come to, and what is wrong before it is. */
+            records[48 + 17] = 1;
+            refused_build(records, 72, width, place < 2 ? CORBASTRIGO_NUMBER : CORBASTRIGO_PREFIX);
+            records[17] = 1;
+            refused_build(records, 72, width, CORBASTRIGO_PREFIX);
+        }
+        make_three(records);
+        for (size_t room = 0; room <= sizeof out; room += sizeof out) {
+            IS(corbastrigo_build(records, 72, wrong[i], width, out, room, &written), CORBASTRIGO_NUMBER);
+            IS(corbastrigo_build(none, 0, wrong[i], width, out, room, &written), CORBASTRIGO_NUMBER);
+        }
+    }
+    IS(untouched(out, sizeof out), sizeof out);
+    IS(written, BEFORE(2));
+}
+
+/* What else a build refuses, in its order: the width, the length, then, behind the records and the given number, the output. */
+static void refused_builds(void) {
+    static const size_t lengths[] = {1, 23, 25, 47, 71};
+    uint8_t records[72], out[512];
+    size_t written = BEFORE(2);
+    make_three(records);
+    memset(out, BEFORE(1), sizeof out);
+    for (size_t i = 0; i < sizeof no_widths / sizeof *no_widths; i++) {
+        refused_build(records, 72, no_widths[i], CORBASTRIGO_WIDTH);
+        refused_build(records, 71, no_widths[i], CORBASTRIGO_WIDTH);
+        refused_build(too_long, 24, no_widths[i], CORBASTRIGO_WIDTH);
+    }
+    for (uint32_t width = 32; width <= 128; width += 96) {
+        const size_t len = make_built(records, 3, 5);
+        for (size_t i = 0; i < sizeof lengths / sizeof *lengths; i++) {
+            refused_build(records, lengths[i], width, CORBASTRIGO_PREFIX);
+            refused_build(too_long, lengths[i], width, CORBASTRIGO_PREFIX);
+        }
+        wrong_prefixes(width);
+        wrong_numbers(width);
+        IS(corbastrigo_build(records, 72, 5, width, out, len - 1, &written), CORBASTRIGO_OUTPUT_TOO_SHORT);
+        IS(corbastrigo_build(records, 72, 5, width, out, 0, &written), CORBASTRIGO_OUTPUT_TOO_SHORT);
+        IS(corbastrigo_build(none, 0, 5, width, out, 2, &written), CORBASTRIGO_OUTPUT_TOO_SHORT);
+        IS(untouched(out, sizeof out), sizeof out);
+        IS(written, BEFORE(2));
+        build(records, 3, 5, width);
+    }
+    orders();
+}
+
 int main(void) {
     codes();
     check();
@@ -1225,6 +1529,9 @@ int main(void) {
     draws();
     refused_loads();
     loads();
+    built_by_hand();
+    builds();
+    refused_builds();
     printf("calls from C: %d answers, %d wrong\n", checks, failures);
     return failures != 0;
 }

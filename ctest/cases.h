@@ -1,4 +1,4 @@
-/* What the tests of the calls share: answers that are held to those written beside them, a few maps, and candidates. */
+/* What the tests of the calls share: answers that are held to those written beside them, a few maps, candidates, and records of prefixes. */
 #include "../include/corbastrigo.h"
 #include <stdio.h>
 #include <string.h>
@@ -41,6 +41,16 @@ static void candidate(uint8_t *bytes, uint8_t a, uint8_t b, uint8_t c, uint8_t d
     mapped(bytes + 2, a, b, c, d);
     bytes[18] = 0x20;
     bytes[19] = 0x8d;
+}
+
+/* A record of a prefix whose first four bytes are given; at width 32 these are the address. */
+static void listed(uint8_t *record, uint32_t first_bytes, uint8_t length, uint32_t number) {
+    memset(record, 0, CORBASTRIGO_PREFIX_RECORD_BYTES);
+    for (unsigned i = 0; i < 4; i++) {
+        record[i] = (uint8_t)(first_bytes >> (24 - 8 * i));
+        record[20 + i] = (uint8_t)(number >> 8 * i);
+    }
+    record[16] = length;
 }
 
 /* The calls that read a code, the two picks, and the two pages. */

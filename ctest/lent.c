@@ -3,6 +3,7 @@
  * written here, and dies where barred memory is looked at. */
 #define _DEFAULT_SOURCE
 #include "cases.h"
+#include "built.h"
 #include "old.h"
 #include <sys/mman.h>
 
@@ -86,6 +87,8 @@ static void wrong_length(size_t len) {
     IS(corbastrigo_netgroup(barred, len, 1, barred, 3, &group), CORBASTRIGO_CANDIDATE);
     IS(corbastrigo_netgroup_unchecked(barred, len, 1, barred, 3, &group), CORBASTRIGO_CANDIDATE);
     IS(corbastrigo_pack(barred, len, barred, 16, &size), CORBASTRIGO_RECORD);
+    IS(corbastrigo_build(barred, len, 0, 32, barred, 3, &size), CORBASTRIGO_PREFIX);
+    IS(corbastrigo_build(barred, len, 1, 128, barred, SIZE_MAX, &size), CORBASTRIGO_PREFIX);
 }
 
 /* A pick with barred memory for the lists and outputs. */
@@ -137,6 +140,7 @@ static void no_width(uint32_t width) {
     IS(corbastrigo_list_bytes_bits(barred, 3, width, &size), CORBASTRIGO_WIDTH);
     IS(corbastrigo_compare_bits(barred, 3, barred, 3, width, barred, 28, &size), CORBASTRIGO_WIDTH);
     IS(corbastrigo_compare_bytes_bits(barred, 3, barred, 3, width, barred, 16, &size), CORBASTRIGO_WIDTH);
+    IS(corbastrigo_build(barred, 24, 1, width, barred, 6, &size), CORBASTRIGO_WIDTH);
 }
 
 /* Outputs that are too short at 32, and an address of 4 bytes at the end of what can be read: nothing behind it is. */
@@ -163,6 +167,37 @@ static void wrong_load(void) {
     IS(size, BEFORE(1));
 }
 
+/* Barred memory for the map of a build that is refused for a record, for the given number, or for an output that is too short: the map of
+ * the record has 6 bytes. No records may be barred memory too. */
+static void wrong_build(uint32_t width) {
+    uint8_t record[24];
+    size = BEFORE(1);
+    listed(record, 0x80000000, 1, 2);
+    IS(corbastrigo_build(record, 24, 0, width, barred, 6, &size), CORBASTRIGO_NUMBER);
+    IS(corbastrigo_build(record, 24, 1, width, barred, 5, &size), CORBASTRIGO_OUTPUT_TOO_SHORT);
+    IS(corbastrigo_build(record, 24, 1, width, barred, 0, &size), CORBASTRIGO_OUTPUT_TOO_SHORT);
+    IS(corbastrigo_build(barred, 0, 0, width, barred, 3, &size), CORBASTRIGO_NUMBER);
+    IS(corbastrigo_build(barred, 0, 1, width, barred, 2, &size), CORBASTRIGO_OUTPUT_TOO_SHORT);
+    record[20] = 0;
+    IS(corbastrigo_build(record, 24, 1, width, barred, 6, &size), CORBASTRIGO_NUMBER);
+    record[1] = 1;
+    IS(corbastrigo_build(record, 24, 1, width, barred, 6, &size), CORBASTRIGO_PREFIX);
+    IS(size, BEFORE(1));
+}
+
+/* A list whose map would be too long: 32,768 addresses, each of them told from its neighbours by 113 bits. The given number comes before that,
+ * and the output, which is barred, after it. */
+static void long_build(void) {
+    static uint8_t records[24 << 15];
+    for (uint32_t i = 0; i < sizeof records / 24; i++)
+        listed(records + 24 * i, i << 17, 128, 1);
+    size = BEFORE(1);
+    IS(corbastrigo_build(records, sizeof records, 33521665, 128, barred, 0, &size), CORBASTRIGO_NUMBER);
+    IS(corbastrigo_build(records, sizeof records, 33521664, 128, barred, 0, &size), CORBASTRIGO_MAP_TOO_LONG);
+    IS(corbastrigo_build(records, sizeof records, 33521664, 128, barred, SIZE_MAX, &size), CORBASTRIGO_MAP_TOO_LONG);
+    IS(size, BEFORE(1));
+}
+
 static void refused_lengths(void) {
     uint8_t list[256];
     long_map(CORBASTRIGO_MAX_MAP_BYTES + 1);
@@ -180,6 +215,9 @@ static void refused_lengths(void) {
     no_width(UINT32_MAX);
     short_at_32();
     wrong_load();
+    wrong_build(32);
+    wrong_build(128);
+    long_build();
     IS(corbastrigo_addrv2_skip_relay(7, barred, 513, 8333, &small), CORBASTRIGO_RELAY_LENGTH);
     IS(corbastrigo_unpack(two_prefixes, 35, barred, 255, &size), CORBASTRIGO_OUTPUT_TOO_SHORT);
     IS(corbastrigo_unpack(two_prefixes, 35, list, 256, &size), 0);
@@ -277,6 +315,19 @@ static void empty_load(void) {
     IS(size, BEFORE(1));
 }
 
+/* Every map has bytes, that of no records too. */
+static void empty_build(void) {
+    uint8_t map[3];
+    size = BEFORE(1);
+    IS(corbastrigo_build(NULL, 0, 1, 31, NULL, 0, &size), CORBASTRIGO_WIDTH);
+    IS(corbastrigo_build(NULL, 0, 0, 32, NULL, 0, &size), CORBASTRIGO_NUMBER);
+    IS(corbastrigo_build(NULL, 0, 1, 128, NULL, 0, &size), CORBASTRIGO_OUTPUT_TOO_SHORT);
+    IS(size, BEFORE(1));
+    IS(corbastrigo_build(NULL, 0, 1, 128, map, 3, &size), 0);
+    IS(size, 3);
+    IS(memcmp(map, lone_return, 3), 0);
+}
+
 static void empty_lists(void) {
     for (size_t i = 0; i < 4; i++)
         IS(decoders[i](NULL, 0, 0, &number, &size), i == 0 ? CORBASTRIGO_CUT_OPCODE : CORBASTRIGO_CUT_OPERAND);
@@ -313,6 +364,7 @@ static void empty_lists(void) {
     IS(corbastrigo_addrv2_skip_relay(7, NULL, 0, 8333, &small), 0);
     IS(small, 0);
     empty_load();
+    empty_build();
 }
 
 /* Both outputs are longer than any answer, and hold other numbers before each call. */
@@ -372,6 +424,30 @@ static void loads_at_the_end(void) {
     }
 }
 
+/* Records that end where memory can be read no further; then a map that ends where it can be written no further. */
+static void build_at_the_end(const uint8_t *records, size_t count, uint32_t width) {
+    static uint8_t map[MOST_BITS / 8];
+    const size_t len = make_built(records, count, 7);
+    uint8_t *const list = (uint8_t *)end_of_lent - 24 * count, *const last = (uint8_t *)end_of_lent - len;
+    memcpy(list, records, 24 * count);
+    IS(corbastrigo_build(list, 24 * count, 7, width, map, sizeof map, &size), 0);
+    IS(size, len);
+    IS(memcmp(map, built.bytes, len), 0);
+    IS(corbastrigo_build(records, 24 * count, 7, width, last, len, &total), 0);
+    IS(total, len);
+    IS(memcmp(last, built.bytes, len), 0);
+}
+
+/* Lists of up to 24 addresses, whose maps begin at each place of a word, as they end at one. */
+static void builds_at_the_end(void) {
+    uint8_t records[24 * 24];
+    for (uint32_t i = 0; i < 24; i++)
+        listed(records + 24 * i, (i << 27) + i, 32, i + 1);
+    for (size_t count = 0; count <= 24; count++)
+        for (uint32_t width = 32; width <= 128; width += 96)
+            build_at_the_end(records, count, width);
+}
+
 /* A scan of groups that end where memory can be read no further, the last of them the first hit. The length tells of more: the header does
  * not allow that, and here it is done on purpose, since the call says how many groups it read, and a group more would be barred. */
 static void scan_to(size_t place, size_t len) {
@@ -414,6 +490,7 @@ int main(void) {
     for (size_t i = 0; i < 3; i++)
         lines_at_the_end(printings[i]);
     loads_at_the_end();
+    builds_at_the_end();
     groups_behind_a_hit();
     printf("memory lent to calls: %d answers, %d wrong\n", checks, failures);
     return failures != 0;

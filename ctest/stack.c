@@ -16,6 +16,7 @@
 
 static uint8_t peers[20 * CORBASTRIGO_MAX_CANDIDATES], records[256], bytes[35], prefixes[2496], changes[2884], small, other, answer;
 static uint8_t lines[CORBASTRIGO_PAGE_LINE_BYTES * CORBASTRIGO_MAX_CANDIDATES], load_bytes[CORBASTRIGO_LOAD_BYTES];
+static uint8_t deep[48], built_bytes[4096];
 static uint64_t occupied[CORBASTRIGO_MAX_CANDIDATES], taken[CORBASTRIGO_MAX_CANDIDATES], wide;
 static uint16_t places[CORBASTRIGO_MAX_CANDIDATES];
 static uint32_t number, count;
@@ -74,7 +75,8 @@ static const uint8_t embedded[16] = {0, 0x64, 0xff, 0x9b, 0, 1, 0, 0, 0, 0, 0, 0
     call(clearnet_unroutable, OF_OTHERS, (embedded, 16, &small))                                                                       \
     call(addrv2_skip_relay, OF_OTHERS, (2, embedded, 16, 8333, &small))                                                                \
     call(next_draw, OF_OTHERS, (CORBASTRIGO_DEFAULT_SEED, &wide))                                                                      \
-    call(load, OF_OTHERS, (CORBASTRIGO_DEFAULT_SEED, CORBASTRIGO_MAX_PAIRS, load_bytes, sizeof load_bytes, &size))
+    call(load, OF_OTHERS, (CORBASTRIGO_DEFAULT_SEED, CORBASTRIGO_MAX_PAIRS, load_bytes, sizeof load_bytes, &size))                     \
+    call(build, OF_OTHERS, (deep, sizeof deep, 33521664, 128, built_bytes, sizeof built_bytes, &size))
 
 #define MAKE(name, bound, arguments)                                                                                                   \
     static void name(void) { answer = corbastrigo_##name arguments; }
@@ -114,6 +116,10 @@ int main(void) {
         candidate(peers + 20 * i, 3, 4, (uint8_t)(i >> 8), (uint8_t)i);
         occupied[i] = i * i;
     }
+    /* Two addresses, so that 128 halves are open at a time. */
+    listed(deep, 0, 128, 1);
+    listed(deep + 24, 0xffffffff, 128, 2);
+    memset(deep + 24, 0xff, 16);
     floor = used(stack, nothing);
     for (size_t i = 0; i < sizeof calls / sizeof *calls; i++) {
         const size_t bytes_used = used(stack, calls[i].make) - floor;
