@@ -1,8 +1,9 @@
 #!/bin/sh
 # Compiles the original, unchanged, asks it for the answers to all cases of src/bin/replay_vectors, and compares them with those that are
 # stored: the list that the Rattle program of that name reads (crates/replay_vectors/stdin), what it must print (stdout), and the tables
-# of docs/tables. With --write they are written anew. Before that the answers to two maps compared, draws and loads, and groups by document 02's
-# numbering, are held to other ways of making them (tests/changes.rs, tests/loads.rs, tests/groups.rs), since the original has none of them.
+# of docs/tables. With --write they are written anew. Before that the answers to two maps compared, draws and loads, groups by document 02's
+# numbering, and maps built from prefixes are held to other ways of making them (tests/changes.rs, tests/loads.rs, tests/groups.rs,
+# tests/building.rs), since the original has none of them.
 # Skipped where the original or cargo is missing: the answers are stored.
 cd "$(dirname "$0")" || exit 2
 ./needs.sh oracle original cargo || exit
@@ -46,6 +47,7 @@ held() {
 held changes "compared maps"
 held loads "draws and loads"
 held groups "groups without a map"
+held building "maps built from prefixes"
 compare crates/replay_vectors/stdin --list
 compare crates/replay_vectors/stdout
 for table in $("$program" --tables); do

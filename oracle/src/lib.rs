@@ -16,6 +16,7 @@ pub mod error {
     }
 }
 
+pub mod building;
 pub mod changes;
 pub mod codes;
 pub mod cuts;

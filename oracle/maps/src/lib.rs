@@ -1,5 +1,6 @@
 //! Maps built from trees, so that the check accepts them: shapes as real maps have them, the worst shapes, random ones, and
-//! others rewritten.
+//! others rewritten; and lists of prefixes.
+pub mod lists;
 pub mod rewrite;
 pub mod shapes;
 
