@@ -1,6 +1,6 @@
 //! Document 02's builder (CR 8), from its sentences: down the tree of all addresses, which is halved, and the records with it, until all
-//! addresses that are left have one number; instructions by the original's writers. The original has no builder, but takes what is built for
-//! a map: `hold` asks its check and its walk; and the listing of what was built has to say of every address what the records say.
+//! addresses that are left have one number; instructions by the original's writers. The original has no builder, but takes what is built
+//! for a map: `hold` asks its check and its walk; and the listing of what was built has to say of every address what the records say.
 use crate::asmap::{pack_le, sanity_check_bits, AsMap, JUMP, RETURN};
 use crate::codes::instruction;
 use crate::document::Refusal;
@@ -103,8 +103,8 @@ impl Subtree<'_> {
         [Subtree { records: zero, length, ..*self }, Subtree { first: middle, length, records: one, ..*self }]
     }
 
-    /// "Where all addresses of a subtree have one number, the builder writes RETURN. Elsewhere it writes JUMP, the half with bit 0, the half
-    /// with bit 1." Hands back the bits of what it wrote: those of its first half are a JUMP's operand.
+    /// "Where all addresses of a subtree have one number, the builder writes RETURN. Elsewhere it writes JUMP, the half with bit 0, the
+    /// half with bit 1." Hands back the bits of what it wrote: those of its first half are a JUMP's operand.
     fn write(&self, out: &mut Vec<(u32, u32)>) -> Result<usize, Refusal> {
         if let Some(number) = self.one_number() {
             out.push((RETURN, number));
@@ -180,9 +180,9 @@ pub fn number_of(stretches: &[Stretch], address: u128) -> Option<u32> {
     stretches[..stretches.partition_point(|&(first, ..)| first <= address)].last().map(|&(.., number)| number)
 }
 
-/// Holds a map to the records that it is of. The original's check takes it, at its width and at 128; its walk has each record's number, and the
-/// given one elsewhere, for the first and the last address of each stretch, one drawn in it, and some drawn anywhere. What the map lists is what
-/// the records say, both joined by number.
+/// Holds a map to the records that it is of. The original's check takes it, at its width and at 128; its walk has each record's number, and
+/// the given one elsewhere, for the first and the last address of each stretch, one drawn in it, and some drawn anywhere. What the map
+/// lists is what the records say, both joined by number.
 pub fn hold(map: &[u8], prefixes: &[Prefix], given: u32, width: Width, random: &mut Random) {
     for bits in [width.bits(), 128] {
         assert!(sanity_check_bits(map, bits as i32), "the original refuses what is built at {bits}: {map:02x?}");

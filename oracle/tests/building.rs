@@ -1,6 +1,6 @@
-//! Maps built from prefixes, by hand on a few lists, and on many by other ways than `building` has: a trie into which records are put one by one
-//! and whose leaves of one number are joined from below, and a table of all addresses of few bits; both written by the writer that the trees of
-//! maps have. Refusals by a way of their own too, over the bits of records as text.
+//! Maps built from prefixes, by hand on a few lists, and on many by other ways than `building` has: a trie into which records are put one
+//! by one and whose leaves of one number are joined from below, and a table of all addresses of few bits; both written by the writer that
+//! the trees of maps have. Refusals by a way of their own too, over the bits of records as text.
 use maps::lists::{record, Drawn};
 use maps::{Node, Random, Tree};
 use oracle::asmap::{pack_le, LONE_RETURN_ASMAP};
@@ -143,7 +143,8 @@ fn halved(prefix: Prefix, width: Width) -> Vec<Prefix> {
     vec![Prefix { length, ..prefix }, Prefix { first: prefix.first | 1 << (128 - length), length, ..prefix }]
 }
 
-/// The same said in other records builds the same map: what has the given number left out, a record halved, all gaps filled, and what the map lists.
+/// The same said in other records builds the same map: what has the given number left out, a record halved, all gaps filled, and what the
+/// map lists.
 #[test]
 fn the_map_goes_by_what_the_records_mean() {
     let random = &mut Random(20_261_126);
@@ -227,8 +228,8 @@ fn the_longest_prefixes() {
     }
 }
 
-/// What is wrong with a list, from its records as text: every fault with the place of its record, of which the first counts, and in a record
-/// 21 before 22. Two records are compared with each other wherever they stand.
+/// What is wrong with a list, from its records as text: every fault with the place of its record, of which the first counts, and in a
+/// record 21 before 22. Two records are compared with each other wherever they stand.
 fn refused(list: &[u8], given: u32, width: u32) -> Option<Refusal> {
     if width != 32 && width != 128 {
         return Some(18);

@@ -2,6 +2,7 @@
 use crate::word;
 use maps::Random;
 use oracle::asmap::{self, consume_bit_le};
+use oracle::building;
 use oracle::changes::{self, Change};
 use oracle::codes::{in_range, instruction, Row, ROWS};
 use oracle::document::{self, End, Refusal, Verdict, Walk, CUT_OPCODE};
@@ -17,7 +18,7 @@ use std::net::{IpAddr, Ipv4Addr, Ipv6Addr};
 use std::panic;
 
 /// The calls in the order in which the program counts them: letter and name.
-pub const CALLS: [(char, &str); 35] = [
+pub const CALLS: [(char, &str); 36] = [
     ('d', "code read"),
     ('e', "code written"),
     ('i', "instruction read"),
@@ -53,6 +54,7 @@ pub const CALLS: [(char, &str); 35] = [
     ('r', "relay skip"),
     ('X', "draw"),
     ('x', "load"),
+    ('B', "build"),
 ];
 
 /// The item of the reader that is no code.
@@ -397,6 +399,16 @@ impl List {
         self.add('x', &[&word::number(seed), &word::number(pairs), &answer, &left]);
         bytes
     }
+
+    // ---- maps built from prefixes
+
+    /// A map at a width, of records and a number for all other addresses, into an output with so much room. Hands back how many bytes it
+    /// wrote.
+    pub fn build(&mut self, width: u32, given: u32, records: &[u8], room: usize) -> Result<usize, Refusal> {
+        let Written { answer, left, bytes } = written_to(built(records, given, width), room);
+        self.add('B', &[&word::number(width.into()), &word::number(given.into()), records, &answer, &left]);
+        bytes
+    }
 }
 
 fn decoded(got: Option<(u32, usize)>, cut: Refusal) -> Answer {
@@ -472,6 +484,14 @@ fn loaded(seed: u64, pairs: u64) -> Answer {
     let load = loads::load(seed, pairs)?;
     loads::hold(&load, &mut Random(pairs));
     Ok(load.bytes())
+}
+
+/// A map that is built is held to the original, and what it lists to the records.
+fn built(records: &[u8], given: u32, width: u32) -> Answer {
+    let (prefixes, width) = building::read(records, given, width)?;
+    let map = building::built(&prefixes, given)?.bytes();
+    building::hold(&map, &prefixes, given, width, &mut Random(map.len() as u64));
+    Ok(map)
 }
 
 /// What a line has for what groups go by.

@@ -9,7 +9,7 @@ use oracle::listing::{Prefix, RECORD};
 use std::net::Ipv6Addr;
 
 /// Maps as text, each with what it shows.
-const TEXTS: [(&str, &str); 14] = [
+pub const TEXTS: [(&str, &str); 14] = [
     ("a lone RETURN tells nothing apart", "R1"),
     ("a JUMP: the side of 0, then the side of 1", "J17 R1 R2"),
     ("records of one number are not joined", "J17 R1 R1"),

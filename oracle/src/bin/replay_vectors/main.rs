@@ -59,12 +59,14 @@
 //!     r NETWORK PORT ADDRESS ANSWER      relay skip (1)
 //!     X NUMBER ANSWER                    the draw after a number, which is the seed or the draw before (8)
 //!     x SEED PAIRS ANSWER LOAD           load of so many pairs: bytes written (4)
+//!     B WIDTH GIVEN RECORDS ANSWER MAP   map built at a width from prefixes and a number for all other addresses: bytes written (4)
 //!
 //! # A new call
 //!
 //! Here: a letter above and in `list::CALLS`, a method of `List`, and cases. In the program: a function that makes the call and compares,
 //! the letter in `kind_of`, the lengths of its words in `shape_of`, a name where the counts are printed.
 mod addresses;
+mod building;
 mod codes;
 mod comparisons;
 mod crowded;
@@ -107,6 +109,7 @@ fn main() {
     numbering::cases(&mut list, &mut tables);
     cuts::cases(&mut list, &mut tables);
     loads::cases(&mut list, &mut tables);
+    building::cases(&mut list, &mut tables);
     addresses::cases(&mut list, &mut tables);
     sample::cases(&mut list);
     let words: Vec<String> = std::env::args().skip(1).collect();

@@ -1,7 +1,7 @@
 //! The tables that teach something, as text: docs/tables/NAME.txt.
 
 /// Each with its first lines, which say what a row holds.
-const TABLES: [(&str, &str); 14] = [
+const TABLES: [(&str, &str); 15] = [
     (
         "codes",
         "The code of the first and the last value of each size of the four rows (document 01, Codes), and of values around each row.\n\
@@ -67,6 +67,14 @@ const TABLES: [(&str, &str); 14] = [
          Seed: its first draws, each with the number and the bit that it would give. Load: its instructions, and its bytes; a MATCH of 2 asks\n\
          for a zero, of 3 for a one. Then loads as maps, with the check and walks as in width.txt: an address whose bits are those asked for\n\
          reads every instruction, and one that differs at a pair has that pair's number. Pairs are counted from 1.",
+    ),
+    (
+        "build",
+        "Maps built from prefixes and a number for all other addresses (document 02, CR 8); check.txt says how maps are written as text.\n\
+         Where all addresses of a subtree have one number, there is a RETURN; elsewhere a JUMP, the half with bit 0, the half with bit 1.\n\
+         It goes by what addresses have: prefixes, and what lies between them, join where they have one number and fill a subtree.\n\
+         Prefixes, each with its number, and the number of all others: at a width, the bytes of the map and its instructions, or the\n\
+         refusal. Then outputs of each length, and what is wrong with a list at 128; it is so at 32 too.",
     ),
     (
         "groups",

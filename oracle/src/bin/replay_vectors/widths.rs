@@ -19,7 +19,7 @@ const NO_WIDTHS: [u32; 12] = [0, 1, 31, 33, 64, 127, 129, 160, 256 + 32, 256 + 1
 const TWO_PREFIXES: &str = "M64 J17 R1 R2";
 
 /// Maps as text, each with what it shows.
-const TEXTS: [(&str, &str); 20] = [
+pub const TEXTS: [(&str, &str); 20] = [
     ("a lone RETURN", "R1"),
     ("IPv4 prefixes without the mapped bits", TWO_PREFIXES),
     ("four MATCHes of a byte: 32 bits", "x4 M256 R1"),
