@@ -1,7 +1,7 @@
 //! Maps built from prefixes, by hand on a few lists, and on many by other ways than `building` has: a trie into which records are put one
 //! by one and whose leaves of one number are joined from below, and a table of all addresses of few bits; both written by the writer that
 //! the trees of maps have. Refusals by a way of their own too, over the bits of records as text.
-use maps::lists::{record, Drawn};
+use maps::lists::{damaged, number_at_an_edge, record, Drawn};
 use maps::{Node, Random, Tree};
 use oracle::asmap::{pack_le, LONE_RETURN_ASMAP};
 use oracle::building::{build, built, hold, joined, read, stretches, MOST_BYTES, NUMBERS, TOO_LONG, WRONG_NUMBER, WRONG_PREFIX};
@@ -256,35 +256,6 @@ fn refused(list: &[u8], given: u32, width: u32) -> Option<Refusal> {
     }
     faults.extend((given == 0 || given > 33_521_664).then_some((all.len(), 22)));
     faults.into_iter().min().map(|(_, reason)| reason)
-}
-
-/// A list that is damaged in one place or two: a byte, a bit, an order, a number, or the end.
-fn damaged(random: &mut Random, list: &[u8]) -> Vec<u8> {
-    let mut list = list.to_vec();
-    for _ in 0..1 + random.below(2) {
-        if list.is_empty() {
-            return vec![0; random.below(30) as usize];
-        }
-        let place = random.below(list.len() as u64) as usize;
-        let start = place - place % RECORD;
-        let whole = list.len() - list.len() % RECORD;
-        match random.below(8) {
-            0 => list.truncate(place),
-            1 => list[place] = random.next() as u8,
-            2 if start + 2 * RECORD <= whole => list[start..start + 2 * RECORD].rotate_left(RECORD),
-            3 if start + RECORD <= whole => list.extend_from_within(start..start + RECORD),
-            4 if start + RECORD <= whole => list[start + 16] = random.below(140) as u8,
-            5 if start + RECORD <= whole => {
-                list[start + 20..start + RECORD].copy_from_slice(&number_at_an_edge(random).to_le_bytes())
-            }
-            _ => list[place] ^= 1 << random.below(8),
-        }
-    }
-    list
-}
-
-fn number_at_an_edge(random: &mut Random) -> u32 {
-    [0, 1, NUMBERS[1], NUMBERS[1] + 1, u32::MAX][random.below(5) as usize]
 }
 
 #[test]

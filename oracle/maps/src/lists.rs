@@ -95,3 +95,31 @@ pub fn apart(mut prefixes: Vec<(u128, u32, u32)>) -> Vec<u8> {
     }
     list
 }
+
+/// A number at an edge of those that there are, or next to it.
+pub fn number_at_an_edge(random: &mut Random) -> u32 {
+    [0, NUMBERS[0], NUMBERS[1], NUMBERS[1] + 1, u32::MAX][random.below(5) as usize]
+}
+
+/// A list with a change or two: a byte, a bit, a length, a number, two records exchanged, one twice, or its end lost. It may still be right.
+pub fn damaged(random: &mut Random, list: &[u8]) -> Vec<u8> {
+    let mut list = list.to_vec();
+    for _ in 0..1 + random.below(2) {
+        if list.is_empty() {
+            return vec![0; random.below(30) as usize];
+        }
+        let place = random.below(list.len() as u64) as usize;
+        let start = place - place % RECORD;
+        let records = (list.len() - start) / RECORD;
+        match random.below(8) {
+            0 => list.truncate(place),
+            1 => list[place] = random.next() as u8,
+            2 if records > 1 => list[start..start + 2 * RECORD].rotate_left(RECORD),
+            3 if records > 0 => list.extend_from_within(start..start + RECORD),
+            4 if records > 0 => list[start + 16] = random.below(140) as u8,
+            5 if records > 0 => list[start + 20..start + RECORD].copy_from_slice(&number_at_an_edge(random).to_le_bytes()),
+            _ => list[place] ^= 1 << random.below(8),
+        }
+    }
+    list
+}

@@ -304,3 +304,18 @@ pub fn load(seed: u64, pairs: usize, room: usize) -> Bytes {
     let answer = unsafe { sys::corbastrigo_load(seed, pairs, out.as_mut_ptr(), room, &mut written) };
     (answer, written, out)
 }
+
+// ---- maps built from prefixes
+
+/// How many bytes stand behind the lent ones of a build.
+pub const BEHIND: usize = 64;
+
+/// What stands behind the lent bytes is handed back too.
+pub fn build(records: &[u8], given: u32, width: u32, room: usize) -> Bytes {
+    let (mut out, mut written) = (vec![BEFORE; room + BEHIND], BEFORE_SIZE);
+    let answer = unsafe {
+        let at = out.as_mut_ptr();
+        sys::corbastrigo_build(records.as_ptr(), records.len(), given, width, at, room, &mut written)
+    };
+    (answer, written, out)
+}

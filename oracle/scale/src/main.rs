@@ -3,6 +3,7 @@
 //! call is one comparison.
 //!
 //!     scale [--long] [--seed N]
+mod builds;
 mod calls;
 mod changes;
 mod codes;
@@ -65,7 +66,7 @@ fn main() {
     println!("scale: seed {seed}");
     let mut tally = Tally::default();
     type Part = fn(&mut Tally, &mut Random, Form);
-    let parts: [(&str, Part); 17] = [
+    let parts: [(&str, Part); 18] = [
         ("codes", codes::run),
         ("short strings", programs::short_strings),
         ("random bytes", programs::random_bytes),
@@ -83,6 +84,7 @@ fn main() {
         ("cuts", cuts::run),
         ("loads", loads::run),
         ("numberings", numberings::run),
+        ("built maps", builds::run),
     ];
     for (number, (name, part)) in parts.into_iter().enumerate() {
         let (start, before) = (Instant::now(), tally.compared);

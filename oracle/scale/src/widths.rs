@@ -114,7 +114,7 @@ fn not_four_bytes(tally: &mut Tally, random: &mut Random, map: &[u8]) {
 }
 
 /// A number that is no width: any, or one that is near a width or has it in its lowest byte.
-fn drawn_no_width(random: &mut Random) -> u32 {
+pub fn drawn_no_width(random: &mut Random) -> u32 {
     loop {
         let near = [32, 128][random.below(2) as usize];
         let drawn = match random.below(4) {
@@ -167,7 +167,7 @@ pub fn compared(tally: &mut Tally, maps: [&[u8]; 2], same: bool) {
 }
 
 /// A map over at most 32 bits, or now and then one bit more.
-fn narrow_tree(random: &mut Random) -> Vec<u8> {
+pub fn narrow_tree(random: &mut Random) -> Vec<u8> {
     match random.below(8) {
         0 => {
             let (depth, ones) = (random.below(34) as u32, random.percent(50));

@@ -1,0 +1,277 @@
+//! Maps built from prefixes (document 02, CR 8): lists drawn at both widths, whole and damaged, into outputs of each length; what maps
+//! list, built again and compared with these; and maps at the limit and past it. Bytes and refusals are compared with document 02 worked
+//! through (`oracle::building`); every map is then, as the library wrote it, checked, walked and listed by the library, and walked by the
+//! original.
+use crate::calls::{self, BEFORE, BEFORE_SIZE, BEHIND};
+use crate::programs::{checked, left, number, tree};
+use crate::tally::Tally;
+use crate::widths::{drawn_no_width, narrow_tree};
+use crate::Form;
+use maps::lists::{damaged, number_at_an_edge, record, Drawn, NUMBERS};
+use maps::{shapes, size_of, Random, JUMP, RETURN};
+use oracle::asmap::AsMap;
+use oracle::building::{self, build, joined, stretches, MOST_BYTES, TOO_LONG, WRONG_NUMBER, WRONG_PREFIX};
+use oracle::changes::{Change, RECORD as CHANGE};
+use oracle::document::{Refusal, Verdict};
+use oracle::listing::{self, Prefix, RECORD};
+use oracle::width::{Width, W128, W32};
+
+const WIDTHS: [Width; 2] = [W32, W128];
+
+/// What a build is handed, but for the output.
+#[derive(Clone, Copy, Debug)]
+struct Asked<'a> {
+    records: &'a [u8],
+    given: u32,
+    width: u32,
+}
+
+impl Asked<'_> {
+    /// An output of so many bytes, and what stands behind it. Hands back what the library wrote.
+    fn into(self, tally: &mut Tally, made: &Result<Vec<u8>, Refusal>, room: usize) -> Vec<u8> {
+        let (answer, written, mut out) = left(made, room);
+        out.resize(room + BEHIND, BEFORE);
+        let mut ours = calls::build(self.records, self.given, self.width, room);
+        tally.same("build", &(self, room), &ours, &(answer, written, out));
+        ours.2.truncate(if ours.0 == 0 { ours.1.min(room) } else { 0 });
+        ours.2
+    }
+
+    /// Outputs just long enough, a byte shorter, longer, and none. Hands back the map as the library wrote it, or the refusal.
+    fn built(self, tally: &mut Tally) -> Result<Vec<u8>, Refusal> {
+        let made = build(self.records, self.given, self.width);
+        let needed = made.as_ref().map_or(40, Vec::len);
+        for room in [needed - 1, needed + 7, 0] {
+            self.into(tally, &made, room);
+        }
+        let map = self.into(tally, &made, needed);
+        made.map(|_| map)
+    }
+
+    fn prefixes(self) -> Vec<Prefix> {
+        self.records.chunks(RECORD).map(Prefix::of_record).collect()
+    }
+
+    /// A map, as the library wrote it: accepted at its width; it lists what the records say, joined by number; and the first and the last
+    /// address of each record and each gap, or of one in so many, and drawn ones walk to their number, by the original and by the library.
+    fn as_map(self, tally: &mut Tally, random: &mut Random, map: &[u8], step: usize) {
+        let width = Width::of(self.width).expect("a width");
+        let (verdict, check, _) = checked(tally, map, width);
+        tally.same("built map accepted", &self, matches!(verdict, Verdict::Accepted { .. }), true);
+        tally.same("check of a built map", &self, calls::sanity_check_bits(map, self.width), check);
+        let all = stretches(&self.prefixes(), self.given);
+        let (answer, needed) = calls::list_bytes_bits(map, self.width);
+        let listed = calls::list_bits(map, self.width, if answer == 0 { needed } else { 0 }).2;
+        let listed: Vec<Prefix> = listed.chunks(RECORD).map(Prefix::of_record).collect();
+        tally.same("list of a built map", &self, joined(&stretches(&listed, 0)), joined(&all));
+        let original = AsMap::from_bytes(map.to_vec());
+        let ends = all.iter().step_by(step).flat_map(|&(first, last, number)| [(first, number), (last, number)]);
+        let drawn: Vec<u128> = (0..4).map(|_| u128::from_be_bytes(random.address())).collect();
+        let drawn =
+            drawn.into_iter().map(|address| (address, building::number_of(&all, address).expect("all addresses have a number")));
+        for (address, number) in ends.chain(drawn) {
+            let address = address.to_be_bytes();
+            let walked = original.as_ref().map(|map| map.interpret_ip16(&address));
+            let (answer, _, ours, ..) = calls::interpret_bits(map, &address[..width.bytes()], self.width);
+            tally.same("walks of a built map", &(self, address), (walked, answer, ours), (Some(number), 0, number));
+        }
+    }
+}
+
+/// A list of one of the shapes, of at most so many records.
+fn drawn_list(random: &mut Random, width: Width, most: u64) -> Vec<u8> {
+    let bits = width.bits();
+    let numbers = if random.percent(10) { u64::from(NUMBERS[1]) } else { 1 + random.below(4) };
+    let (drawn, count) = (Drawn { width: bits, numbers }, random.below(most));
+    let least = random.below(u64::from(bits) + 1) as u32;
+    match random.below(4) {
+        0 => drawn.near(random, count),
+        1 => drawn.spread(random, count as usize, [least, bits]),
+        _ => drawn.tree(random, count),
+    }
+}
+
+/// A list, and copies of it that are damaged, with right and wrong numbers for all others and, now and then, no width.
+fn drawn(tally: &mut Tally, random: &mut Random, most: u64) {
+    let width = WIDTHS[random.below(2) as usize];
+    let records = drawn_list(random, width, most);
+    let asked = Asked { records: &records, given: 1 + random.below(4) as u32, width: width.bits() };
+    let map = asked.built(tally).expect("a list as it has to be");
+    asked.as_map(tally, random, &map, 1);
+    for _ in 0..4 {
+        let records = damaged(random, &records);
+        let given = if random.percent(10) { number_at_an_edge(random) } else { asked.given };
+        let asked = Asked { records: &records, given, ..asked };
+        if let Ok(map) = asked.built(tally) {
+            asked.as_map(tally, random, &map, 1);
+        }
+    }
+    let no_width = Asked { width: drawn_no_width(random), ..asked };
+    assert_eq!(no_width.built(tally), Err(18));
+    let other = Asked { width: 160 - asked.width, ..asked };
+    let _ = other.built(tally);
+}
+
+/// What two maps differ in at a width, by the library: the numbers of both.
+fn differing(maps: [&[u8]; 2], width: u32) -> (u8, Vec<(u32, u32)>) {
+    let (answer, bytes, _) = calls::compare_bytes_bits(maps, width, 16);
+    let room = if answer == 0 { bytes } else { 0 };
+    let (answer, _, records) = calls::compare_bits(maps, width, room);
+    (answer, records.chunks(CHANGE).map(Change::of_record).map(|change| (change.old, change.new)).collect())
+}
+
+/// What a map lists, built again: refused with the number 0 in it, which no built map has, and built without those records. Both maps
+/// differ in these alone; and what the new one lists makes the same bytes, whatever the number of all others.
+fn listed(tally: &mut Tally, random: &mut Random, map: &[u8], width: Width, step: usize) {
+    let bits = width.bits();
+    let Ok(prefixes) = listing::list_bits(map, width) else { return };
+    let numbered: Vec<Prefix> = prefixes.iter().copied().filter(|prefix| prefix.number != 0).collect();
+    let given = 1 + random.below(u64::from(NUMBERS[1])) as u32;
+    if numbered.len() < prefixes.len() {
+        let asked = Asked { records: &listing::records(&prefixes), given, width: bits };
+        asked.into(tally, &Err(WRONG_NUMBER), 64);
+    }
+    let records = listing::records(&numbered);
+    let asked = Asked { records: &records, given, width: bits };
+    let built = asked.built(tally).expect("a map that is not too long");
+    asked.as_map(tally, random, &built, step);
+    let (answer, mut changes) = differing([map, &built], bits);
+    changes.retain(|&change| change != (0, given));
+    tally.same("map and what is built of its list", &asked, (answer, changes), (0, vec![]));
+    let again = listing::records(&listing::list_bits(&built, width).expect("an accepted map"));
+    let other = Asked { records: &again, given: 1 + random.below(9) as u32, width: bits };
+    other.into(tally, &Ok(built.clone()), built.len());
+}
+
+/// Single addresses with their numbers, the first 15 bits of each one more than those of the one before it. No two lie near each other, so
+/// that each has 113 JUMPs of its own and as many RETURNs of the given number.
+type Addresses = Vec<(u128, u32)>;
+
+/// The greatest number, which has the longest RETURN, and is that of all other addresses.
+const GIVEN: u32 = NUMBERS[1];
+
+fn records_of(addresses: &[(u128, u32)]) -> Vec<u8> {
+    addresses.iter().flat_map(|&(address, number)| record(address, 128, number)).collect()
+}
+
+/// The bits of the map of such addresses under a prefix of so many bits, by lengths alone.
+fn bits_of(addresses: &[(u128, u32)], prefix: u32) -> u64 {
+    match addresses {
+        [] => size_of(RETURN, GIVEN.into()),
+        [(_, number), ..] if prefix == 128 => size_of(RETURN, (*number).into()),
+        _ => {
+            let (zero, one) = addresses.split_at(addresses.partition_point(|(address, _)| address >> (127 - prefix) & 1 == 0));
+            let [zero, one] = [zero, one].map(|half| bits_of(half, prefix + 1));
+            size_of(JUMP, zero) + zero + one
+        }
+    }
+}
+
+/// The last of some numbers, from 0 on, that fits, where all before it do.
+fn last_that(most: usize, fits: impl Fn(usize) -> bool) -> usize {
+    let (mut fitting, mut over) = (0, most);
+    while over - fitting > 1 {
+        let middle = fitting + (over - fitting) / 2;
+        *(if fits(middle) { &mut fitting } else { &mut over }) = middle;
+    }
+    fitting
+}
+
+/// As many addresses as a map of the limit has room for, then as many numbers of the longest RETURN among them as there is room for, then a
+/// last one of a fitting length: the map has all bits of the limit but a few that make no byte.
+fn to_the_limit(random: &mut Random) -> Addresses {
+    let fits = |addresses: &[(u128, u32)]| bits_of(addresses, 0) <= 8 * MOST_BYTES as u64;
+    let all = spread_addresses(random);
+    let mut list = all[..last_that(all.len(), |count| fits(&all[..count]))].to_vec();
+    let with = |count: usize, last: u32| {
+        let mut list = list.clone();
+        list[..count].iter_mut().for_each(|entry| entry.1 = GIVEN - 1);
+        list[count].1 = last;
+        list
+    };
+    let count = last_that(1_000, |count| fits(&with(count, 1)));
+    let last = (15..=24).rev().map(|size| (1 << size) - 32_767).find(|&number| fits(&with(count, number))).expect("1 fits");
+    list = with(count, last);
+    assert_eq!(bits_of(&list, 0).div_ceil(8), MOST_BYTES as u64, "not all of the limit is used");
+    list
+}
+
+fn spread_addresses(random: &mut Random) -> Addresses {
+    (0..1 << 15).map(|top| (top << 113 | u128::from_be_bytes(random.address()) >> 15, 1)).collect()
+}
+
+/// Told in the place of a list that is too long to be printed.
+const HUGE: &str = "a list whose map is of about the limit";
+
+/// A refusal of a long list, whatever room there is; 1 comes after all others but 14.
+fn refused(tally: &mut Tally, records: &[u8], given: u32, width: u32, reason: Refusal) {
+    for room in [0, 1_000] {
+        let expected = (number(reason), BEFORE_SIZE, vec![BEFORE; room + BEHIND]);
+        tally.same("build past the limit", &(HUGE, given, width, room), calls::build(records, given, width, room), expected);
+    }
+}
+
+/// A map that is half as long again as the limit, and the same with other faults, which come first.
+fn past_the_limit(tally: &mut Tally, random: &mut Random) {
+    let all = spread_addresses(random);
+    // A JUMP has 8 bits at least, and the RETURN of the given number 34.
+    assert!(all.len() * 113 * (8 + 34) > 8 * MOST_BYTES);
+    let mut records = records_of(&all);
+    let last = records.len() - RECORD;
+    refused(tally, &records, GIVEN, 128, TOO_LONG);
+    refused(tally, &records, GIVEN + 1, 128, WRONG_NUMBER);
+    refused(tally, &records, GIVEN, 129, 18);
+    refused(tally, &records, GIVEN, 32, WRONG_PREFIX);
+    refused(tally, &records[1..], GIVEN, 128, WRONG_PREFIX);
+    records[last + 20..].copy_from_slice(&0u32.to_le_bytes());
+    refused(tally, &records, GIVEN, 128, WRONG_NUMBER);
+    records[last + 17] = 1;
+    refused(tally, &records, GIVEN, 128, WRONG_PREFIX);
+}
+
+/// A map of the limit, to its last byte, by document 02 worked through; and of one byte more.
+fn at_the_limit(tally: &mut Tally, random: &mut Random) {
+    let mut list = to_the_limit(random);
+    let records = records_of(&list);
+    let asked = Asked { records: &records, given: GIVEN, width: 128 };
+    let map = asked.built(tally).expect("a map of the limit");
+    assert_eq!(map.len(), MOST_BYTES);
+    asked.as_map(tally, random, &map, 97);
+    let place = list.iter().rposition(|&(_, number)| number == 1).expect("most have the least number");
+    let too_long = (16..=24).any(|size| {
+        list[place].1 = (1 << size) - 32_767;
+        bits_of(&list, 0) > 8 * MOST_BYTES as u64
+    });
+    assert!(too_long && bits_of(&list, 0) <= 8 * MOST_BYTES as u64 + 8, "not one byte more");
+    refused(tally, &records_of(&list), GIVEN, 128, TOO_LONG);
+}
+
+/// Lists as long as operators have them: IPv4 prefixes of a map's mapped form and by themselves, and IPv6 prefixes.
+fn long_lists(tally: &mut Tally, random: &mut Random, count: usize) {
+    for (width, lengths) in [(32, [16, 24]), (32, [24, 24]), (128, [20, 48])] {
+        let records = Drawn { width, numbers: 70_000 }.spread(random, count, lengths);
+        let asked = Asked { records: &records, given: 64_512, width };
+        let map = asked.built(tally).expect("a list as it has to be");
+        asked.as_map(tally, random, &map, 97);
+    }
+}
+
+pub fn run(tally: &mut Tally, random: &mut Random, form: Form) {
+    for round in 0..form.choose(1_600, 20_000) {
+        drawn(tally, random, if round % 20 == 0 { 400 } else { 24 });
+    }
+    for _ in 0..form.choose(600, 8_000) {
+        let (wide, narrow) = (tree(random), narrow_tree(random));
+        listed(tally, random, &wide, W128, 1);
+        listed(tally, random, &narrow, W32, 1);
+    }
+    let large = form.choose(100_000, 2_800_000);
+    let (wide, narrow) = (shapes::real(random, large), shapes::ipv4(random, large));
+    listed(tally, random, &wide, W128, 97);
+    listed(tally, random, &narrow, W32, 97);
+    long_lists(tally, random, form.choose(4_000, 100_000));
+    past_the_limit(tally, random);
+    if form == Form::Long {
+        at_the_limit(tally, random);
+    }
+}
