@@ -76,8 +76,7 @@ enum corbastrigo_refusal {
     CORBASTRIGO_WIDTH = 18,              /* a width that is neither 32 nor 128 */
     CORBASTRIGO_CUT_OPERAND = 19,        /* an operand cut by the map's end */
     CORBASTRIGO_LOAD = 20,               /* a seed of 0, or more than 128 pairs */
-    CORBASTRIGO_PREFIX = 21,             /* record bytes no multiple of 24, or a prefix out of order, overlapping, longer than the width,
-                                            with ones past it or wrong zeros */
+    CORBASTRIGO_PREFIX = 21,             /* records not of 24 bytes, or a prefix out of order, overlapping, too long or with wrong zeros */
     CORBASTRIGO_NUMBER = 22              /* a number that is not within 1 to 33,521,664 */
 };
 
