@@ -1,5 +1,5 @@
 use crate::open::{self, OpenError};
-use crate::{interpret, interpret_bits, ip16_for_lookup, load, sanity_check, sanity_check_bits, End, Refusal, Walk};
+use crate::{build, interpret, interpret_bits, ip16_for_lookup, load, sanity_check, sanity_check_bits, End, Prefix, Refusal, Walk};
 use std::io;
 use std::net::{IpAddr, Ipv4Addr};
 use std::path::Path;
@@ -19,6 +19,12 @@ impl<const WIDTH: u32> Accepted<WIDTH> {
             width => sanity_check_bits(&bytes, width)?,
         };
         Ok(Accepted { bytes })
+    }
+
+    fn build(prefixes: &[Prefix], given: u32) -> Result<Self, Refusal> {
+        let records: Vec<u8> = prefixes.iter().flat_map(|prefix| prefix.record()).collect();
+        // The check accepts every map that is built, and is asked all the same.
+        Self::checked(build(&records, given, WIDTH)?)
     }
 
     fn open(path: &Path) -> Result<Self, OpenError> {
@@ -118,6 +124,36 @@ impl AsMap {
     /// ```
     pub fn from_path(path: &Path) -> io::Result<Option<AsMap>> {
         Ok(Accepted::from_path(path)?.map(AsMap))
+    }
+
+    /// The map of a list of prefixes, which rise by address and do not overlap, and of a number for all other addresses, as
+    /// [`build`](crate::build()) makes it: for whoever undoes single prefixes of a map. IPv4 stands under ::ffff:0:0/96, as
+    /// [`list`](crate::list()) has it. Refusals 21, 22, 1.
+    ///
+    /// ```
+    /// use corbastrigo::{list, prefixes, AsMap, Prefix, Refusal};
+    /// use std::net::Ipv4Addr;
+    ///
+    /// let network = |a, b, length: u8, number| {
+    ///     Prefix { address: Ipv4Addr::new(a, b, 0, 0).to_ipv6_mapped().octets(), length: 96 + length, number }
+    /// };
+    /// let old = AsMap::build(&[network(1, 2, 16, 11), network(3, 4, 16, 22)], 1)?;
+    /// let new = AsMap::build(&[network(1, 2, 16, 99), network(3, 4, 16, 99)], 1)?;
+    /// // Of the new map 1.2.0.0/16 alone is undone.
+    /// let mut listed: Vec<Prefix> = prefixes(&list(new.as_bytes())?).collect();
+    /// for prefix in &mut listed {
+    ///     if (prefix.address, prefix.length) == (network(1, 2, 16, 0).address, 96 + 16) {
+    ///         prefix.number = old.interpret_ip16(&prefix.address);
+    ///     }
+    /// }
+    /// let undone = AsMap::build(&listed, 1)?;
+    /// let numbers = [[1, 2, 3, 4], [3, 4, 5, 6], [5, 6, 7, 8]].map(|address| undone.mapped_as(Ipv4Addr::from(address).into()));
+    /// assert_eq!(numbers, [11, 99, 1]);
+    /// assert_eq!(AsMap::build(&[network(1, 2, 16, 0)], 1), Err(Refusal::Number));
+    /// # Ok::<(), Refusal>(())
+    /// ```
+    pub fn build(prefixes: &[Prefix], given: u32) -> Result<AsMap, Refusal> {
+        Accepted::build(prefixes, given).map(AsMap)
     }
 
     /// The load of a seed and a number of pairs, as [`load`](crate::load()) makes it: a map to measure groups and picks with that everyone can
@@ -267,6 +303,23 @@ impl AsMap4 {
     /// ```
     pub fn checked(bytes: Vec<u8>) -> Result<AsMap4, Refusal> {
         Accepted::checked(bytes).map(AsMap4)
+    }
+
+    /// The map of a list of prefixes and of a number for all other addresses, as [`AsMap::build`] has it, of four-byte addresses: they stand in
+    /// the first four bytes of [`Prefix::address`], and lengths are as one writes them. Refusals 21, 22, 1.
+    ///
+    /// ```
+    /// use corbastrigo::{AsMap4, Prefix, Refusal};
+    ///
+    /// let mut address = [0; 16];
+    /// address[..2].copy_from_slice(&[1, 2]);
+    /// let map = AsMap4::build(&[Prefix { address, length: 16, number: 7 }], 1)?;
+    /// assert_eq!([[1, 2, 3, 4], [1, 3, 3, 4]].map(|address| map.mapped_as(address.into())), [7, 1]);
+    /// assert_eq!(AsMap4::build(&[Prefix { address, length: 33, number: 7 }], 1), Err(Refusal::Prefix));
+    /// # Ok::<(), Refusal>(())
+    /// ```
+    pub fn build(prefixes: &[Prefix], given: u32) -> Result<AsMap4, Refusal> {
+        Accepted::build(prefixes, given).map(AsMap4)
     }
 
     /// A map from a file, or why there is none, as [`AsMap::open`] has it.

@@ -1,7 +1,7 @@
+use crate::memory::zeros;
 use crate::records::number_at;
 use crate::{Refusal, MAX_MAP_BYTES};
 use corbastrigo_sys as sys;
-use std::alloc::{alloc_zeroed, Layout};
 use std::error::Error;
 use std::fmt;
 
@@ -195,22 +195,6 @@ fn write_into(old: &[u8], new: &[u8], width: Option<u32>, out: &mut [u8]) -> Res
     Ok(written)
 }
 
-/// So many zeros, or nothing where there is no memory for them. The system makes a page of them when it is first written to, so that what a
-/// comparison does not use of a large output costs nothing; zeros written one by one would have every page made.
-fn zeros(length: usize) -> Option<Vec<u8>> {
-    let layout = Layout::array::<u8>(length).ok()?;
-    if length == 0 {
-        return Some(Vec::new());
-    }
-    // SAFETY: the layout has a byte at least.
-    let start = unsafe { alloc_zeroed(layout) };
-    if start.is_null() {
-        return None;
-    }
-    // SAFETY: the bytes were just got from the allocator that vectors use, so many as the vector is told, and all of them are 0.
-    Some(unsafe { Vec::from_raw_parts(start, length, length) })
-}
-
 /// The most bytes that the comparison of two maps can have, by their lengths alone: a record for each prefix of both, and a map of n bytes has
 /// at most 32n / 9. To ask how many there are takes a check of each map, a third more time where little has changed.
 fn most_bytes(old: &[u8], new: &[u8]) -> usize {
@@ -290,12 +274,5 @@ mod tests {
                 }
             }
         }
-    }
-
-    #[test]
-    fn zeros_are_zeros_or_none() {
-        assert_eq!(zeros(0), Some(vec![]));
-        assert_eq!(zeros(5), Some(vec![0; 5]));
-        assert_eq!((zeros(isize::MAX as usize), zeros(usize::MAX)), (None, None));
     }
 }

@@ -1,16 +1,17 @@
-//! Bitcoin's address map (asmap), peer groups, address filters and loads: a safe crate over the calls of libcorbastrigo.a, each of which is
-//! proved to meet its contract for every input.
+//! Bitcoin's address map (asmap), maps built from prefixes, peer groups, address filters and loads: a safe crate over the calls of
+//! libcorbastrigo.a, each of which is proved to meet its contract for every input.
 //!
 //! The names that a node calls are those of rbitcoin: [`AsMap`], [`netgroup()`], [`select_diverse`], [`prefix_group`],
 //! [`clearnet_unroutable`], [`addrv2_skip_relay`]. Beside them stands what is new: [`sanity_check`] with its reason, count and depth,
 //! [`sanity_check_stop`] with the bit at which it stops, [`interpret`] with its kind of end and counts, [`list`] with every prefix that a
-//! map tells apart, [`compare`] with every prefix that two maps send elsewhere, [`unpack`], [`pack`], the [`codes`], [`scan_occupied`]
-//! with the place of a group among the occupied ones, [`page()`] with the share of each group in a list of candidates, and [`load`] with a
-//! map to measure with that everyone can make again from a seed.
+//! map tells apart, [`compare`] with every prefix that two maps send elsewhere, [`build`] with the map of a list of prefixes, [`unpack`],
+//! [`pack`], the [`codes`], [`scan_occupied`] with the place of a group among the occupied ones, [`page()`] with the share of each group in a
+//! list of candidates, and [`load`] with a map to measure with that everyone can make again from a seed.
 //!
 //! A node of IPv4 alone may keep a map of four-byte addresses, without the 96 bits that stand in front of them elsewhere: that is an
 //! [`AsMap4`]. Check, walk, unpack, list and compare have a form for the bytes of one whose name ends in `_bits` and which takes the width,
-//! 32 or 128. A map is walked at the width at which it was checked, and at no other; groups, picks and pages are by an [`AsMap`].
+//! 32 or 128; [`build`] always takes it. A map is walked at the width at which it was checked, and at no other; groups, picks and pages are
+//! by an [`AsMap`].
 //!
 //! Without a map a group is the prefix of an address, by a numbering that is not rbitcoin's: IPv4, mapped or not, has its groups from
 //! [`IPV4_GROUPS`] on, and IPv6 all below ([`netgroup()`]). rbitcoin's is the old numbering. [`prefix_group`], [`old_prefix_pick`] and
@@ -41,10 +42,12 @@
 #![deny(clippy::undocumented_unsafe_blocks)]
 
 mod accepted;
+mod builds;
 mod changes;
 pub mod codes;
 mod loads;
 mod map;
+mod memory;
 mod netaddr;
 mod netgroup;
 mod open;
@@ -54,6 +57,7 @@ mod records;
 mod refusal;
 
 pub use accepted::{AsMap, AsMap4};
+pub use builds::{build, build_into, refused_record};
 pub use changes::{changes, compare, compare_bits, compare_bytes, compare_bytes_bits, compare_into, compare_into_bits};
 pub use changes::{first_change, first_change_bits, Change, CompareError, CHANGE_BYTES};
 pub use loads::{load, load_address, load_into, Generator, LOAD_BYTES};

@@ -19,7 +19,7 @@ pub struct Prefix {
 }
 
 impl Prefix {
-    /// The record of a prefix, as [`list`] writes it.
+    /// The record of a prefix, as [`list`] writes it and [`build`](crate::build()) takes it.
     pub fn record(self) -> [u8; PREFIX_BYTES] {
         let mut record = [0; PREFIX_BYTES];
         record[..16].copy_from_slice(&self.address);

@@ -5,7 +5,7 @@ use corbastrigo_sys as sys;
 pub const RECORD_BYTES: usize = 16;
 
 /// The most bits of an instruction.
-const MOST_BITS: usize = 57;
+pub(crate) const MOST_BITS: usize = 57;
 
 /// An instruction of a map.
 #[derive(Clone, Copy, Debug, PartialEq, Eq)]
