@@ -2,6 +2,7 @@
 //!
 //! Where a call is asked past the safe crate, everything that was lent to it holds known bytes before (`calls`), so that a refused call can
 //! be seen to have left all of it.
+mod builds;
 #[path = "../../../../oracle/scale/src/calls.rs"]
 mod calls;
 mod changes;

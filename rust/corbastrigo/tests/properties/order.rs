@@ -1,6 +1,7 @@
 //! Of several faults a call names the one that document 01 puts first ("Order"), and a refused call leaves everything that was lent.
-//! Codes are in `codes`, the reasons of the check in `check`, unpack and pack in `packed`, the list of prefixes in `prefixes`, the
-//! comparison of two maps in `changes`, the scan of the occupied groups in `scans`, widths that are none in `widths`, the page in `pages`.
+//! Codes are in `codes`, the reasons of the check in `check`, unpack and pack in `packed`, the list of prefixes in `prefixes`, the map built
+//! from such a list in `builds`, the comparison of two maps in `changes`, the scan of the occupied groups in `scans`, widths that are none in
+//! `widths`, the page in `pages`.
 use crate::calls::{self, Asked, BEFORE, BEFORE16, BEFORE32, BEFORE64, BEFORE_SIZE};
 use crate::programs::programs;
 use crate::{holds, too_long};
