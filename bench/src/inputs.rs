@@ -1,4 +1,5 @@
 //! Maps, addresses and lists of candidates, the same in every run.
+use maps::lists::{apart, first_of, RECORD};
 use maps::{rewrite, shapes, Node, Random, Tree};
 use std::collections::{BTreeSet, HashSet};
 use std::net::{IpAddr, Ipv4Addr, Ipv6Addr, SocketAddr};
@@ -64,6 +65,47 @@ pub fn loads(pairs: usize, seeds: u64) -> Vec<(Vec<u8>, [u8; 16])> {
     let load = |seed| (corbastrigo::load(seed, pairs), corbastrigo::load_address(seed, pairs));
     let made = (corbastrigo::Generator::DEFAULT_SEED..=seeds).map(load);
     made.map(|(map, address)| (map.expect("a load"), address.expect("its address"))).collect()
+}
+
+/// So many prefixes of one length around drawn addresses, each with a number as they are given out.
+fn drawn_list(count: usize, length: u32, address: impl Fn(&mut Random) -> u128) -> Vec<u8> {
+    let random = &mut Random(SEED + 8);
+    let (mut met, mut prefixes) = (BTreeSet::new(), Vec::with_capacity(count));
+    while prefixes.len() < count {
+        let first = first_of(address(random), length);
+        if met.insert(first) {
+            prefixes.push((first, length, 1 + random.below(400_000) as u32));
+        }
+    }
+    apart(prefixes)
+}
+
+/// What a map lists at a width, without the number 0, which no map that is built has.
+fn listed_again(map: &[u8], width: u32) -> Vec<u8> {
+    let listed = corbastrigo::list_bits(map, width).expect("the shapes are accepted");
+    listed.chunks(RECORD).filter(|record| record[20..] != [0; 4]).collect::<Vec<&[u8]>>().concat()
+}
+
+/// Lists of prefixes to build maps from, each with its name and its width: prefixes of IPv4, mapped and alone, and of IPv6, few and many;
+/// single addresses, whose map is about as long as a map may be; and what maps list.
+pub fn lists() -> Vec<(String, u32, Vec<u8>)> {
+    let mapped = |random: &mut Random| u128::from(ipv4(random).to_ipv6_mapped());
+    let alone = |random: &mut Random| u128::from(u32::from(ipv4(random))) << 96;
+    let wide = |random: &mut Random| u128::from(ipv6(random));
+    let mut lists = vec![(String::from("nothing"), 128, vec![])];
+    for count in [1, 10, 100, 1_000, 10_000, 100_000] {
+        lists.push((String::from("mapped IPv4 /24"), 128, drawn_list(count, 96 + 24, mapped)));
+    }
+    for (name, width, records) in [
+        ("IPv6 /48", 128, drawn_list(100_000, 48, wide)),
+        ("IPv4 /24 at 32", 32, drawn_list(100_000, 24, alone)),
+        ("IPv6 addresses", 128, drawn_list(37_000, 128, wide)),
+        ("what a real map lists", 128, listed_again(&real(1_500_000), 128)),
+        ("what an IPv4 tree lists at 32", 32, listed_again(&shapes::ipv4(&mut Random(SEED), 1_500_000), 32)),
+    ] {
+        lists.push((String::from(name), width, records));
+    }
+    lists
 }
 
 /// Two more for the listing, since real maps of 1.6 MB have about 850,000 prefixes: one of that size and one of about that many prefixes.

@@ -2,7 +2,7 @@
 //! in docs/BENCHMARKS.md.
 //!
 //!     bench                     every part
-//!     bench PART...             some of: check walk width records list compare codes group pick scan page load filters growth
+//!     bench PART...             some of: check walk width records list compare build codes group pick scan page load filters growth
 //!     bench --count CALL BYTES  one call of ours alone, many times, for a tool that counts instructions: check, walk, unpack,
 //!                               pack, list or compare
 #[allow(dead_code)]
@@ -24,6 +24,7 @@ mod error {
     }
 }
 
+mod build;
 mod compare;
 mod inputs;
 mod load;
@@ -40,8 +41,8 @@ fn main() {
         return parts::count(call, bytes.parse().expect("a number of bytes"));
     }
     let all = [
-        "check", "walk", "width", "records", "list", "compare", "codes", "group", "pick", "scan", "page", "load", "filters",
-        "growth",
+        "check", "walk", "width", "records", "list", "compare", "build", "codes", "group", "pick", "scan", "page", "load",
+        "filters", "growth",
     ];
     let chosen = if words.is_empty() { &all[..] } else { &words };
     for part in chosen {
@@ -52,6 +53,7 @@ fn main() {
             "records" => parts::records(),
             "list" => parts::list(),
             "compare" => compare::part(),
+            "build" => build::part(),
             "codes" => parts::codes(),
             "group" => parts::group(),
             "pick" => parts::pick(),
