@@ -4,13 +4,14 @@
 //! original.
 use crate::calls::{self, BEFORE, BEFORE_SIZE, BEHIND};
 use crate::programs::{checked, left, number, tree};
+use crate::safe::named;
 use crate::tally::Tally;
 use crate::widths::{drawn_no_width, narrow_tree};
 use crate::Form;
 use maps::lists::{damaged, number_at_an_edge, record, Drawn, NUMBERS};
 use maps::{shapes, size_of, Random, JUMP, RETURN};
 use oracle::asmap::AsMap;
-use oracle::building::{self, build, joined, stretches, MOST_BYTES, TOO_LONG, WRONG_NUMBER, WRONG_PREFIX};
+use oracle::building::{self, build, joined, read, stretches, MOST_BYTES, TOO_LONG, WRONG_NUMBER, WRONG_PREFIX};
 use oracle::changes::{Change, RECORD as CHANGE};
 use oracle::document::{Refusal, Verdict};
 use oracle::listing::{self, Prefix, RECORD};
@@ -31,6 +32,10 @@ impl Asked<'_> {
     fn into(self, tally: &mut Tally, made: &Result<Vec<u8>, Refusal>, room: usize) -> Vec<u8> {
         let (answer, written, mut out) = left(made, room);
         out.resize(room + BEHIND, BEFORE);
+        let mut lent = vec![BEFORE; room + BEHIND];
+        let told = corbastrigo::build_into(self.records, self.given, self.width, &mut lent[..room]);
+        let expected = if answer == 0 { Ok(written) } else { Err(named(answer.into())) };
+        tally.same("safe build into", &(self, room), (told, &lent), (expected, &out));
         let mut ours = calls::build(self.records, self.given, self.width, room);
         tally.same("build", &(self, room), &ours, &(answer, written, out));
         ours.2.truncate(if ours.0 == 0 { ours.1.min(room) } else { 0 });
@@ -45,7 +50,27 @@ impl Asked<'_> {
             self.into(tally, &made, room);
         }
         let map = self.into(tally, &made, needed);
+        let safe = corbastrigo::build(self.records, self.given, self.width);
+        tally.same("safe build", &self, safe, made.clone().map_err(named));
         made.map(|_| map)
+    }
+
+    /// The place and the reason of the first record that is wrong, whatever the number of all others and the bytes behind the last record.
+    fn wrong_record(self, tally: &mut Tally) {
+        let whole = self.records.len() / RECORD;
+        let reason = |count: &usize| read(&self.records[..count * RECORD], 1, self.width).err().filter(|&reason| reason != 18);
+        let first = (1..=whole).find_map(|count| reason(&count).map(|reason| (count - 1, named(reason))));
+        tally.same("safe wrong record", &self, corbastrigo::refused_record(self.records, self.width), first);
+    }
+
+    /// The safe crate's maps of prefixes, which are sane as they are.
+    fn safe_map(self, tally: &mut Tally, map: &[u8]) {
+        let prefixes: Vec<corbastrigo::Prefix> = corbastrigo::prefixes(self.records).collect();
+        let made = match self.width {
+            32 => corbastrigo::AsMap4::build(&prefixes, self.given).map(|map| map.as_bytes().to_vec()),
+            _ => corbastrigo::AsMap::build(&prefixes, self.given).map(|map| map.as_bytes().to_vec()),
+        };
+        tally.same("safe map of prefixes", &self, made, Ok(map.to_vec()));
     }
 
     fn prefixes(self) -> Vec<Prefix> {
@@ -98,16 +123,19 @@ fn drawn(tally: &mut Tally, random: &mut Random, most: u64) {
     let asked = Asked { records: &records, given: 1 + random.below(4) as u32, width: width.bits() };
     let map = asked.built(tally).expect("a list as it has to be");
     asked.as_map(tally, random, &map, 1);
+    asked.safe_map(tally, &map);
     for _ in 0..4 {
         let records = damaged(random, &records);
         let given = if random.percent(10) { number_at_an_edge(random) } else { asked.given };
         let asked = Asked { records: &records, given, ..asked };
+        asked.wrong_record(tally);
         if let Ok(map) = asked.built(tally) {
             asked.as_map(tally, random, &map, 1);
         }
     }
     let no_width = Asked { width: drawn_no_width(random), ..asked };
     assert_eq!(no_width.built(tally), Err(18));
+    no_width.wrong_record(tally);
     let other = Asked { width: 160 - asked.width, ..asked };
     let _ = other.built(tally);
 }

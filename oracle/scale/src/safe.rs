@@ -5,6 +5,7 @@ use crate::Form;
 use corbastrigo::{CompareError, End, Page, Refusal};
 use maps::{shapes, Random};
 use oracle::asmap::AsMap;
+use oracle::building::{WRONG_NUMBER, WRONG_PREFIX};
 use oracle::document::{self, Verdict, CUT_OPCODE, CUT_OPERAND};
 use oracle::loads::NO_LOAD;
 use std::collections::{BTreeMap, HashSet};
@@ -111,6 +112,8 @@ pub fn named(reason: document::Refusal) -> Refusal {
         CUT_OPCODE => Refusal::CutOpcode,
         CUT_OPERAND => Refusal::CutOperand,
         NO_LOAD => Refusal::Load,
+        WRONG_PREFIX => Refusal::Prefix,
+        WRONG_NUMBER => Refusal::Number,
         _ => Refusal::from_number(number(reason)).expect("0 is no refusal"),
     }
 }
