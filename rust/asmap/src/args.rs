@@ -95,6 +95,19 @@ pub enum Command {
     /// is 1; with --unchecked it is written, and the exit status is 0.
     #[command(after_help = "Example:\n  asmap unpack node.asmap | asmap pack -o copy.asmap -")]
     Pack(Pack),
+    /// Make a map from a list of prefixes
+    ///
+    /// The list is what `asmap list` writes, with what was changed in it: one prefix a line with its number, 1.2.0.0/16 AS1. Lines may stand in
+    /// any order, and blank lines and what is behind `#` are left out. All addresses that no line holds get the number of --else. Neighbours of
+    /// one number are joined, so that the same numbers make the same map whatever the lines are. The check accepts every map that is built.
+    ///
+    /// Lines that overlap are refused, 21, and so is a prefix with ones behind its length; numbers other than 1 to 33521664 are refused, 22.
+    /// `asmap list` writes AS0 of addresses whose walk differed before any DEFAULT was met: leave these lines out, so that their addresses get
+    /// the number of --else, or give them a number of their own.
+    #[command(
+        after_help = "Examples:\n  asmap list node.asmap > list.txt\n  asmap build --else 64496 -o built.asmap list.txt\n  asmap list node.asmap | grep -v ' AS0$' | asmap build --else 64496 -o built.asmap -"
+    )]
+    Build(Build),
     /// Make a load: a map to measure with that everyone can make again from a seed
     ///
     /// A load is so many pairs of a DEFAULT and a MATCH of one bit, then a RETURN. Their numbers and bits are drawn from the seed, so that the
@@ -278,6 +291,24 @@ pub struct Pack {
     /// Write a map that the check refuses too, for tests and teaching
     #[arg(long)]
     pub unchecked: bool,
+    #[command(flatten)]
+    pub bits: Bits,
+}
+
+#[derive(Args, Debug)]
+pub struct Build {
+    /// The list of prefixes as `asmap list` writes it; `-` reads standard input
+    #[arg(value_name = "LIST")]
+    pub list: PathBuf,
+    /// The number of all addresses that the list does not hold, in decimal: 1 to 33521664
+    #[arg(long = "else", value_name = "NUMBER")]
+    pub others: u32,
+    /// The list is records of 24 bytes, as `asmap list --records` writes them, instead of text; they have to rise by address
+    #[arg(long)]
+    pub records: bool,
+    /// Write the map to this file instead of standard output
+    #[arg(short, long, value_name = "FILE")]
+    pub output: Option<PathBuf>,
     #[command(flatten)]
     pub bits: Bits,
 }

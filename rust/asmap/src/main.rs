@@ -1,6 +1,7 @@
 //! `asmap`: Bitcoin's address maps at the command line. What decides anything is a call of the proved library; this program reads
 //! arguments and files, and words the answers.
 mod args;
+mod build;
 mod cause;
 mod check;
 mod compared;
@@ -53,6 +54,7 @@ fn run(command: Command, out: &mut Out) -> Outcome {
         Command::UndoCheck(asked) => undo_check::run(&asked, out),
         Command::Unpack(asked) => unpack::run(&asked, out),
         Command::Pack(asked) => pack::run(&asked, out),
+        Command::Build(asked) => build::run(&asked, out),
         Command::Load(asked) => load::run(&asked, out),
         Command::Group(asked) => group::run(&asked, out),
         Command::Pick(asked) => pick::run(&asked, out),

@@ -91,6 +91,27 @@ impl Width {
         }
     }
 
+    /// A prefix as text: what a record has of it, the address and the length. An IPv4 prefix at 128 bits has 96 in front.
+    pub fn prefix(self, word: &str) -> Result<([u8; 16], u8), Failure> {
+        let forms = if self.is_ipv4() { "1.2.0.0/16" } else { "1.2.0.0/16 or 2001:db8::/32" };
+        let none = || Failure::new(format!("{word:?} is no prefix; write {forms}"));
+        let (address, length) = word.split_once('/').ok_or_else(none)?;
+        let address: IpAddr = address.parse().map_err(|_| none())?;
+        let digits = !length.is_empty() && length.bytes().all(|byte| byte.is_ascii_digit());
+        let most = if address.is_ipv4() { 32 } else { 128 };
+        let length = length.parse().ok().filter(|&length: &u8| digits && length <= most).ok_or_else(none)?;
+        match (address, self.is_ipv4()) {
+            (IpAddr::V6(_), true) => {
+                Err(Failure::new(format!("{word:?} is no IPv4 prefix, and a map of width 32 has no others; write {forms}")))
+            }
+            (IpAddr::V4(v4), true) => {
+                let [a, b, c, d] = v4.octets();
+                Ok(([a, b, c, d, 0, 0, 0, 0, 0, 0, 0, 0, 0, 0, 0, 0], length))
+            }
+            (address, false) => Ok((ip16_for_lookup(address), length + if address.is_ipv4() { 96 } else { 0 })),
+        }
+    }
+
     /// The prefix that a record holds.
     pub fn network(self, address: [u8; 16], length: u8) -> Network {
         Network { address: self.of_record(address), length }
