@@ -98,7 +98,7 @@ fn fields(object: &Value) -> Vec<&String> {
 }
 
 /// The sections of the page that name the fields, and a command line that prints them.
-const OBJECTS: [(&[&str], &[&str]); 16] = [
+const OBJECTS: [(&[&str], &[&str]); 17] = [
     (&["check"], &["check", "two.asmap", "cut.asmap"]),
     (&["walk"], &["walk", "two.asmap", "1.2.3.4"]),
     (&["walk", "trace"], &["trace", "two.asmap", "1.2.3.4"]),
@@ -108,6 +108,7 @@ const OBJECTS: [(&[&str], &[&str]); 16] = [
     (&["diff", "undo-check"], &["undo-check", "two.asmap", "loopback.asmap"]),
     (&["unpack"], &["unpack", "two.asmap"]),
     (&["pack"], &["pack", "-o", "new.asmap", "list.txt"]),
+    (&["build"], &["build", "--else", "9", "-o", "built.asmap", "prefixes.txt"]),
     (&["load"], &["load", "--pairs", "2", "-o", "load.asmap"]),
     (&["group"], &["group", "1.2.3.4"]),
     (&["group"], &["group", "--old-prefixes", "::ffff:1.2.3.4"]),
@@ -129,6 +130,7 @@ fn the_page_names_every_field() {
     let page = page("ASMAP.md");
     let folder = folder();
     folder.write("list.txt", "RETURN 1\n");
+    folder.write("prefixes.txt", "1.2.0.0/16 AS1\n");
     for (sections, arguments) in OBJECTS {
         let sections: String = sections.iter().map(|subcommand| section(&page, subcommand)).collect();
         let output = folder.output(&[&["--json"], arguments].concat());
