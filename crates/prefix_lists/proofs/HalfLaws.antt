@@ -64,10 +64,6 @@ module _ (a : Address) where
   pub zero-high : (a .high ≡ 0 → ⊥) → eqb (a .high) 0 ≡ eqb (valueOf a) 0
   zero-high n = same-zero (a .high) (valueOf a) (λ h. absurd (n h)) (λ h. omega (arith, h))
 
--- a power of two by a shift
-pub shifted : (k : ℕ) → k < 64 → 1 * 2 ^ k % 2 ^ 64 ≡ 2 ^ k
-shifted k h = pow.shl-exact {a = 1} 1 k 64 (omega arith) (omega arith) ∙ omega arith
-
 -- a number of 64 bits is 0 where its lowest 64 are
 pub zeros-all : (x k : ℕ) → x < 2 ^ 64 → k ≡ 64 → eqb x 0 ≡ eqb (x % 2 ^ k) 0
 zeros-all x k h e = ap (λ (n : ℕ). eqb n 0) (sym (mod-eq-of-lt h) ∙ ap (λ (n : ℕ). x % 2 ^ n) (sym e))
