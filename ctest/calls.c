@@ -1412,8 +1412,16 @@ static void two_records(uint32_t first, uint8_t first_length, uint32_t second, u
     }
 }
 
-/* In order, and out of it; in each other, the same, and next to each other. */
+/* In order, and out of it; in each other, the same, and next to each other. An address alone is its prefix's first and last. */
 static void orders(void) {
+    uint8_t records[48];
+    for (uint32_t width = 32; width <= 128; width += 96) {
+        listed(records, 0x0affffff, (uint8_t)width, 2);
+        memcpy(records + 24, records, 24);
+        refused_build(records, 48, width, CORBASTRIGO_PREFIX);
+        listed(records + 24, 0x0b000000, (uint8_t)width, 2);
+        build(records, 2, 1, width);
+    }
     two_records(0x0a000000, 8, 0x0b000000, 8, 0);
     two_records(0x0b000000, 8, 0x0a000000, 8, CORBASTRIGO_PREFIX);
     two_records(0x0a000000, 8, 0x0a000000, 8, CORBASTRIGO_PREFIX);

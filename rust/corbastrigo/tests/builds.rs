@@ -311,8 +311,8 @@ fn a_prefix_that_is_wrong_is_refused_before_its_number() {
 
 #[test]
 fn prefixes_rise_and_none_lies_in_another() {
+    let last = u32::MAX;
     for width in WIDTHS {
-        let last = u32::MAX;
         for (first, second, right) in [
             ((0x0a00_0000, 8), (0x0b00_0000, 8), true),
             ((0x0aff_ffff, 32), (0x0b00_0000, 32), true),
@@ -340,6 +340,10 @@ fn prefixes_rise_and_none_lies_in_another() {
     let whole = Prefix { address: [0xff; 16], length: 128, number: 2 };
     assert_built(&[whole], 1, 128);
     assert_refused(&records(&[whole, short(0, 1, 2)]), 128, Refusal::Prefix, Some(1));
+    // An address alone is the first of its prefix and the last, and cannot stand twice.
+    for (width, alone) in [(128, whole), (128, short(7, 128, 2)), (32, short(7, 32, 2)), (32, short(last, 32, 2))] {
+        assert_refused(&records(&[alone, alone]), width, Refusal::Prefix, Some(1));
+    }
 }
 
 #[test]
