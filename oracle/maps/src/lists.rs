@@ -98,7 +98,7 @@ pub fn apart(mut prefixes: Vec<(u128, u32, u32)>) -> Vec<u8> {
 
 /// A number at an edge of those that there are, or next to it.
 pub fn number_at_an_edge(random: &mut Random) -> u32 {
-    [0, NUMBERS[0], NUMBERS[1], NUMBERS[1] + 1, u32::MAX][random.below(5) as usize]
+    [0, NUMBERS[0], NUMBERS[1], NUMBERS[1] + 1, 1 << 31, u32::MAX][random.below(6) as usize]
 }
 
 /// A list with a change or two: a byte, a bit, a length, a number, two records exchanged, one twice, or its end lost. It may still be right.

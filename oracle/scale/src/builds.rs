@@ -16,6 +16,7 @@ use oracle::changes::{Change, RECORD as CHANGE};
 use oracle::document::{Refusal, Verdict};
 use oracle::listing::{self, Prefix, RECORD};
 use oracle::width::{Width, W128, W32};
+use std::iter::{repeat, repeat_n};
 
 const WIDTHS: [Width; 2] = [W32, W128];
 
@@ -133,9 +134,12 @@ fn drawn(tally: &mut Tally, random: &mut Random, most: u64) {
             asked.as_map(tally, random, &map, 1);
         }
     }
-    let no_width = Asked { width: drawn_no_width(random), ..asked };
-    assert_eq!(no_width.built(tally), Err(18));
-    no_width.wrong_record(tally);
+    let cut = random.below(records.len() as u64 + 1) as usize;
+    for records in [&records[..], &records[cut..]] {
+        let no_width = Asked { records, given: asked.given * random.below(2) as u32, width: drawn_no_width(random) };
+        assert_eq!(no_width.built(tally), Err(18));
+        no_width.wrong_record(tally);
+    }
     let other = Asked { width: 160 - asked.width, ..asked };
     let _ = other.built(tally);
 }
@@ -171,61 +175,84 @@ fn listed(tally: &mut Tally, random: &mut Random, map: &[u8], width: Width, step
     other.into(tally, &Ok(built.clone()), built.len());
 }
 
-/// Single addresses with their numbers, the first 15 bits of each one more than those of the one before it. No two lie near each other, so
-/// that each has 113 JUMPs of its own and as many RETURNs of the given number.
-type Addresses = Vec<(u128, u32)>;
-
-/// The greatest number, which has the longest RETURN, and is that of all other addresses.
+/// The greatest number, which has the longest RETURN: that of all other addresses in what follows.
 const GIVEN: u32 = NUMBERS[1];
+
+/// A number for each length of a RETURN, from 17 bits to 34.
+fn number_of_size(size: u32) -> u32 {
+    (1 << size) - 32_767
+}
+
+/// Single addresses, the first 15 bits of each one more than those of the one before it: no two share more. So each has 113 JUMPs of its
+/// own, and as many RETURNs of the given number.
+fn addresses_apart(random: &mut Random) -> Vec<u128> {
+    (0..1 << 15).map(|top| top << 113 | u128::from_be_bytes(random.address()) >> 15).collect()
+}
 
 fn records_of(addresses: &[(u128, u32)]) -> Vec<u8> {
     addresses.iter().flat_map(|&(address, number)| record(address, 128, number)).collect()
 }
 
-/// The bits of the map of such addresses under a prefix of so many bits, by lengths alone.
-fn bits_of(addresses: &[(u128, u32)], prefix: u32) -> u64 {
-    match addresses {
+/// The bits of a JUMP and its halves.
+fn jump(zero: u64, one: u64) -> u64 {
+    size_of(JUMP, zero) + zero + one
+}
+
+/// The bits of the map of such an address under its first 15 bits: from the last bit up, a half is the address's and the other the given
+/// number's.
+fn bits_of_one(&(address, number): &(u128, u32)) -> u64 {
+    let given = size_of(RETURN, GIVEN.into());
+    (0..113).fold(size_of(RETURN, number.into()), |inner, bit| match address >> bit & 1 {
+        0 => jump(inner, given),
+        _ => jump(given, inner),
+    })
+}
+
+/// The bits of the map of parts that have so many bits, each under one more value of the first 15 bits, of which `left` are left here.
+fn bits_of(parts: &[u64], left: u32) -> u64 {
+    match parts {
         [] => size_of(RETURN, GIVEN.into()),
-        [(_, number), ..] if prefix == 128 => size_of(RETURN, (*number).into()),
+        [part] if left == 0 => *part,
         _ => {
-            let (zero, one) = addresses.split_at(addresses.partition_point(|(address, _)| address >> (127 - prefix) & 1 == 0));
-            let [zero, one] = [zero, one].map(|half| bits_of(half, prefix + 1));
-            size_of(JUMP, zero) + zero + one
+            let (zero, one) = parts.split_at(parts.len().min(1 << (left - 1)));
+            jump(bits_of(zero, left - 1), bits_of(one, left - 1))
         }
     }
 }
 
-/// The last of some numbers, from 0 on, that fits, where all before it do.
+/// The last of the numbers from 0 on that fits, where one fits if all before it do.
 fn last_that(most: usize, fits: impl Fn(usize) -> bool) -> usize {
     let (mut fitting, mut over) = (0, most);
     while over - fitting > 1 {
         let middle = fitting + (over - fitting) / 2;
-        *(if fits(middle) { &mut fitting } else { &mut over }) = middle;
+        match fits(middle) {
+            true => fitting = middle,
+            false => over = middle,
+        }
     }
     fitting
 }
 
-/// As many addresses as a map of the limit has room for, then as many numbers of the longest RETURN among them as there is room for, then a
-/// last one of a fitting length: the map has all bits of the limit but a few that make no byte.
-fn to_the_limit(random: &mut Random) -> Addresses {
-    let fits = |addresses: &[(u128, u32)]| bits_of(addresses, 0) <= 8 * MOST_BYTES as u64;
-    let all = spread_addresses(random);
-    let mut list = all[..last_that(all.len(), |count| fits(&all[..count]))].to_vec();
-    let with = |count: usize, last: u32| {
-        let mut list = list.clone();
-        list[..count].iter_mut().for_each(|entry| entry.1 = GIVEN - 1);
-        list[count].1 = last;
-        list
+/// Addresses whose map has all bytes of the limit, and the same with one longer number, whose map has one byte more. As many addresses as
+/// there is room for; as many of them with the longest number; then one with the longest that fits, and with the next.
+fn around_the_limit(random: &mut Random) -> Option<[Vec<(u128, u32)>; 2]> {
+    let limit = 8 * MOST_BYTES as u64;
+    let addresses = addresses_apart(random);
+    let [short, long] =
+        [1, GIVEN - 1].map(|number| addresses.iter().map(|&address| bits_of_one(&(address, number))).collect::<Vec<u64>>());
+    let count = last_that(addresses.len(), |count| bits_of(&short[..count], 15) <= limit);
+    let longer = last_that(count, |longer| bits_of(&[&long[..longer], &short[longer..count]].concat(), 15) <= limit);
+    let bits = |size: u32| {
+        let between = bits_of_one(&(addresses[longer], number_of_size(size)));
+        bits_of(&[&long[..longer], &[between], &short[longer + 1..count]].concat(), 15)
     };
-    let count = last_that(1_000, |count| fits(&with(count, 1)));
-    let last = (15..=24).rev().map(|size| (1 << size) - 32_767).find(|&number| fits(&with(count, number))).expect("1 fits");
-    list = with(count, last);
-    assert_eq!(bits_of(&list, 0).div_ceil(8), MOST_BYTES as u64, "not all of the limit is used");
-    list
-}
-
-fn spread_addresses(random: &mut Random) -> Addresses {
-    (0..1 << 15).map(|top| (top << 113 | u128::from_be_bytes(random.address()) >> 15, 1)).collect()
+    let size = (15..24).rev().find(|&size| bits(size) <= limit)?;
+    let (last, past) = (limit - 7..=limit, limit + 1..=limit + 8);
+    let with = |size: u32| {
+        let numbers = repeat_n(GIVEN - 1, longer).chain([number_of_size(size)]).chain(repeat(1));
+        addresses[..count].iter().copied().zip(numbers).collect()
+    };
+    (last.contains(&bits(size)) && past.contains(&bits(size + 1))).then(|| [with(size), with(size + 1)])
 }
 
 /// Told in the place of a list that is too long to be printed.
@@ -239,9 +266,9 @@ fn refused(tally: &mut Tally, records: &[u8], given: u32, width: u32, reason: Re
     }
 }
 
-/// A map that is half as long again as the limit, and the same with other faults, which come first.
+/// A map that is longer than the limit by far, and the same list with other faults, which come first.
 fn past_the_limit(tally: &mut Tally, random: &mut Random) {
-    let all = spread_addresses(random);
+    let all: Vec<(u128, u32)> = addresses_apart(random).into_iter().map(|address| (address, 1)).collect();
     // A JUMP has 8 bits at least, and the RETURN of the given number 34.
     assert!(all.len() * 113 * (8 + 34) > 8 * MOST_BYTES);
     let mut records = records_of(&all);
@@ -257,21 +284,21 @@ fn past_the_limit(tally: &mut Tally, random: &mut Random) {
     refused(tally, &records, GIVEN, 128, WRONG_PREFIX);
 }
 
-/// A map of the limit, to its last byte, by document 02 worked through; and of one byte more.
-fn at_the_limit(tally: &mut Tally, random: &mut Random) {
-    let mut list = to_the_limit(random);
-    let records = records_of(&list);
-    let asked = Asked { records: &records, given: GIVEN, width: 128 };
-    let map = asked.built(tally).expect("a map of the limit");
-    assert_eq!(map.len(), MOST_BYTES);
-    asked.as_map(tally, random, &map, 97);
-    let place = list.iter().rposition(|&(_, number)| number == 1).expect("most have the least number");
-    let too_long = (16..=24).any(|size| {
-        list[place].1 = (1 << size) - 32_767;
-        bits_of(&list, 0) > 8 * MOST_BYTES as u64
-    });
-    assert!(too_long && bits_of(&list, 0) <= 8 * MOST_BYTES as u64 + 8, "not one byte more");
-    refused(tally, &records_of(&list), GIVEN, 128, TOO_LONG);
+/// A map of all bytes of the limit, which is refused for want of room alone, and of one byte more; in the long form the bytes too.
+fn at_the_limit(tally: &mut Tally, random: &mut Random, form: Form) {
+    // Now and then a longer number makes several JUMPs longer, and a byte is passed over.
+    let around = (0..20).find_map(|_| around_the_limit(random)).expect("addresses whose map is at the limit");
+    let [fitting, longer] = around.map(|addresses| records_of(&addresses));
+    refused(tally, &fitting, GIVEN, 128, 14);
+    refused(tally, &longer, GIVEN, 128, TOO_LONG);
+    if form == Form::Long {
+        let asked = Asked { records: &fitting, given: GIVEN, width: 128 };
+        let map = asked.built(tally).expect("a map of the limit");
+        tally.same("bytes of a map at the limit", &HUGE, map.len(), MOST_BYTES);
+        asked.as_map(tally, random, &map, 97);
+        let written = calls::build(&longer, GIVEN, 128, MOST_BYTES + 1);
+        tally.same("build past the limit", &HUGE, written.0, number(TOO_LONG));
+    }
 }
 
 /// Lists as long as operators have them: IPv4 prefixes of a map's mapped form and by themselves, and IPv6 prefixes.
@@ -285,7 +312,7 @@ fn long_lists(tally: &mut Tally, random: &mut Random, count: usize) {
 }
 
 pub fn run(tally: &mut Tally, random: &mut Random, form: Form) {
-    for round in 0..form.choose(1_600, 20_000) {
+    for round in 0..form.choose(1_500, 20_000) {
         drawn(tally, random, if round % 20 == 0 { 400 } else { 24 });
     }
     for _ in 0..form.choose(600, 8_000) {
@@ -299,7 +326,5 @@ pub fn run(tally: &mut Tally, random: &mut Random, form: Form) {
     listed(tally, random, &narrow, W32, 97);
     long_lists(tally, random, form.choose(4_000, 100_000));
     past_the_limit(tally, random);
-    if form == Form::Long {
-        at_the_limit(tally, random);
-    }
+    at_the_limit(tally, random, form);
 }
