@@ -15,12 +15,12 @@ use oracle::listing::{self, Prefix, RECORD};
 use oracle::loads::{load, DEFAULT_SEED};
 use oracle::width::Width;
 use oracle::MAPS;
-use std::net::IpAddr;
+use std::net::{IpAddr, Ipv6Addr};
 
 const BOTH: [u32; 2] = [32, 128];
 
 /// Neither 32 nor 128: around them, both at once, and what would be one of them, or both, if it were cut to a byte.
-const NO_WIDTHS: [u32; 11] = [0, 1, 31, 33, 127, 129, 160, 256 + 32, 256 + 128, u32::MAX - 95, u32::MAX];
+const NO_WIDTHS: [u32; 12] = [0, 1, 31, 33, 64, 127, 129, 160, 256 + 32, 256 + 128, u32::MAX - 95, u32::MAX];
 
 /// Lengths of prefixes: none, one bit, whole bytes, around words, and all bits but one.
 const LENGTHS: [u32; 14] = [0, 1, 2, 7, 8, 9, 24, 31, 32, 33, 64, 65, 127, 128];
@@ -29,7 +29,7 @@ const LENGTHS: [u32; 14] = [0, 1, 2, 7, 8, 9, 24, 31, 32, 33, 64, 65, 127, 128];
 const EDGES: [u32; 7] = [0, 1, 1 << 15, (1 << 15) + 1, NUMBERS[1], NUMBERS[1] + 1, u32::MAX];
 
 /// What is shown, the number of all other addresses, and the prefixes; of IPv4 at width 32, of IPv6 at 128.
-const SHOWN: [(&str, u32, &str); 26] = [
+const SHOWN: [(&str, u32, &str); 27] = [
     ("one prefix", 1, "8000::/1 2"),
     ("all addresses in one prefix", 1, "::/0 2"),
     ("the number that all others have", 1, "2000::/3 1"),
@@ -45,6 +45,7 @@ const SHOWN: [(&str, u32, &str); 26] = [
     ("a gap of another number", 1, "::/3 2, 6000::/3 2, 8000::/1 2"),
     ("the greatest number beside the least", NUMBERS[1], "8000::/1 1"),
     ("numbers of another size, which make a JUMP longer", 1, "::/2 32769, 4000::/2 33521664, 8000::/1 1"),
+    ("numbers that end in the same two bytes, or in the same three", 1, "::/2 65537, 4000::/2 16777217, 8000::/1 1"),
     ("an IPv4 prefix at 32", 64_512, "10.0.0.0/8 64513"),
     ("the same at 128, in its mapped form", 64_512, "::ffff:10.0.0.0/104 64513"),
     ("an IPv4 prefix inside another", 1, "1.0.0.0/14 2, 1.2.0.0/16 3"),
@@ -260,18 +261,22 @@ fn wrong_records(width: u32) -> Vec<(String, [u8; RECORD])> {
     zeros.chain(ones).chain(longer.map(|length| (format!("a length of {length}"), at(top, length)))).collect()
 }
 
-/// Records that are right alone and wrong behind 0x10/8.
-fn wrong_behind() -> [(&'static str, [u8; RECORD]); 7] {
-    let at = |first: u128, length: u32| record(first << 120, length, 6);
-    [
-        ("the same again", record(0x10 << 120, 8, 5)),
+/// Records that are right alone and wrong behind a prefix that ends with this byte of an address, which is 0x10. Where that is a whole
+/// address, no longer prefix is there.
+fn wrong_behind(byte: u32, width: u32) -> Vec<(&'static str, [u8; RECORD])> {
+    let at = |last: u128, length: u32| record(last << (120 - 8 * byte), 8 * byte + length, 6);
+    let mut wrong = vec![
+        ("the same again", numbered(at(0x10, 8), 5)),
         ("the same with another number", at(0x10, 8)),
         ("a prefix before it", at(0x08, 8)),
-        ("all addresses", at(0, 0)),
+        ("all addresses", record(0, 0, 6)),
         ("a shorter prefix that begins there too", at(0x10, 4)),
-        ("a longer prefix that begins there too", at(0x10, 9)),
-        ("a longer prefix that ends there too", record(0x10ff << 112, 16, 6)),
-    ]
+    ];
+    if 8 * byte + 8 < width {
+        let ends = record(0x10ff << (112 - 8 * byte), 8 * byte + 16, 6);
+        wrong.extend([("a longer prefix that begins there too", at(0x10, 9)), ("a longer prefix that ends there too", ends)]);
+    }
+    wrong
 }
 
 /// What is wrong alone as the first, the second and the last record; what is wrong behind another as the second and the last. The table has
@@ -292,9 +297,16 @@ fn each_fault(list: &mut List, tables: &mut Tables, width: u32) {
         let lists = [[wrong, last].concat(), [first, wrong, last].concat(), [before, first, wrong].concat()];
         asked(format!("1000::/8 5, then 2000::/8 6 with {name}"), &lists, WRONG_PREFIX);
     }
-    for (name, wrong) in wrong_behind() {
+    for (name, wrong) in wrong_behind(0, width) {
         let lists = [[first, wrong].concat(), [first, wrong, last].concat(), [before, first, wrong].concat()];
         asked(format!("1000::/8 5, then {name}"), &lists, WRONG_PREFIX);
+    }
+    for byte in [width / 8 - 2, width / 8 - 1] {
+        let (address, length) = (0x10 << (120 - 8 * byte), 8 * byte + 8);
+        for (name, wrong) in wrong_behind(byte, width) {
+            let list = [record(address, length, 5), wrong].concat();
+            asked(format!("{}/{length} 5, then {name}", Ipv6Addr::from(address)), &[list], WRONG_PREFIX);
+        }
     }
     asked(String::from("1000::/8 5, 2000::/8 6, then the first again"), &[[first, middle, first].concat()], WRONG_PREFIX);
     for number in [0, NUMBERS[1] + 1, 1 << 31, u32::MAX] {
