@@ -7,26 +7,26 @@ use Rattle.asmap_records.specs.declared.Answer.TheVariants as records
 use Rattle.asmap_records.specs.Output.{Result, within, answer_of, leaves}
 use Rattle.asmap_list.specs.declared.Needed.{Needed}
 use Rattle.asmap_list.specs.declared.Needed.TheVariants as needed
-use Rattle.asmap_compare.specs.Compare.{Comparison, firstMade, neededWith}
+use Rattle.asmap_compare.specs.Compare.{Comparison, first_made, needed_with}
 use Rattle.answer_outcome.specs.Outcome.{Outcome, Done, No, Hands}
 
 -- An output that was written: how many bytes.
-unfoldable pub bytesWritten : Answer → Outcome
-bytesWritten (records.Wrote n) = Done (n ∷ [])
-bytesWritten (records.Refused n) = No n
+unfoldable pub bytes_written : Answer → Outcome
+bytes_written (records.Wrote n) = Done (n ∷ [])
+bytes_written (records.Refused n) = No n
 
 -- A listing or a comparison whose length was asked for: how many bytes it needs.
-unfoldable pub bytesNeeded : Needed → Outcome
-bytesNeeded (needed.Bytes n) = Done (n ∷ [])
-bytesNeeded (needed.Refused n) = No n
+unfoldable pub bytes_needed : Needed → Outcome
+bytes_needed (needed.Bytes n) = Done (n ∷ [])
+bytes_needed (needed.Refused n) = No n
 
 -- A call that writes bytes to a lent output, which holds o at entry and o' at exit. made: what the call makes, before it is known
 -- whether the output has room for it.
 pub record Writes (made : Result) (o o' : List ℕ) (r : ℕ) (lent left : List ℕ) : Type 0 where
-  pub hands : Hands (bytesWritten (answer_of (within (length o) made))) r lent left
+  pub hands : Hands (bytes_written (answer_of (within (length o) made))) r lent left
   pub output : o' ≡ leaves (within (length o) made) o
 
 -- A call that asks what a comparison needs, with bytes lent for the first address that differs, which are o at entry and o' at exit.
 pub record Finds (c : Comparison) (o o' : List ℕ) (r : ℕ) (lent left : List ℕ) : Type 0 where
-  pub hands : Hands (bytesNeeded (neededWith c (within (length o) (firstMade c)))) r lent left
-  pub output : o' ≡ leaves (within (length o) (firstMade c)) o
+  pub hands : Hands (bytes_needed (needed_with c (within (length o) (first_made c)))) r lent left
+  pub output : o' ≡ leaves (within (length o) (first_made c)) o

@@ -2,14 +2,14 @@
 // pack), the listing (document 02, CR 1), the comparison and the page (CR 4). The exported calls hand it out by these functions.
 ghost use Rattle.std.specs.Prelude.{◌≡◌, ◌∷◌, []};
 ghost use Rattle.answer_outcome.specs.Outcome.{handed};
-ghost use Rattle.answer_bytes.specs.Bytes.{bytesWritten, bytesNeeded};
+ghost use Rattle.answer_bytes.specs.Bytes.{bytes_written, bytes_needed};
 
 use asmap_list::Needed;
 use asmap_records::Answer;
 
 // What unpack, pack, a listing, a comparison or a page came to.
 pub fn hand_bytes(got: Answer, written: &mut usize) -> u8
-    ensures { result ∷ written.new ∷ [] ≡ handed (bytesWritten got) (written.old ∷ []) }
+    ensures { result ∷ written.new ∷ [] ≡ handed (bytes_written got) (written.old ∷ []) }
 {
     match got {
         Answer::Wrote(bytes) => {
@@ -22,7 +22,7 @@ pub fn hand_bytes(got: Answer, written: &mut usize) -> u8
 
 // What asking for the length of a listing or of a comparison came to.
 pub fn hand_needed(got: Needed, bytes: &mut usize) -> u8
-    ensures { result ∷ bytes.new ∷ [] ≡ handed (bytesNeeded got) (bytes.old ∷ []) }
+    ensures { result ∷ bytes.new ∷ [] ≡ handed (bytes_needed got) (bytes.old ∷ []) }
 {
     match got {
         Needed::Bytes(wanted) => {

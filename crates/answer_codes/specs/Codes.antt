@@ -10,16 +10,16 @@ use Rattle.asmap_encode.specs.declared.Written.TheVariants as written
 use Rattle.answer_outcome.specs.Outcome.{Outcome, Done, No}
 
 -- A code that was read: its value, and the bit after it.
-unfoldable pub codeRead : Decoded → Outcome
-codeRead (code.Found value next) = Done (value ∷ next ∷ [])
-codeRead (code.Refused n) = No n
+unfoldable pub code_read : Decoded → Outcome
+code_read (code.Found value next) = Done (value ∷ next ∷ [])
+code_read (code.Refused n) = No n
 
 -- An instruction that was read: its opcode, its operand, and its length in bits.
-unfoldable pub instructionRead : DecodedInstruction → Outcome
-instructionRead (instruction.Found i) = Done (i.opcode ∷ i.operand ∷ i.size ∷ [])
-instructionRead (instruction.Refused n) = No n
+unfoldable pub instruction_read : DecodedInstruction → Outcome
+instruction_read (instruction.Found i) = Done (i.opcode ∷ i.operand ∷ i.size ∷ [])
+instruction_read (instruction.Refused n) = No n
 
 -- Bits that were written: in a word, the first bit lowest, and how many they are.
-unfoldable pub bitsWritten : Written → Outcome
-bitsWritten (written.Bits w) = Done (w.bits ∷ w.len ∷ [])
-bitsWritten (written.Refused n) = No n
+unfoldable pub bits_written : Written → Outcome
+bits_written (written.Bits w) = Done (w.bits ∷ w.len ∷ [])
+bits_written (written.Refused n) = No n

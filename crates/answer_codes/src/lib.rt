@@ -1,14 +1,14 @@
 // What reading and writing codes and instructions came to (document 01, Codes), as numbers. The exported calls hand it out by these functions.
 ghost use Rattle.std.specs.Prelude.{◌≡◌, ◌∷◌, []};
 ghost use Rattle.answer_outcome.specs.Outcome.{handed};
-ghost use Rattle.answer_codes.specs.Codes.{codeRead, instructionRead, bitsWritten};
+ghost use Rattle.answer_codes.specs.Codes.{code_read, instruction_read, bits_written};
 
 use asmap_codes::{Decoded, DecodedInstruction};
 use asmap_encode::Written;
 
 // What reading a code came to, as an answer and lent numbers.
 pub fn hand_code(got: Decoded, value: &mut u32, next: &mut usize) -> u8
-    ensures { result ∷ value.new ∷ next.new ∷ [] ≡ handed (codeRead got) (value.old ∷ next.old ∷ []) }
+    ensures { result ∷ value.new ∷ next.new ∷ [] ≡ handed (code_read got) (value.old ∷ next.old ∷ []) }
 {
     match got {
         Decoded::Found(found, end) => {
@@ -27,7 +27,7 @@ pub fn hand_instruction(
     operand: &mut u32,
     size: &mut usize,
 ) -> u8
-    ensures { result ∷ opcode.new ∷ operand.new ∷ size.new ∷ [] ≡ handed (instructionRead got) (opcode.old ∷ operand.old ∷ size.old ∷ []) }
+    ensures { result ∷ opcode.new ∷ operand.new ∷ size.new ∷ [] ≡ handed (instruction_read got) (opcode.old ∷ operand.old ∷ size.old ∷ []) }
 {
     match got {
         DecodedInstruction::Found(found) => {
@@ -42,7 +42,7 @@ pub fn hand_instruction(
 
 // What writing came to.
 pub fn hand_bits(got: Written, bits: &mut u64, len: &mut usize) -> u8
-    ensures { result ∷ bits.new ∷ len.new ∷ [] ≡ handed (bitsWritten got) (bits.old ∷ len.old ∷ []) }
+    ensures { result ∷ bits.new ∷ len.new ∷ [] ≡ handed (bits_written got) (bits.old ∷ len.old ∷ []) }
 {
     match got {
         Written::Bits(word) => {

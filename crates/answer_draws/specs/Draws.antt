@@ -5,6 +5,6 @@ use Rattle.load_draws.specs.declared.Drawn.{Drawn}
 use Rattle.load_draws.specs.declared.Drawn.TheVariants.{Number, Refused}
 use Rattle.answer_outcome.specs.Outcome.{Outcome, Done, No}
 
-unfoldable pub numberDrawn : Drawn → Outcome
-numberDrawn (Number n) = Done (n ∷ [])
-numberDrawn (Refused n) = No n
+unfoldable pub number_drawn : Drawn → Outcome
+number_drawn (Number n) = Done (n ∷ [])
+number_drawn (Refused n) = No n

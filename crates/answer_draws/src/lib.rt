@@ -2,13 +2,13 @@
 // written bytes are (`answer_bytes`).
 ghost use Rattle.std.specs.Prelude.{◌≡◌, ◌∷◌, []};
 ghost use Rattle.answer_outcome.specs.Outcome.{handed};
-ghost use Rattle.answer_draws.specs.Draws.{numberDrawn};
+ghost use Rattle.answer_draws.specs.Draws.{number_drawn};
 
 use load_draws::Drawn;
 
 // The number drawn, as an answer and a lent number.
 pub fn hand_draw(got: Drawn, draw: &mut u64) -> u8
-    ensures { result ∷ draw.new ∷ [] ≡ handed (numberDrawn got) (draw.old ∷ []) }
+    ensures { result ∷ draw.new ∷ [] ≡ handed (number_drawn got) (draw.old ∷ []) }
 {
     match got {
         Drawn::Number(number) => {

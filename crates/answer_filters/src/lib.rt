@@ -1,6 +1,6 @@
 // What the filters came to (document 01, Filters), as numbers: 1 for yes, 0 for no. The exported calls hand it out by these functions.
 ghost use Rattle.std.specs.Prelude.{◌≡◌, ◌∷◌, []};
-ghost use Rattle.netaddr.specs.Answer.{filteredAs, relayAs};
+ghost use Rattle.netaddr.specs.Answer.{filtered_as, relay_as};
 ghost use Rattle.answer_outcome.specs.Outcome.{handed};
 ghost use Rattle.answer_filters.specs.Filters.{said};
 
@@ -8,7 +8,7 @@ use netaddr::{Filtered, Relay};
 
 // What the filter says, as an answer and a lent number.
 pub fn hand_filtered(got: Filtered, unroutable: &mut u8) -> u8
-    ensures { result ∷ unroutable.new ∷ [] ≡ handed (said (filteredAs got)) (unroutable.old ∷ []) }
+    ensures { result ∷ unroutable.new ∷ [] ≡ handed (said (filtered_as got)) (unroutable.old ∷ []) }
 {
     match got {
         Filtered::Routable => {
@@ -25,7 +25,7 @@ pub fn hand_filtered(got: Filtered, unroutable: &mut u8) -> u8
 
 // What relay says.
 pub fn hand_relay(got: Relay, skips: &mut u8) -> u8
-    ensures { result ∷ skips.new ∷ [] ≡ handed (said (relayAs got)) (skips.old ∷ []) }
+    ensures { result ∷ skips.new ∷ [] ≡ handed (said (relay_as got)) (skips.old ∷ []) }
 {
     match got {
         Relay::Passes => {

@@ -14,32 +14,32 @@ use Rattle.netgroup_pick.specs.Pick.{Handed}
 use Rattle.answer_outcome.specs.Outcome.{Outcome, Done, No, Hands}
 
 -- What `has_map` says: 0 is without a map, any other number is with the map beside it.
-unfoldable pub groupingOf : ℕ → Grouping
-groupingOf zero = Prefixes
-groupingOf (suc n) = Map
+unfoldable pub grouping_of : ℕ → Grouping
+grouping_of zero = Prefixes
+grouping_of (suc n) = Map
 
 -- A group that was found.
-unfoldable pub groupFound : GroupAnswer → Outcome
-groupFound (group.Group g) = Done (g ∷ [])
-groupFound (group.Refused n) = No n
+unfoldable pub group_found : GroupAnswer → Outcome
+group_found (group.Group g) = Done (g ∷ [])
+group_found (group.Refused n) = No n
 
 -- A scan: whether there is a hit, its place and how many groups were read. None is found 0 with place 0.
-unfoldable pub scanMade : Scan → Outcome
-scanMade (scan.Hit place read) = Done (1 ∷ place ∷ read ∷ [])
-scanMade (scan.Missed read) = Done (0 ∷ 0 ∷ read ∷ [])
-scanMade (scan.Refused n) = No n
+unfoldable pub scan_made : Scan → Outcome
+scan_made (scan.Hit place read) = Done (1 ∷ place ∷ read ∷ [])
+scan_made (scan.Missed read) = Done (0 ∷ 0 ∷ read ∷ [])
+scan_made (scan.Refused n) = No n
 
 -- The totals of a pick: how many picks, how many of them by the first pass, the candidates examined, and the instructions.
-abbrev pub totalsOf : ℕ → ℕ → ℕ → ℕ → Totals
-totalsOf total first examined instructions = record { total = total; first = first; examined = examined; instructions = instructions }
+abbrev pub totals_of : ℕ → ℕ → ℕ → ℕ → Totals
+totals_of total first examined instructions = record { total = total; first = first; examined = examined; instructions = instructions }
 
 -- A pick that was made.
-unfoldable pub pickMade : PickAnswer → Outcome
-pickMade (pick.Picked t) = Done (t.total ∷ t.first ∷ t.examined ∷ t.instructions ∷ [])
-pickMade (pick.Refused n) = No n
+unfoldable pub pick_made : PickAnswer → Outcome
+pick_made (pick.Picked t) = Done (t.total ∷ t.first ∷ t.examined ∷ t.instructions ∷ [])
+pick_made (pick.Refused n) = No n
 
 -- A pick h, as the call hands it out: the answer and the lent numbers, and both outputs at exit.
 pub record Picks (h : Handed) (r : ℕ) (lent left : List ℕ) (picks groups : List ℕ) : Type 0 where
-  pub hands : Hands (pickMade h.answer) r lent left
-  pub picks-left : picks ≡ h.picks
-  pub groups-left : groups ≡ h.groups
+  pub hands : Hands (pick_made h.answer) r lent left
+  pub picks_left : picks ≡ h.picks
+  pub groups_left : groups ≡ h.groups

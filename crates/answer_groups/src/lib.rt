@@ -2,7 +2,7 @@
 // or none. The exported calls hand it out by these functions.
 ghost use Rattle.std.specs.Prelude.{◌≡◌, ◌∷◌, []};
 ghost use Rattle.answer_outcome.specs.Outcome.{handed};
-ghost use Rattle.answer_groups.specs.Groups.{groupingOf, groupFound, scanMade, pickMade};
+ghost use Rattle.answer_groups.specs.Groups.{grouping_of, group_found, scan_made, pick_made};
 
 use group_lists::Scan;
 use netgroup::{GroupAnswer, Grouping};
@@ -10,7 +10,7 @@ use netgroup_pick::PickAnswer;
 
 // What numbers the groups.
 pub fn grouping_of(has_map: u8) -> Grouping
-    ensures { result ≡ groupingOf has_map }
+    ensures { result ≡ grouping_of has_map }
 {
     if has_map == 0 {
         return Grouping::Prefixes;
@@ -20,7 +20,7 @@ pub fn grouping_of(has_map: u8) -> Grouping
 
 // What a group call came to, as an answer and a lent number.
 pub fn hand_group(got: GroupAnswer, group: &mut u64) -> u8
-    ensures { result ∷ group.new ∷ [] ≡ handed (groupFound got) (group.old ∷ []) }
+    ensures { result ∷ group.new ∷ [] ≡ handed (group_found got) (group.old ∷ []) }
 {
     match got {
         GroupAnswer::Group(found) => {
@@ -33,7 +33,7 @@ pub fn hand_group(got: GroupAnswer, group: &mut u64) -> u8
 
 // What the occupied scan came to. Where there is no hit, its place is 0 too.
 pub fn hand_scan(got: Scan, found: &mut u8, place: &mut usize, groups_read: &mut usize) -> u8
-    ensures { result ∷ found.new ∷ place.new ∷ groups_read.new ∷ [] ≡ handed (scanMade got) (found.old ∷ place.old ∷ groups_read.old ∷ []) }
+    ensures { result ∷ found.new ∷ place.new ∷ groups_read.new ∷ [] ≡ handed (scan_made got) (found.old ∷ place.old ∷ groups_read.old ∷ []) }
 {
     match got {
         Scan::Hit(at, read) => {
@@ -60,7 +60,7 @@ pub fn hand_pick(
     examined: &mut usize,
     instructions: &mut u64,
 ) -> u8
-    ensures { result ∷ total.new ∷ first.new ∷ examined.new ∷ instructions.new ∷ [] ≡ handed (pickMade got) (total.old ∷ first.old ∷ examined.old ∷ instructions.old ∷ []) }
+    ensures { result ∷ total.new ∷ first.new ∷ examined.new ∷ instructions.new ∷ [] ≡ handed (pick_made got) (total.old ∷ first.old ∷ examined.old ∷ instructions.old ∷ []) }
 {
     match got {
         PickAnswer::Picked(totals) => {

@@ -5,7 +5,7 @@ use Rattle.asmap_program.specs.declared.Verdict.{Verdict}
 use Rattle.asmap_program.specs.declared.Verdict.TheVariants as verdict
 use Rattle.asmap_program.specs.declared.Kind.{Kind}
 use Rattle.asmap_program.specs.declared.Kind.TheVariants.{Returned, Differed, OpcodeCut, OperandCut, TooFewBits}
-use Rattle.asmap_program.specs.Map.{Opcode, Operand, cutReason}
+use Rattle.asmap_program.specs.Map.{Opcode, Operand, cut_reason}
 use Rattle.asmap_check.specs.declared.Stopped.{Stopped}
 use Rattle.asmap_check.specs.declared.Stopped.TheVariants as stopped
 use Rattle.asmap_walk_bits.specs.declared.Ending.{Ending}
@@ -14,28 +14,28 @@ use Rattle.asmap_walk.specs.declared.Interpreted.TheVariants as walk
 use Rattle.answer_outcome.specs.Outcome.{Outcome, Done, No}
 
 -- A map that was checked: the count of its instructions, and the greatest number of jumps open at once.
-unfoldable pub mapChecked : Verdict → Outcome
-mapChecked (verdict.Accepted count depth) = Done (count ∷ depth ∷ [])
-mapChecked (verdict.Refused n) = No n
+unfoldable pub map_checked : Verdict → Outcome
+map_checked (verdict.Accepted count depth) = Done (count ∷ depth ∷ [])
+map_checked (verdict.Refused n) = No n
 
 -- A map whose check was followed to where it stops: the reason, 0 where it accepts, and the place.
-unfoldable pub checkStopped : Stopped → Outcome
-checkStopped (stopped.At reason place) = Done (reason ∷ place ∷ [])
-checkStopped (stopped.Refused n) = No n
+unfoldable pub check_stopped : Stopped → Outcome
+check_stopped (stopped.At reason place) = Done (reason ∷ place ∷ [])
+check_stopped (stopped.Refused n) = No n
 
 -- The number of each kind of end. A walk that met a cut code has that cut's number, 4 or 19 (document 02, CR 5).
-abbrev pub kindNumber : Kind → ℕ
-kindNumber Returned = 1
-kindNumber Differed = 2
-kindNumber TooFewBits = 3
-kindNumber OpcodeCut = cutReason Opcode
-kindNumber OperandCut = cutReason Operand
+abbrev pub kind_number : Kind → ℕ
+kind_number Returned = 1
+kind_number Differed = 2
+kind_number TooFewBits = 3
+kind_number OpcodeCut = cut_reason Opcode
+kind_number OperandCut = cut_reason Operand
 
 -- The numbers of an ending: its kind, its number, the instructions that the walk read whole, and the address bits that it read.
-abbrev pub endNumbers : Ending → List ℕ
-endNumbers e = kindNumber e.kind ∷ e.number ∷ e.count ∷ e.bits ∷ []
+abbrev pub end_numbers : Ending → List ℕ
+end_numbers e = kind_number e.kind ∷ e.number ∷ e.count ∷ e.bits ∷ []
 
 -- A walk that was made.
-unfoldable pub walkMade : Interpreted → Outcome
-walkMade (walk.Ended e) = Done (endNumbers e)
-walkMade (walk.Refused n) = No n
+unfoldable pub walk_made : Interpreted → Outcome
+walk_made (walk.Ended e) = Done (end_numbers e)
+walk_made (walk.Refused n) = No n

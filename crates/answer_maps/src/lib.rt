@@ -1,7 +1,7 @@
 // What check and walk came to (document 01, Check, Walk), as numbers. The exported calls hand it out by these functions.
 ghost use Rattle.std.specs.Prelude.{◌≡◌, ◌∷◌, []};
 ghost use Rattle.answer_outcome.specs.Outcome.{handed};
-ghost use Rattle.answer_maps.specs.Maps.{mapChecked, checkStopped, kindNumber, walkMade};
+ghost use Rattle.answer_maps.specs.Maps.{map_checked, check_stopped, kind_number, walk_made};
 
 use asmap_check::Stopped;
 use asmap_program::{CUT_OPCODE, CUT_OPERAND, Kind, Verdict};
@@ -9,7 +9,7 @@ use asmap_walk::Interpreted;
 
 // What the check came to, as an answer and lent numbers.
 pub fn hand_verdict(got: Verdict, count: &mut u32, depth: &mut u8) -> u8
-    ensures { result ∷ count.new ∷ depth.new ∷ [] ≡ handed (mapChecked got) (count.old ∷ depth.old ∷ []) }
+    ensures { result ∷ count.new ∷ depth.new ∷ [] ≡ handed (map_checked got) (count.old ∷ depth.old ∷ []) }
 {
     match got {
         Verdict::Accepted(instructions, deepest) => {
@@ -23,7 +23,7 @@ pub fn hand_verdict(got: Verdict, count: &mut u32, depth: &mut u8) -> u8
 
 // Where the check stopped.
 pub fn hand_stop(got: Stopped, reason: &mut u8, place: &mut usize) -> u8
-    ensures { result ∷ reason.new ∷ place.new ∷ [] ≡ handed (checkStopped got) (reason.old ∷ place.old ∷ []) }
+    ensures { result ∷ reason.new ∷ place.new ∷ [] ≡ handed (check_stopped got) (reason.old ∷ place.old ∷ []) }
 {
     match got {
         Stopped::At(why, at) => {
@@ -37,7 +37,7 @@ pub fn hand_stop(got: Stopped, reason: &mut u8, place: &mut usize) -> u8
 
 // The number of a kind of end: a cut code's is that of its refusal.
 fn kind_number(kind: Kind) -> u8
-    ensures { result ≡ kindNumber kind }
+    ensures { result ≡ kind_number kind }
 {
     match kind {
         Kind::Returned => 1,
@@ -56,7 +56,7 @@ pub fn hand_walk(
     count: &mut u32,
     bits: &mut u8,
 ) -> u8
-    ensures { result ∷ kind.new ∷ number.new ∷ count.new ∷ bits.new ∷ [] ≡ handed (walkMade got) (kind.old ∷ number.old ∷ count.old ∷ bits.old ∷ []) }
+    ensures { result ∷ kind.new ∷ number.new ∷ count.new ∷ bits.new ∷ [] ≡ handed (walk_made got) (kind.old ∷ number.old ∷ count.old ∷ bits.old ∷ []) }
 {
     match got {
         Interpreted::Ended(ending) => {

@@ -22,4 +22,4 @@ IsDone (No n) = ⊥
 -- that the call was done: no refusal has the number 0.
 pub record Hands (o : Outcome) (r : ℕ) (lent left : List ℕ) : Type 0 where
   pub numbers : r ∷ left ≡ handed o lent
-  pub zero-is-done : r ≡ 0 → IsDone o
+  pub zero_is_done : r ≡ 0 → IsDone o

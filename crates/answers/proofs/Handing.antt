@@ -5,7 +5,7 @@ use mathlib.Core.Bool.{Bool, true, false, cond}
 use mathlib.Core.Path.{◌≡◌, ◌∙◌, ap}
 use mathlib.Core.List.{List, ◌∷◌}
 use native.Mathlib.Omega.{arith}
-use Rattle.asmap_program.specs.Widths.{isWidth, atWidth}
+use Rattle.asmap_program.specs.Widths.{is_width, at_width}
 use Rattle.answer_outcome.specs.Outcome.{Outcome, Done, No, handed, IsDone, Hands}
 
 -- a refusal has a number from 1 on
@@ -24,10 +24,10 @@ counted (Done numbers) h = tt
 counted (No n) h = h
 
 -- a call at a width: 18 is no 0
-pub counted-at : {A : Type 0} (out : A → Outcome) (refused : ℕ → A) (x : A) (w : ℕ) → Counted (out (refused 18)) → Counted (out x)
-    → Counted (out (atWidth w refused x))
-unfolding atWidth
-counted-at out refused x w h k = go (isWidth w)
+pub counted_at : {A : Type 0} (out : A → Outcome) (refused : ℕ → A) (x : A) (w : ℕ) → Counted (out (refused 18)) → Counted (out x)
+    → Counted (out (at_width w refused x))
+unfolding at_width
+counted_at out refused x w h k = go (is_width w)
   where
     go : (b : Bool) → Counted (out (cond b x (refused 18)))
     go true = k
@@ -43,4 +43,4 @@ pub hands : {A : Type 0} (out : A → Outcome) {x y : A} {r : ℕ} {lent left : 
     → x ≡ y → Counted (out y) → r ∷ left ≡ handed (out x) lent → Hands (out y) r lent left
 hands out {x} {y} {r} {lent} {left} q h e =
     let k : r ∷ left ≡ handed (out y) lent = e ∙ ap (λ a. handed (out a) lent) q in
-    record { numbers = k; zero-is-done = zero (out y) r lent left h k }
+    record { numbers = k; zero_is_done = zero (out y) r lent left h k }

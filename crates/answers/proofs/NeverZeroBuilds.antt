@@ -6,46 +6,46 @@ use mathlib.Core.Path.{◌≡◌, refl, sym, subst}
 use mathlib.Core.List.{List}
 use native.Mathlib.Decide.{ℕ_discrete}
 use native.Mathlib.Omega.{arith}
-use Rattle.asmap_program.specs.Widths.{isWidth, atWidth}
+use Rattle.asmap_program.specs.Widths.{is_width, at_width}
 use Rattle.prefix_lists.specs.declared.Judged.{Judged}
 use Rattle.prefix_lists.specs.declared.Judged.TheVariants as judged
 use Rattle.prefix_lists.specs.List.{judge}
-use Rattle.prefix_lists.proofs.ListLaws.{judged-refused}
+use Rattle.prefix_lists.proofs.ListLaws.{judged_refused}
 use Rattle.asmap_records.specs.Output.{No, within, answer_of}
-use Rattle.asmap_build.specs.Build.{treeBits, buildAs, buildOf, buildAt}
-use Rattle.answer_bytes.specs.Bytes.{bytesWritten}
+use Rattle.asmap_build.specs.Build.{tree_bits, build_as, build_of, build_at}
+use Rattle.answer_bytes.specs.Bytes.{bytes_written}
 use Rattle.answers.proofs.Handing.{Counted, Refuses, counted}
 use Rattle.answers.proofs.NeverZeroMaps.{Makes, bytes-numbers, refused}
 
 module _ (P : ℕ → Type 0) (no-prefix : P 21) (no_number : P 22) (long : P 1) where
   -- 21 or 22, by how the list is judged; then 1
-  by-judgement : (l : List ℕ) (given w : ℕ) (v : Judged) → judge w l given ≡ v → Makes P (buildAs (treeBits l given w) v)
-  by-judgement l given w judged.Listed e = refused P _ 1 _ long tt
-  by-judgement l given w (judged.Refused n) e = go (ℕ_discrete n 21)
+  by_judgement : (l : List ℕ) (given w : ℕ) (v : Judged) → judge w l given ≡ v → Makes P (build_as (tree_bits l given w) v)
+  by_judgement l given w judged.Listed e = refused P _ 1 _ long tt
+  by_judgement l given w (judged.Refused n) e = go (ℕ_discrete n 21)
     where
       go : Dec (n ≡ 21) → P n
       go (yes q) = subst P (sym q) no-prefix
-      go (no q) = let h = judged-refused w l given n e in let z : n ≡ 22 = omega arith in subst P (sym z) no_number
+      go (no q) = let h = judged_refused w l given n e in let z : n ≡ 22 = omega arith in subst P (sym z) no_number
 
-  makes : (l : List ℕ) (given w : ℕ) → Makes P (buildOf l given w)
-  unfolding buildOf
-  makes l given w = by-judgement l given w (judge w l given) refl
+  makes : (l : List ℕ) (given w : ℕ) → Makes P (build_of l given w)
+  unfolding build_of
+  makes l given w = by_judgement l given w (judge w l given) refl
 
   -- 18 before all
-  makes-at : P 18 → (l : List ℕ) (given w : ℕ) → Makes P (buildAt l given w)
-  unfolding atWidth
-  makes-at none l given w = go (isWidth w)
+  makes_at : P 18 → (l : List ℕ) (given w : ℕ) → Makes P (build_at l given w)
+  unfolding at_width
+  makes_at none l given w = go (is_width w)
     where
-      go : (b : Bool) → Makes P (cond b (buildOf l given w) (No 18))
+      go : (b : Bool) → Makes P (cond b (build_of l given w) (No 18))
       go true = makes l given w
       go false = none
 
 -- and 14 behind all
 pub build-numbers : (P : ℕ → Type 0) (k : ℕ) (l : List ℕ) (given w : ℕ) → P 18 → P 21 → P 22 → P 1 → P 14
-    → Refuses P (bytesWritten (answer_of (within k (buildAt l given w))))
-build-numbers P k l given w none no-prefix no_number long short = bytes-numbers P k (buildAt l given w) short (makes-at P no-prefix no_number long none l given w)
+    → Refuses P (bytes_written (answer_of (within k (build_at l given w))))
+build-numbers P k l given w none no-prefix no_number long short = bytes-numbers P k (build_at l given w) short (makes_at P no-prefix no_number long none l given w)
 
-pub map-built : (k : ℕ) (l : List ℕ) (given w : ℕ) → Counted (bytesWritten (answer_of (within k (buildAt l given w))))
-map-built k l given w =
-    counted (bytesWritten (answer_of (within k (buildAt l given w))))
+pub map_built : (k : ℕ) (l : List ℕ) (given w : ℕ) → Counted (bytes_written (answer_of (within k (build_at l given w))))
+map_built k l given w =
+    counted (bytes_written (answer_of (within k (build_at l given w))))
     (build-numbers (λ n. 0 < n) k l given w (omega arith) (omega arith) (omega arith) (omega arith) (omega arith))

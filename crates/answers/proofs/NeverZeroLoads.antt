@@ -7,35 +7,35 @@ use mathlib.Core.List.{List, [], ◌∷◌}
 use native.Mathlib.Omega.{arith}
 use lib.Dec.{eqb}
 use Rattle.asmap_records.specs.Output.{within, answer_of}
-use Rattle.load_draws.specs.Draw.{next, drawnAfter}
+use Rattle.load_draws.specs.Draw.{next, drawn_after}
 use Rattle.load_draws.specs.declared.Drawn.{Drawn}
 use Rattle.load_draws.specs.declared.Drawn.TheVariants as drawn
 use Rattle.asmap_load.specs.Load.{load_of}
 use Rattle.answer_outcome.specs.Outcome.{handed, IsDone, Hands}
-use Rattle.answer_draws.specs.Draws.{numberDrawn}
-use Rattle.answer_bytes.specs.Bytes.{bytesWritten}
+use Rattle.answer_draws.specs.Draws.{number_drawn}
+use Rattle.answer_bytes.specs.Bytes.{bytes_written}
 use Rattle.answers.proofs.Handing.{Counted, Refuses, counted}
 use Rattle.answers.proofs.NeverZeroMaps.{bytes-numbers, refused}
 
 -- 20, then 14
-pub load-numbers : (P : ℕ → Type 0) (k s n : ℕ) → P 20 → P 14 → Refuses P (bytesWritten (answer_of (within k (load_of s n))))
+pub load-numbers : (P : ℕ → Type 0) (k s n : ℕ) → P 20 → P 14 → Refuses P (bytes_written (answer_of (within k (load_of s n))))
 unfolding load_of
 load-numbers P k s n none short = bytes-numbers P k (load_of s n) short (refused P _ 20 _ none tt)
 
-pub load-written : (k s n : ℕ) → Counted (bytesWritten (answer_of (within k (load_of s n))))
-load-written k s n = counted (bytesWritten (answer_of (within k (load_of s n)))) (load-numbers (λ n. 0 < n) k s n (omega arith) (omega arith))
+pub load_written : (k s n : ℕ) → Counted (bytes_written (answer_of (within k (load_of s n))))
+load_written k s n = counted (bytes_written (answer_of (within k (load_of s n)))) (load-numbers (λ n. 0 < n) k s n (omega arith) (omega arith))
 
 -- 20 alone
-pub draw-drawn : (s : ℕ) → Counted (numberDrawn (drawnAfter s))
-unfolding Counted numberDrawn drawnAfter
-draw-drawn s = go (eqb s 0)
+pub draw_drawn : (s : ℕ) → Counted (number_drawn (drawn_after s))
+unfolding Counted number_drawn drawn_after
+draw_drawn s = go (eqb s 0)
   where
-    go : (b : Bool) → Counted (numberDrawn (cond b (drawn.Refused 20) (drawn.Number (next s))))
+    go : (b : Bool) → Counted (number_drawn (cond b (drawn.Refused 20) (drawn.Number (next s))))
     go true = omega arith
     go false = tt
 
 -- the number handed out, where a draw is done
-pub number-drawn : (x : Drawn) {r n : ℕ} {lent : List ℕ} → Hands (numberDrawn x) r lent (n ∷ []) → r ≡ 0 → x ≡ drawn.Number n
-unfolding handed IsDone numberDrawn
-number-drawn (drawn.Number m) h z = let e = h.numbers in cc
-number-drawn (drawn.Refused m) h z = absurd (h.zero-is-done z)
+pub number_drawn_lem : (x : Drawn) {r n : ℕ} {lent : List ℕ} → Hands (number_drawn x) r lent (n ∷ []) → r ≡ 0 → x ≡ drawn.Number n
+unfolding handed IsDone number_drawn
+number_drawn_lem (drawn.Number m) h z = let e = h.numbers in cc
+number_drawn_lem (drawn.Refused m) h z = absurd (h.zero_is_done z)

@@ -2,12 +2,12 @@
 // 16 bytes of an IPv4 address.
 ghost use Rattle.std.specs.Prelude.{◌≡◌, [], ◌∷◌, ℕ, ◌+◌, ◌-◌, ◌*◌, ◌%◌, ◌^◌, ◌≤◌, ◌<◌, eqb, length, get_or};
 ghost use Rattle.std.specs.Int.Bits.{bit_xor};
-ghost use Rattle.asmap_program.specs.Map.{addressBit, bit_of, ipv4Mapped, Width};
+ghost use Rattle.asmap_program.specs.Map.{address_bit, bit_of, ipv4_mapped, Width};
 ghost use Rattle.asmap_address.specs.models.Front.{Front};
 
 // The 16 bytes that stand for the IPv4 address a.b.c.d (`ip16_for_lookup`).
 pub fn ipv4_mapped(a: u8, b: u8, c: u8, d: u8) -> [u8; 16]
-    ensures { result ≡ ipv4Mapped (a ∷ b ∷ c ∷ d ∷ []) }
+    ensures { result ≡ ipv4_mapped (a ∷ b ∷ c ∷ d ∷ []) }
 {
     [0, 0, 0, 0, 0, 0, 0, 0, 0, 0, 255, 255, a, b, c, d]
 }
@@ -15,7 +15,7 @@ pub fn ipv4_mapped(a: u8, b: u8, c: u8, d: u8) -> [u8; 16]
 // A bit of the address, from the highest of each byte down (`consume_bit_be`).
 pub fn address_bit(address: &[u8], at: u8) -> u32
     requires { at < 8 * length address.now }
-    ensures { result ≡ addressBit address.now at }
+    ensures { result ≡ address_bit address.now at }
 {
     let place = at as usize;
     let byte = address[place / 8] as u32;
@@ -36,7 +36,7 @@ fn address_byte(address: &[u8], at: usize) -> u32
 // They stand in two bytes.
 fn address_bits(address: &[u8], at: u8, n: u8) -> u32
     requires { n ≤ 8 }
-    ensures { (k : ℕ) → k < n → bit_of result k ≡ addressBit address.now (at + (n - 1 - k)) }
+    ensures { (k : ℕ) → k < n → bit_of result k ≡ address_bit address.now (at + (n - 1 - k)) }
 {
     let place = at as usize;
     let first = address_byte(address, place / 8);

@@ -9,9 +9,9 @@ use native.Mathlib.Omega.{arith}
 use lib.Dec.{lit<}
 use lib.ListN.{length, take, drop, replicate, length-append, length-drop, length-take, take-append-drop, drop_of_length-le, replicate-append-replicate}
 use lib.Seq.{take_at, drop_at, take_all, length-take-le}
-use Rattle.asmap_codes.specs.Bits.{low, mapBits, word}
+use Rattle.asmap_codes.specs.Bits.{low, map_bits, word}
 use Rattle.asmap_codes.proofs.BitLaws.{AllBits, bits-take, bits-drop}
-use Rattle.asmap_bit_writer.specs.Bytes.{to_bytes, bytesFor, bytes_of}
+use Rattle.asmap_bit_writer.specs.Bytes.{to_bytes, bytes_for, bytes_of}
 
 pub word_lt : (l : List ℕ) → AllBits l → word l < 2 ^ length l
 word_lt [] h = lit< tt
@@ -37,12 +37,12 @@ low_word (b ∷ bs) (suc n) h k =
     let d : suc n - suc (length bs) ≡ n - length bs = omega arith in
     rw (e, q, d) (ap (◌∷◌ b) (low_word bs n (λ i. h (suc i)) (omega arith)))
 
-pub low-word-all : (l : List ℕ) → AllBits l → low (length l) (word l) ≡ l
-low-word-all [] h = refl
-low-word-all (b ∷ bs) h =
+pub low-word_all : (l : List ℕ) → AllBits l → low (length l) (word l) ≡ l
+low-word_all [] h = refl
+low-word_all (b ∷ bs) h =
     let e : (b + 2 * word bs) % 2 ≡ b = omega (arith, h 0) in
     let q : (b + 2 * word bs) / 2 ≡ word bs = omega (arith, h 0) in
-    rw (e, q) (ap (◌∷◌ b) (low-word-all bs (λ i. h (suc i))))
+    rw (e, q) (ap (◌∷◌ b) (low-word_all bs (λ i. h (suc i))))
 
 -- the law of the window: a word of k bits put above n bits
 pub low-append : (n k a w : ℕ) → a < 2 ^ n → low (n + k) (a + w * 2 ^ n) ≡ low n a ++ low k w
@@ -62,14 +62,14 @@ low-append (suc n) k a w h =
 pub bytes-eight : (a rest : List ℕ) → length a ≡ 8 → bytes_of (a ++ rest) ≡ word a ∷ bytes_of rest
 unfolding bytes_of
 bytes-eight a rest h =
-    let e : bytesFor (length (a ++ rest)) ≡ suc (bytesFor (length rest)) = omega (arith, length-append a rest) in
+    let e : bytes_for (length (a ++ rest)) ≡ suc (bytes_for (length rest)) = omega (arith, length-append a rest) in
     rw (e, take_at a rest 8 h, drop_at a rest 8 h)
 
 -- the last byte: one to eight bits, and zeros
-pub bytes-last : (a : List ℕ) → 0 < length a → length a ≤ 8 → bytes_of a ≡ word a ∷ []
+pub bytes_last : (a : List ℕ) → 0 < length a → length a ≤ 8 → bytes_of a ≡ word a ∷ []
 unfolding bytes_of
-bytes-last a h k =
-    let e : bytesFor (length a) ≡ 1 = omega arith in
+bytes_last a h k =
+    let e : bytes_for (length a) ≡ 1 = omega arith in
     rw (e, take_all 8 a k)
 
 -- a whole byte of a window: eight low bits go out, the rest moves down
@@ -80,30 +80,30 @@ bytes_low k a rest =
     let s : 8 + k ≡ suc (suc (suc (suc (suc (suc (suc (suc k))))))) = omega arith in
     rw (s, q) (bytes-eight (low 8 a) (low k (a / 256) ++ rest) refl ∙ ap (λ (x : ℕ). x ∷ bytes_of (low k (a / 256) ++ rest)) w)
 
-pub length-toBytes : (n : ℕ) (bs : List ℕ) → length (to_bytes n bs) ≡ n
-length-toBytes zero bs = refl
-length-toBytes (suc n) bs = ap suc (length-toBytes n (drop 8 bs))
+pub length-to_bytes : (n : ℕ) (bs : List ℕ) → length (to_bytes n bs) ≡ n
+length-to_bytes zero bs = refl
+length-to_bytes (suc n) bs = ap suc (length-to_bytes n (drop 8 bs))
 
-pub length-bytesOf : (bs : List ℕ) → length (bytes_of bs) ≡ bytesFor (length bs)
+pub length-bytes_of : (bs : List ℕ) → length (bytes_of bs) ≡ bytes_for (length bs)
 unfolding bytes_of
-length-bytesOf bs = length-toBytes (bytesFor (length bs)) bs
+length-bytes_of bs = length-to_bytes (bytes_for (length bs)) bs
 
 -- what bytes made of bits read as: the bits, then zeros
-pub map-toBytes : (n : ℕ) (bs : List ℕ) → AllBits bs → length bs ≤ 8 * n → mapBits (to_bytes n bs) ≡ bs ++ replicate (8 * n - length bs) 0
-map-toBytes zero [] h k = refl
-map-toBytes zero (b ∷ bs) h k = absurd (not-suc-le-zero k)
-map-toBytes (suc n) bs h k = go (dec_le 8 (length bs)) (map-toBytes n (drop 8 bs) (bits-drop 8 bs h) (omega (arith, length-drop 8 bs)))
+pub map-to_bytes : (n : ℕ) (bs : List ℕ) → AllBits bs → length bs ≤ 8 * n → map_bits (to_bytes n bs) ≡ bs ++ replicate (8 * n - length bs) 0
+map-to_bytes zero [] h k = refl
+map-to_bytes zero (b ∷ bs) h k = absurd (not-suc-le-zero k)
+map-to_bytes (suc n) bs h k = go (dec_le 8 (length bs)) (map-to_bytes n (drop 8 bs) (bits-drop 8 bs h) (omega (arith, length-drop 8 bs)))
   where
     first : low 8 (word (take 8 bs)) ≡ take 8 bs ++ replicate (8 - length (take 8 bs)) 0
     first = low_word (take 8 bs) 8 (bits-take 8 bs h) (omega (arith, length-take 8 bs))
 
-    go : Dec (8 ≤ length bs) → mapBits (to_bytes n (drop 8 bs)) ≡ drop 8 bs ++ replicate (8 * n - length (drop 8 bs)) 0
-        → low 8 (word (take 8 bs)) ++ mapBits (to_bytes n (drop 8 bs)) ≡ bs ++ replicate (8 * suc n - length bs) 0
+    go : Dec (8 ≤ length bs) → map_bits (to_bytes n (drop 8 bs)) ≡ drop 8 bs ++ replicate (8 * n - length (drop 8 bs)) 0
+        → low 8 (word (take 8 bs)) ++ map_bits (to_bytes n (drop 8 bs)) ≡ bs ++ replicate (8 * suc n - length bs) 0
     go (yes l) ih =
         let e : 8 - length (take 8 bs) ≡ 0 = omega (arith, length-take-le 8 bs l) in
         let q : 8 * n - length (drop 8 bs) ≡ 8 * suc n - length bs = omega (arith, length-drop 8 bs) in
         let f : low 8 (word (take 8 bs)) ≡ take 8 bs = rw (e, append-nil) at first in
-        let r₁ : mapBits (to_bytes n (drop 8 bs)) ≡ drop 8 bs ++ replicate (8 * suc n - length bs) 0 = rw q at ih in
+        let r₁ : map_bits (to_bytes n (drop 8 bs)) ≡ drop 8 bs ++ replicate (8 * suc n - length bs) 0 = rw q at ih in
         ap₂ ◌++◌ f r₁
         ∙ rw (← append_assoc, take-append-drop 8 bs)
     go (no g) ih =
@@ -112,6 +112,6 @@ map-toBytes (suc n) bs h k = go (dec_le 8 (length bs)) (map-toBytes n (drop 8 bs
         let q : 8 * n - length (drop 8 bs) ≡ 8 * n = omega (arith, length-drop 8 bs) in
         let r : 8 - length bs + 8 * n ≡ 8 * suc n - length bs = omega arith in
         let f : low 8 (word (take 8 bs)) ≡ bs ++ replicate (8 - length bs) 0 = first ∙ ap (λ (l : List ℕ). l ++ replicate (8 - length l) 0) t in
-        let r₂ : mapBits (to_bytes n (drop 8 bs)) ≡ replicate (8 * n) 0 = ih ∙ ap₂ (λ (l : List ℕ) (k : ℕ). l ++ replicate k 0) d q in
+        let r₂ : map_bits (to_bytes n (drop 8 bs)) ≡ replicate (8 * n) 0 = ih ∙ ap₂ (λ (l : List ℕ) (k : ℕ). l ++ replicate k 0) d q in
         ap₂ ◌++◌ f r₂
         ∙ rw (append_assoc, replicate-append-replicate {A = ℕ} (8 - length bs) (8 * n) 0, r)

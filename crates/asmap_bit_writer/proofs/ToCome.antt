@@ -8,12 +8,12 @@ use native.Mathlib.Omega.{arith}
 use lib.Dec.{lit<}
 use lib.ListN.{length, drop, replicate, length-append}
 use lib.Seq.{drop_at, sets}
-use Rattle.asmap_codes.specs.Bits.{mapBits, allZero}
+use Rattle.asmap_codes.specs.Bits.{map_bits, all_zero}
 use Rattle.asmap_codes.proofs.BitLaws.{AllBits}
 use Rattle.asmap_bit_writer.specs.Bytes.{bytes_of}
 use Rattle.asmap_bit_writer.specs.models.Stream.{Ready, stream, Moved}
 use Rattle.asmap_bit_writer.specs.declared.BitWriter.{BitWriter}
-use Rattle.asmap_bit_writer.proofs.ByteLaws.{map-toBytes, length-bytesOf}
+use Rattle.asmap_bit_writer.proofs.ByteLaws.{map-to_bytes, length-bytes_of}
 
 -- ---- bits are pushed
 
@@ -24,10 +24,10 @@ pub record ToCome (goal out₀ out : List ℕ) (w : BitWriter) (rest : List ℕ)
   pub ready : Ready w
   pub kept : length out ≡ length out₀
 
-pub all-to-come : (out bits : List ℕ) (w : BitWriter) → w ≡ record { bits = 0; held = 0; place = 0 } → length bits ≤ 8 * length out
+pub all_to_come : (out bits : List ℕ) (w : BitWriter) → w ≡ record { bits = 0; held = 0; place = 0 } → length bits ≤ 8 * length out
     → ToCome (sets out 0 (bytes_of bits)) out out w bits
 unfolding stream
-all-to-come out bits w z h =
+all_to_come out bits w z h =
     rw z record { onward = refl; fits = omega arith; ready = record { small = lit< tt; short = lit< tt }; kept = refl }
 
 -- a piece was pushed, and the rest is still to come
@@ -48,23 +48,23 @@ room piece rest t = omega (arith, t.fits, length-append piece rest)
 -- the bits, and fewer than 8 zeros behind them
 pub record ReadBack (bits m : List ℕ) : Type 0 where
   pub pad : List ℕ
-  pub whole : mapBits m ≡ bits ++ pad
+  pub whole : map_bits m ≡ bits ++ pad
   pub few : 8 * length m - length bits ≤ 7
-  pub blank : allZero (drop (length bits) (mapBits m)) ≡ true
+  pub blank : all_zero (drop (length bits) (map_bits m)) ≡ true
 
-all-zeros : (n : ℕ) → allZero (replicate n 0) ≡ true
-all-zeros zero = refl
-all-zeros (suc n) = all-zeros n
+all_zeros : (n : ℕ) → all_zero (replicate n 0) ≡ true
+all_zeros zero = refl
+all_zeros (suc n) = all_zeros n
 
 pub read_back : (bits : List ℕ) → AllBits bits → ReadBack bits (bytes_of bits)
 unfolding bytes_of
 read_back bits h =
     let n = (length bits + 7) / 8 in
     let k = 8 * n - length bits in
-    let e : mapBits (bytes_of bits) ≡ bits ++ replicate k 0 = map-toBytes n bits h (omega arith) in
+    let e : map_bits (bytes_of bits) ≡ bits ++ replicate k 0 = map-to_bytes n bits h (omega arith) in
     record {
       pad = replicate k 0;
       whole = e;
-      few = omega (arith, length-bytesOf bits);
-      blank = ap (λ (l : List ℕ). allZero (drop (length bits) l)) e ∙ ap allZero (drop_at bits (replicate k 0) (length bits) refl) ∙ all-zeros k;
+      few = omega (arith, length-bytes_of bits);
+      blank = ap (λ (l : List ℕ). all_zero (drop (length bits) l)) e ∙ ap all_zero (drop_at bits (replicate k 0) (length bits) refl) ∙ all_zeros k;
     }

@@ -10,11 +10,11 @@ use lib.ListN.{length, set, length-set}
 use lib.Seq.{sets, length-sets}
 use Rattle.asmap_codes.specs.Bits.{low}
 use Rattle.asmap_codes.proofs.BitLaws.{length-low}
-use Rattle.asmap_encode.proofs.WordLaws.{window-lt}
+use Rattle.asmap_encode.proofs.WordLaws.{window_lt}
 use Rattle.asmap_bit_writer.specs.Bytes.{bytes_of}
-use Rattle.asmap_bit_writer.specs.models.Stream.{stream, putBytes, Moved}
+use Rattle.asmap_bit_writer.specs.models.Stream.{stream, put_bytes, Moved}
 use Rattle.asmap_bit_writer.specs.declared.BitWriter.{BitWriter}
-use Rattle.asmap_bit_writer.proofs.ByteLaws.{low-append, bytes_low, bytes-last, word_low}
+use Rattle.asmap_bit_writer.proofs.ByteLaws.{low-append, bytes_low, bytes_last, word_low}
 
 -- what is written from place p on when a word was put above the bits held
 pub stream-push : (o : List ℕ) (p n k a w : ℕ) (rest : List ℕ) → a < 2 ^ n
@@ -32,12 +32,12 @@ pub moved_as : {o o' bs cs : List ℕ} {w w' : BitWriter} → Moved o w bs o' w'
 moved_as {o} {o'} {w} {w'} m e = subst (λ (l : List ℕ). Moved o w l o' w') e m
 
 -- bytes go out
-pub length-put : (n : ℕ) (o : List ℕ) (p a : ℕ) → length (putBytes n o p a) ≡ length o
+pub length-put : (n : ℕ) (o : List ℕ) (p a : ℕ) → length (put_bytes n o p a) ≡ length o
 length-put zero o p a = refl
 length-put (suc n) o p a = length-put n (set o p (a % 256)) (p + 1) (a / 256) ∙ length-set o p (a % 256)
 
 pub stream-bytes : (n : ℕ) (o : List ℕ) (p a : ℕ) (rest : List ℕ)
-    → sets o p (bytes_of (low (8 * n) a ++ rest)) ≡ sets (putBytes n o p a) (p + n) (bytes_of rest)
+    → sets o p (bytes_of (low (8 * n) a ++ rest)) ≡ sets (put_bytes n o p a) (p + n) (bytes_of rest)
 stream-bytes zero o p a rest = let e : p ≡ p + 0 = omega arith in ap (λ (k : ℕ). sets o k (bytes_of rest)) e
 stream-bytes (suc n) o p a rest =
     let e : 8 * suc n ≡ 8 + 8 * n = omega arith in
@@ -47,7 +47,7 @@ stream-bytes (suc n) o p a rest =
     ∙ ap (sets o p) (bytes_low (8 * n) a rest)
     ∙ ap (λ (k : ℕ). sets (set o p (a % 256)) k (bytes_of (low (8 * n) (a / 256) ++ rest))) q
     ∙ stream-bytes n (set o p (a % 256)) (p + 1) (a / 256) rest
-    ∙ ap (λ (k : ℕ). sets (putBytes n (set o p (a % 256)) (p + 1) (a / 256)) k (bytes_of rest)) s
+    ∙ ap (λ (k : ℕ). sets (put_bytes n (set o p (a % 256)) (p + 1) (a / 256)) k (bytes_of rest)) s
 
 -- a word shifted past n bits of 64, with what they have no room for left out
 module _ (w n : ℕ) (f : n ≤ 64) where
@@ -64,13 +64,13 @@ module _ (w n : ℕ) (f : n ≤ 64) where
   pub shifted_fits : (a : ℕ) → a < 2 ^ n → a + w * 2 ^ n % 2 ^ 64 < 2 ^ 64
   shifted_fits a h =
       let e : n + (64 - n) ≡ 64 = omega arith in
-      rw shifted-low (rw e at (window-lt a n (w % 2 ^ (64 - n)) (64 - n) h (mod-lt w (pow.pow_pos (64 - n)))))
+      rw shifted-low (rw e at (window_lt a n (w % 2 ^ (64 - n)) (64 - n) h (mod-lt w (pow.pow_pos (64 - n)))))
 
   -- 64 bits are held: their eight bytes go out, and the rest of the word is held
-  pub stream-full : (o : List ℕ) (p k a : ℕ) (rest : List ℕ) → a < 2 ^ n → 64 ≤ n + k
+  pub stream_full : (o : List ℕ) (p k a : ℕ) (rest : List ℕ) → a < 2 ^ n → 64 ≤ n + k
       → sets o p (bytes_of (low n a ++ (low k w ++ rest)))
-      ≡ sets (putBytes 8 o p (a + w * 2 ^ n % 2 ^ 64)) (p + 8) (bytes_of (low (n + k - 64) (w / 2 ^ (64 - n)) ++ rest))
-  stream-full o p k a rest h g =
+      ≡ sets (put_bytes 8 o p (a + w * 2 ^ n % 2 ^ 64)) (p + 8) (bytes_of (low (n + k - 64) (w / 2 ^ (64 - n)) ++ rest))
+  stream_full o p k a rest h g =
       let i = 64 - n in
       let j = n + k - 64 in
       let l = w % 2 ^ i in
@@ -95,13 +95,13 @@ module _ (w n : ℕ) (f : n ≤ 64) where
       pow.shr_lt (n + k - 64) (64 - n) l
 
 -- the bits held go out as the bytes of their number, zeros above them
-held_out : (n : ℕ) (o : List ℕ) (p h a : ℕ) → h ≤ 8 * n → 8 * n < h + 8 → a < 2 ^ h → sets o p (bytes_of (low h a ++ [])) ≡ putBytes n o p a
+held_out : (n : ℕ) (o : List ℕ) (p h a : ℕ) → h ≤ 8 * n → 8 * n < h + 8 → a < 2 ^ h → sets o p (bytes_of (low h a ++ [])) ≡ put_bytes n o p a
 unfolding bytes_of
 held_out zero o p h a i j l = let z : h ≡ 0 = omega arith in ap (λ (k : ℕ). sets o p (bytes_of (low k a ++ []))) z
 held_out (suc zero) o p h a i j l =
     let e : a ≡ a % 256 = omega (arith, pow_mono {i = h} {j = 8} i) in
     let k = length-low h a in
-    ap (sets o p) (ap bytes_of (append-nil (low h a)) ∙ bytes-last (low h a) (omega arith) (omega arith) ∙ ap (λ (x : ℕ). x ∷ []) (word_low h a l ∙ e))
+    ap (sets o p) (ap bytes_of (append-nil (low h a)) ∙ bytes_last (low h a) (omega arith) (omega arith) ∙ ap (λ (x : ℕ). x ∷ []) (word_low h a l ∙ e))
 held_out (suc (suc n)) o p h a i j l =
     let q : h ≡ 8 + (h - 8) = omega arith in
     let c : h ≡ h - 8 + 8 = omega arith in
@@ -113,6 +113,6 @@ held_out (suc (suc n)) o p h a i j l =
     ∙ ap (λ (k : ℕ). sets o' k (bytes_of (low (h - 8) (a / 256) ++ []))) s
     ∙ held_out (suc n) o' (p + 1) (h - 8) (a / 256) (omega arith) (omega arith) (pow.shr_lt (h - 8) 8 m)
 
-pub stream-finished : (o : List ℕ) (w : BitWriter) → w.bits < 2 ^ w.held → stream o w [] ≡ putBytes ((w.held + 7) / 8) o w.place w.bits
+pub stream_finished : (o : List ℕ) (w : BitWriter) → w.bits < 2 ^ w.held → stream o w [] ≡ put_bytes ((w.held + 7) / 8) o w.place w.bits
 unfolding stream
-stream-finished o w l = held_out ((w.held + 7) / 8) o w.place w.held w.bits (omega arith) (omega arith) l
+stream_finished o w l = held_out ((w.held + 7) / 8) o w.place w.held w.bits (omega arith) (omega arith) l

@@ -7,72 +7,72 @@ use Prim.Native.Nat.{ℕ, ◌^◌, ◌≤◌, ◌<◌}
 use native.Mathlib.Omega.{arith}
 use lib.ListN.{length}
 use Rattle.asmap_codes.specs.Bits.{low}
-use Rattle.asmap_codes.specs.Row.{typeRow, operand_row, in_range}
-use Rattle.asmap_codes.specs.Encode.{instructionBits}
-use Rattle.asmap_codes.proofs.RowLaws.{in-range}
-use Rattle.asmap_encode.specs.Write.{puts, none, pickWritten, writeInstruction}
+use Rattle.asmap_codes.specs.Row.{type_row, operand_row, in_range}
+use Rattle.asmap_codes.specs.Encode.{instruction_bits}
+use Rattle.asmap_codes.proofs.RowLaws.{in_range}
+use Rattle.asmap_encode.specs.Write.{puts, none, pick_written, write_instruction}
 use Rattle.asmap_encode.specs.declared.Word.{Word}
-use Rattle.asmap_encode.specs.models.Words.{lengthWritten}
+use Rattle.asmap_encode.specs.models.Words.{length_written}
 use Rattle.asmap_encode.specs.declared.Written.{Written}
 use Rattle.asmap_encode.specs.declared.Written.TheVariants.{Bits, Refused}
-use Rattle.asmap_encode.proofs.InstructionLaws.{instruction-word}
-use Rattle.asmap_bit_writer.proofs.ByteLaws.{word_lt, low-word-all}
-use Rattle.asmap_bit_writer.proofs.InstructionBits.{bits-instruction}
+use Rattle.asmap_encode.proofs.InstructionLaws.{instruction_word}
+use Rattle.asmap_bit_writer.proofs.ByteLaws.{word_lt, low-word_all}
+use Rattle.asmap_bit_writer.proofs.InstructionBits.{bits_instruction}
 
 -- the word of an instruction in range
 pub record Holding (op v : ℕ) (u : Word) : Type 0 where
-  pub ranged : (in_range typeRow op && in_range (operand_row op) v) ≡ true
-  pub len : u.len ≡ length (instructionBits op v)
+  pub ranged : (in_range type_row op && in_range (operand_row op) v) ≡ true
+  pub len : u.len ≡ length (instruction_bits op v)
   pub small : u.bits < 2 ^ u.len
   pub short : u.len ≤ 57
-  pub bits : low u.len u.bits ≡ instructionBits op v
+  pub bits : low u.len u.bits ≡ instruction_bits op v
 
 -- an instruction in range, and how many bits it has
 pub record Measured (op v n : ℕ) : Type 0 where
-  pub ranged : (in_range typeRow op && in_range (operand_row op) v) ≡ true
-  pub len : n ≡ length (instructionBits op v)
+  pub ranged : (in_range type_row op && in_range (operand_row op) v) ≡ true
+  pub len : n ≡ length (instruction_bits op v)
   pub short : n ≤ 57
 
 module _ (op v : ℕ) where
-  pub written-some : (u : Word) → writeInstruction op v ≡ Bits u → Holding op v u
-  written-some u e =
-      let h = instruction-word op v u e in
-      let l = instructionBits op v in
+  pub written_some : (u : Word) → write_instruction op v ≡ Bits u → Holding op v u
+  written_some u e =
+      let h = instruction_word op v u e in
+      let l = instruction_bits op v in
       record {
-        ranged = rw (in-range typeRow op (omega arith) h.known, in-range (operand_row op) v h.above h.below);
+        ranged = rw (in_range type_row op (omega arith) h.known, in_range (operand_row op) v h.above h.below);
         len = h.len;
-        small = rw (h.bits, h.len) (word_lt l (bits-instruction op v));
+        small = rw (h.bits, h.len) (word_lt l (bits_instruction op v));
         short = h.most;
-        bits = rw (h.bits, h.len) (low-word-all l (bits-instruction op v));
+        bits = rw (h.bits, h.len) (low-word_all l (bits_instruction op v));
       }
 
-  written_none : (n : ℕ) → writeInstruction op v ≡ Refused n → (in_range typeRow op && in_range (operand_row op) v) ≡ false
-  unfolding writeInstruction
-  written_none n e = go (in_range typeRow op && in_range (operand_row op) v) e
+  written_none : (n : ℕ) → write_instruction op v ≡ Refused n → (in_range type_row op && in_range (operand_row op) v) ≡ false
+  unfolding write_instruction
+  written_none n e = go (in_range type_row op && in_range (operand_row op) v) e
     where
-      go : (b : Bool) → pickWritten b (Bits (puts none (instructionBits op v))) (Refused 15) ≡ Refused n → b ≡ false
+      go : (b : Bool) → pick_written b (Bits (puts none (instruction_bits op v))) (Refused 15) ≡ Refused n → b ≡ false
       go true q = let z : ◌≡◌ {A = ℕ} 0 1 = cc in absurd (omega arith)
       go false q = refl
 
   -- an instruction in range is not refused
-  pub written-never : (n : ℕ) → (in_range typeRow op && in_range (operand_row op) v) ≡ true → writeInstruction op v ≡ Refused n → ⊥
-  written-never n h e = differ (sym h ∙ written_none n e)
+  pub written_never : (n : ℕ) → (in_range type_row op && in_range (operand_row op) v) ≡ true → write_instruction op v ≡ Refused n → ⊥
+  written_never n h e = differ (sym h ∙ written_none n e)
     where
       differ : true ≡ false → ⊥
       differ z = let y : ◌≡◌ {A = ℕ} 0 1 = cc in omega arith
 
   -- ---- its length alone
 
-  pub measured-some : (n : ℕ) → n ≡ lengthWritten (writeInstruction op v) → n ≢ 0 → Measured op v n
-  measured-some n e z = go (writeInstruction op v) refl e
+  pub measured_some : (n : ℕ) → n ≡ length_written (write_instruction op v) → n ≢ 0 → Measured op v n
+  measured_some n e z = go (write_instruction op v) refl e
     where
-      go : (x : Written) → writeInstruction op v ≡ x → n ≡ lengthWritten x → Measured op v n
-      go (Bits u) q l = let h = written-some u q in record { ranged = h.ranged; len = l ∙ h.len; short = omega (arith, h.short) }
+      go : (x : Written) → write_instruction op v ≡ x → n ≡ length_written x → Measured op v n
+      go (Bits u) q l = let h = written_some u q in record { ranged = h.ranged; len = l ∙ h.len; short = omega (arith, h.short) }
       go (Refused k) q l = absurd (z l)
 
-  pub measured-none : (n : ℕ) → n ≡ lengthWritten (writeInstruction op v) → n ≡ 0 → (in_range typeRow op && in_range (operand_row op) v) ≡ false
-  measured-none n e z = go (writeInstruction op v) refl e
+  pub measured_none : (n : ℕ) → n ≡ length_written (write_instruction op v) → n ≡ 0 → (in_range type_row op && in_range (operand_row op) v) ≡ false
+  measured_none n e z = go (write_instruction op v) refl e
     where
-      go : (x : Written) → writeInstruction op v ≡ x → n ≡ lengthWritten x → (in_range typeRow op && in_range (operand_row op) v) ≡ false
-      go (Bits u) q l = absurd (omega (arith, (instruction-word op v u q).some))
+      go : (x : Written) → write_instruction op v ≡ x → n ≡ length_written x → (in_range type_row op && in_range (operand_row op) v) ≡ false
+      go (Bits u) q l = absurd (omega (arith, (instruction_word op v u q).some))
       go (Refused k) q l = written_none k q

@@ -8,9 +8,9 @@ to_bytes zero bs = []
 to_bytes (suc n) bs = word (take 8 bs) ∷ to_bytes n (drop 8 bs)
 
 -- How many bytes hold n bits: as few as can.
-abbrev pub bytesFor : ℕ → ℕ
-bytesFor n = (n + 7) / 8
+abbrev pub bytes_for : ℕ → ℕ
+bytes_for n = (n + 7) / 8
 
 -- The bytes of bits (document 01, Unpack and pack): as few as hold them, the last padded with zeros; none for no bits.
 unfoldable pub bytes_of : List ℕ → List ℕ
-bytes_of bs = to_bytes (bytesFor (length bs)) bs
+bytes_of bs = to_bytes (bytes_for (length bs)) bs

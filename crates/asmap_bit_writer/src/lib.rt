@@ -2,9 +2,9 @@
 // is pushed after the bits before it, and at the end the bits still held go out, the last byte padded with zeros.
 ghost use Rattle.std.specs.Prelude.{◌≡◌, true, ◌&&◌, [], ◌+◌, ◌*◌, ◌^◌, ◌≤◌, ◌<◌, length};
 ghost use Rattle.asmap_codes.specs.Bits.{low};
-ghost use Rattle.asmap_codes.specs.Row.{typeRow, operand_row, in_range};
-ghost use Rattle.asmap_codes.specs.Encode.{instructionBits};
-ghost use Rattle.asmap_bit_writer.specs.models.Stream.{Ready, putBytes, stream, Moved};
+ghost use Rattle.asmap_codes.specs.Row.{type_row, operand_row, in_range};
+ghost use Rattle.asmap_codes.specs.Encode.{instruction_bits};
+ghost use Rattle.asmap_bit_writer.specs.models.Stream.{Ready, put_bytes, stream, Moved};
 
 use asmap_encode::{Word, Written};
 
@@ -20,7 +20,7 @@ pub struct BitWriter {
 // So many bytes of a number go out from a place on, the lowest first.
 fn put_bytes(out: &mut [u8], from: usize, number: u64, count: usize)
     requires { from + count ≤ length out.old }
-    ensures { out.new ≡ putBytes count out.old from number }
+    ensures { out.new ≡ put_bytes count out.old from number }
 {
     let mut place = from;
     let mut bits = number;
@@ -59,9 +59,9 @@ pub fn push_word(out: &mut [u8], writer: BitWriter, word: Word) -> BitWriter
 // Pushes an instruction that is in range, its opcode's code and then its operand's, for which the output has room. What is left
 // free, and why no caller sees it, is as for a word.
 pub fn push_instruction(out: &mut [u8], writer: BitWriter, opcode: u32, operand: u32) -> BitWriter
-    requires { Ready writer × ((in_range typeRow opcode && in_range (operand_row opcode) operand) ≡ true)
-        × (8 * writer.place + writer.held + length (instructionBits opcode operand) ≤ 8 * length out.old) }
-    ensures { Moved out.old writer (instructionBits opcode operand) out.new result }
+    requires { Ready writer × ((in_range type_row opcode && in_range (operand_row opcode) operand) ≡ true)
+        × (8 * writer.place + writer.held + length (instruction_bits opcode operand) ≤ 8 * length out.old) }
+    ensures { Moved out.old writer (instruction_bits opcode operand) out.new result }
 {
     let written = asmap_encode::encode_instruction(opcode, operand);
     let Written::Bits(word) = written else {

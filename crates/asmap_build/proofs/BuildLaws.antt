@@ -12,7 +12,7 @@ use lib.ListN.{length}
 use borrow.Author.Tests.{le-ltb, ltb-true, ltb-false}
 use Rattle.asmap_program.specs.declared.Kind.TheVariants.{Returned}
 use Rattle.asmap_program.specs.declared.Verdict.TheVariants.{Accepted}
-use Rattle.asmap_program.specs.Map.{addressBit}
+use Rattle.asmap_program.specs.Map.{address_bit}
 use Rattle.asmap_program.specs.Check.{check}
 use Rattle.asmap_program.specs.Walk.{walk}
 use Rattle.prefix_records.specs.Tiling.{Piece, first_of, past_of, holds, JustOne, number_of}
@@ -22,22 +22,22 @@ use Rattle.prefix_lists.specs.models.Listed.{Number, Rising}
 use Rattle.prefix_joins.proofs.JoinLaws.{Apart, joined_same}
 use Rattle.asmap_listing.specs.Listing.{listing}
 use Rattle.asmap_listing.proofs.ListingLaws.{listing-tiles, listing-walks}
-use Rattle.asmap_listing.proofs.AddressLaws.{bits_of, bits_are, bytes-are, number-again}
-use Rattle.asmap_codes.specs.Instruction.{mapOf}
+use Rattle.asmap_listing.proofs.AddressLaws.{bits_of, bits_are, bytes_are, number_again}
+use Rattle.asmap_codes.specs.Instruction.{map_of}
 use Rattle.asmap_codes.proofs.MapLaws.{laws}
-use Rattle.asmap_check.specs.Check.{checkOf}
+use Rattle.asmap_check.specs.Check.{check_of}
 use Rattle.asmap_walk_bits.specs.Walk.{walk_of}
 use Rattle.asmap_bit_writer.specs.Bytes.{bytes_of}
-use Rattle.asmap_bit_writer.proofs.ByteLaws.{length-bytesOf}
-use Rattle.asmap_shapes.proofs.MapLaws.{shape-accepted, shape-walks}
-use Rattle.asmap_build.specs.Build.{number_in, treeBits}
+use Rattle.asmap_bit_writer.proofs.ByteLaws.{length-bytes_of}
+use Rattle.asmap_shapes.proofs.MapLaws.{shape_accepted, shape-walks}
+use Rattle.asmap_build.specs.Build.{number_in, tree_bits}
 use Rattle.asmap_build.specs.Promise.{Builds}
 
 -- every number is one of the list's or the given one
-pub number-at : (w : ℕ) (ps : ℕ → Piece) (given n : ℕ) → ((i : ℕ) → i < n → Number (ps i).number) → Number given → (x : ℕ) → Number (number_at w ps given n x)
+pub number_at_lem : (w : ℕ) (ps : ℕ → Piece) (given n : ℕ) → ((i : ℕ) → i < n → Number (ps i).number) → Number given → (x : ℕ) → Number (number_at w ps given n x)
 unfolding number_at
-number-at w ps given zero h g x = g
-number-at w ps given (suc n) h g x = go (holds w x (ps n)) (number-at w ps given n (λ i l. h i (omega arith)) g x)
+number_at_lem w ps given zero h g x = g
+number_at_lem w ps given (suc n) h g x = go (holds w x (ps n)) (number_at_lem w ps given n (λ i l. h i (omega arith)) g x)
   where
     go : (b : Bool) → Number (number_at w ps given n x) → Number (cond b (ps n).number (number_at w ps given n x))
     go true k = h n (omega arith)
@@ -55,56 +55,56 @@ unscaled x y j h = go (ltb y x) refl
     go false e = ltb-false y x e
 
 module _ (w v : ℕ) (narrow : w ≤ v) where
-  past-scaled : (p : Piece) → p.length ≤ w → past_of v p ≡ past_of w p * 2 ^ (v - w)
-  past-scaled p h = wider w v (p.prefix + 1) p.length h narrow
+  past_scaled : (p : Piece) → p.length ≤ w → past_of v p ≡ past_of w p * 2 ^ (v - w)
+  past_scaled p h = wider w v (p.prefix + 1) p.length h narrow
 
-  inside-scaled : (p : Piece) → p.length ≤ w → past_of v p ≤ 2 ^ v → past_of w p ≤ 2 ^ w
-  inside-scaled p h k =
+  inside_scaled : (p : Piece) → p.length ≤ w → past_of v p ≤ 2 ^ v → past_of w p ≤ 2 ^ w
+  inside_scaled p h k =
       let e : v ≡ w + (v - w) = omega arith in
       let q : 2 ^ v ≡ 2 ^ w * 2 ^ (v - w) = ap (λ (i : ℕ). 2 ^ i) e ∙ pow.pow-add 2 w (v - w) in
-      unscaled (past_of w p) (2 ^ w) (v - w) (subst (λ (x : ℕ). x ≤ 2 ^ w * 2 ^ (v - w)) (past-scaled p h) (subst (λ (y : ℕ). past_of v p ≤ y) q k))
+      unscaled (past_of w p) (2 ^ w) (v - w) (subst (λ (x : ℕ). x ≤ 2 ^ w * 2 ^ (v - w)) (past_scaled p h) (subst (λ (y : ℕ). past_of v p ≤ y) q k))
 
-  rising-scaled : (p r : Piece) → p.length ≤ w → r.length ≤ w → past_of v p ≤ first_of v r → past_of w p ≤ first_of w r
-  rising-scaled p r h g k =
+  rising_scaled : (p r : Piece) → p.length ≤ w → r.length ≤ w → past_of v p ≤ first_of v r → past_of w p ≤ first_of w r
+  rising_scaled p r h g k =
       unscaled (past_of w p) (first_of w r) (v - w)
-      (subst (λ (x : ℕ). x ≤ first_of w r * 2 ^ (v - w)) (past-scaled p h) (subst (λ (y : ℕ). past_of v p ≤ y) (wider w v r.prefix r.length g narrow) k))
+      (subst (λ (x : ℕ). x ≤ first_of w r * 2 ^ (v - w)) (past_scaled p h) (subst (λ (y : ℕ). past_of v p ≤ y) (wider w v r.prefix r.length g narrow) k))
 
 module _ (l : List ℕ) (given w : ℕ) (narrow : w ≤ 128) (rising : Rising w l) (number : Number given) where
   apart : Apart w (piece_at l) (count_of l)
   apart = record {
-    inside = λ i h. inside-scaled w 128 narrow (piece_at l i) (rising.short i h) (rising.inside i h);
-    rising = λ i j h k. rising-scaled w 128 narrow (piece_at l i) (piece_at l j) (rising.short i (omega (arith, h, k))) (rising.short j k) (rising.rising i j h k);
+    inside = λ i h. inside_scaled w 128 narrow (piece_at l i) (rising.short i h) (rising.inside i h);
+    rising = λ i j h k. rising_scaled w 128 narrow (piece_at l i) (piece_at l j) (rising.short i (omega (arith, h, k))) (rising.short j k) (rising.rising i j h k);
   }
 
   numbers : (x : ℕ) → Number (number_in l given w x)
-  numbers = number-at w (piece_at l) given (count_of l) rising.numbers number
+  numbers = number_at_lem w (piece_at l) given (count_of l) rising.numbers number
 
-  module _ (short : length (treeBits l given w) ≤ 134217728) where
+  module _ (short : length (tree_bits l given w) ≤ 134217728) where
     abbrev m : List ℕ
-    m = bytes_of (treeBits l given w)
+    m = bytes_of (tree_bits l given w)
 
-    checked : (c : ℕ) × (d : ℕ) × (check (mapOf m) w ≡ Accepted c d)
-    checked = shape-accepted (number_in l given w) numbers w short
+    checked : (c : ℕ) × (d : ℕ) × (check (map_of m) w ≡ Accepted c d)
+    checked = shape_accepted (number_in l given w) numbers w short
 
-    accepted : (c : ℕ) × (d : ℕ) × (checkOf m w ≡ Accepted c d)
-    accepted = (checked.0, checked.1, rw (le-ltb 16777216 (length m) (omega (arith, length-bytesOf (treeBits l given w), short))) checked.2)
+    accepted : (c : ℕ) × (d : ℕ) × (check_of m w ≡ Accepted c d)
+    accepted = (checked.0, checked.1, rw (le-ltb 16777216 (length m) (omega (arith, length-bytes_of (tree_bits l given w), short))) checked.2)
 
-    walks : (a : List ℕ) → ((walk_of m a w).kind ≡ Returned) × ((walk_of m a w).number ≡ number_in l given w (number_of (addressBit a) w))
+    walks : (a : List ℕ) → ((walk_of m a w).kind ≡ Returned) × ((walk_of m a w).number ≡ number_in l given w (number_of (address_bit a) w))
     unfolding walk_of
-    walks a = shape-walks (number_in l given w) numbers w short (addressBit a) (bytes-are a)
+    walks a = shape-walks (number_in l given w) numbers w short (address_bit a) (bytes_are a)
 
     -- every address, as a number, lies in just one piece of the listing, and that one has its number
-    listed : (x : ℕ) → x < 2 ^ w → JustOne w x (number_in l given w x) (listing (mapOf m))
+    listed : (x : ℕ) → x < 2 ^ w → JustOne w x (number_in l given w x) (listing (map_of m))
     listed x h =
-        let e = number-again w x h in
-        let q : (walk (bits_of w x) (mapOf m) w).number ≡ number_in l given w x = (shape-walks (number_in l given w) numbers w short (bits_of w x) (bits_are w x)).1 ∙ ap (number_in l given w) e in
-        subst (λ (n : ℕ). JustOne w x n (listing (mapOf m))) q
-        (subst (λ (y : ℕ). JustOne w y (walk (bits_of w x) (mapOf m) w).number (listing (mapOf m))) e (listing-walks (mapOf m) (laws m) w checked.2 (bits_of w x) (bits_are w x)))
+        let e = number_again w x h in
+        let q : (walk (bits_of w x) (map_of m) w).number ≡ number_in l given w x = (shape-walks (number_in l given w) numbers w short (bits_of w x) (bits_are w x)).1 ∙ ap (number_in l given w) e in
+        subst (λ (n : ℕ). JustOne w x n (listing (map_of m))) q
+        (subst (λ (y : ℕ). JustOne w y (walk (bits_of w x) (map_of m) w).number (listing (map_of m))) e (listing-walks (map_of m) (laws m) w checked.2 (bits_of w x) (bits_are w x)))
 
     pub builds : Builds l given w m
     builds = record {
       accepted = accepted;
       returns = λ a. (walks a).0;
       walks = λ a. (walks a).1;
-      lists = joined_same w (listing (mapOf m)) (piece_at l) given (count_of l) (listing-tiles (mapOf m) (laws m) w checked.2) apart listed;
+      lists = joined_same w (listing (map_of m)) (piece_at l) given (count_of l) (listing-tiles (map_of m) (laws m) w checked.2) apart listed;
     }

@@ -12,7 +12,7 @@ use Rattle.prefix_records.specs.Tiling.{Piece, first_of, past_of, holds}
 use Rattle.prefix_records.proofs.TilingLaws.{wider}
 use Rattle.prefix_lists.specs.List.{number_at}
 use Rattle.asmap_shapes.specs.Shape.{shape}
-use Rattle.asmap_shapes.proofs.ShapeLaws.{shape_same, shape-scaled}
+use Rattle.asmap_shapes.proofs.ShapeLaws.{shape_same, shape_scaled}
 
 module _ (a j : ℕ) where
   -- a lies from a multiple of 2 ^ j on, and before the next
@@ -24,8 +24,8 @@ module _ (a j : ℕ) where
       let o = one-mul (2 ^ j) in
       (omega (arith, s), omega (arith, s, l, m, o))
 
-  below-scaled : (z : ℕ) → ltb a (z * 2 ^ j) ≡ ltb (a / 2 ^ j) z
-  below-scaled z = go (ltb (a / 2 ^ j) z) refl
+  below_scaled : (z : ℕ) → ltb a (z * 2 ^ j) ≡ ltb (a / 2 ^ j) z
+  below_scaled z = go (ltb (a / 2 ^ j) z) refl
     where
       go : (b : Bool) → ltb (a / 2 ^ j) z ≡ b → ltb a (z * 2 ^ j) ≡ b
       go true e =
@@ -33,8 +33,8 @@ module _ (a j : ℕ) where
           lt-ltb a (z * 2 ^ j) (omega (arith, between.1, mul-le-mul_right (2 ^ j) h))
       go false e = le-ltb a (z * 2 ^ j) (omega (arith, between.0, mul-le-mul_right (2 ^ j) (ltb-false (a / 2 ^ j) z e)))
 
-  from-scaled : (y : ℕ) → leb (y * 2 ^ j) a ≡ leb y (a / 2 ^ j)
-  from-scaled y = go (ltb (a / 2 ^ j) y) refl
+  from_scaled : (y : ℕ) → leb (y * 2 ^ j) a ≡ leb y (a / 2 ^ j)
+  from_scaled y = go (ltb (a / 2 ^ j) y) refl
     where
       go : (b : Bool) → ltb (a / 2 ^ j) y ≡ b → leb (y * 2 ^ j) a ≡ leb y (a / 2 ^ j)
       go true e =
@@ -47,24 +47,24 @@ module _ (a j : ℕ) where
 
 module _ (w v : ℕ) (h : w ≤ v) where
   -- a prefix holds an address of v bits where it holds its first w bits
-  holds-scaled : (p : Piece) → p.length ≤ w → (a : ℕ) → holds v a p ≡ holds w (a / 2 ^ (v - w)) p
-  holds-scaled p k a =
+  holds_scaled : (p : Piece) → p.length ≤ w → (a : ℕ) → holds v a p ≡ holds w (a / 2 ^ (v - w)) p
+  holds_scaled p k a =
       ap₂ ◌&&◌
-      (ap (λ (x : ℕ). leb x a) (wider w v p.prefix p.length k h) ∙ from-scaled a (v - w) (first_of w p))
-      (ap (ltb a) (wider w v (p.prefix + 1) p.length k h) ∙ below-scaled a (v - w) (past_of w p))
+      (ap (λ (x : ℕ). leb x a) (wider w v p.prefix p.length k h) ∙ from_scaled a (v - w) (first_of w p))
+      (ap (ltb a) (wider w v (p.prefix + 1) p.length k h) ∙ below_scaled a (v - w) (past_of w p))
 
-  pub number-scaled : (ps : ℕ → Piece) (given n : ℕ) → ((i : ℕ) → i < n → (ps i).length ≤ w) → (a : ℕ)
+  pub number_scaled : (ps : ℕ → Piece) (given n : ℕ) → ((i : ℕ) → i < n → (ps i).length ≤ w) → (a : ℕ)
       → number_at v ps given n a ≡ number_at w ps given n (a / 2 ^ (v - w))
   unfolding number_at
-  number-scaled ps given zero s a = refl
-  number-scaled ps given (suc n) s a =
-      rw (holds-scaled (ps n) (s n (omega arith)) a, number-scaled ps given n (λ i g. s i (omega arith)) a)
+  number_scaled ps given zero s a = refl
+  number_scaled ps given (suc n) s a =
+      rw (holds_scaled (ps n) (s n (omega arith)) a, number_scaled ps given n (λ i g. s i (omega arith)) a)
 
   -- a list of no prefix longer than w makes the same tree over v bits as over w
-  pub same-at-width : (ps : ℕ → Piece) (given n : ℕ) → ((i : ℕ) → i < n → (ps i).length ≤ w)
+  pub same_at_width : (ps : ℕ → Piece) (given n : ℕ) → ((i : ℕ) → i < n → (ps i).length ≤ w)
       → shape (number_at v ps given n) v 0 ≡ shape (number_at w ps given n) w 0
-  same-at-width ps given n s =
+  same_at_width ps given n s =
       let e : v ≡ w + (v - w) = omega arith in
-      shape_same (number_at v ps given n) (λ (a : ℕ). number_at w ps given n (a / 2 ^ (v - w))) (number-scaled ps given n s) v 0
+      shape_same (number_at v ps given n) (λ (a : ℕ). number_at w ps given n (a / 2 ^ (v - w))) (number_scaled ps given n s) v 0
       ∙ ap (λ (i : ℕ). shape (λ (a : ℕ). number_at w ps given n (a / 2 ^ (v - w))) i 0) e
-      ∙ shape-scaled (number_at w ps given n) (v - w) w 0
+      ∙ shape_scaled (number_at w ps given n) (v - w) w 0

@@ -1,7 +1,7 @@
 -- A map built from a list of prefixes (document 02, CR 8). Assumes nothing.
 use Rattle.std.specs.Prelude.{ℕ, ◌*◌, List, ltb, length}
 use Rattle.asmap_program.specs.Map.{limit}
-use Rattle.asmap_program.specs.Widths.{atWidth}
+use Rattle.asmap_program.specs.Widths.{at_width}
 use Rattle.prefix_lists.specs.declared.Judged.{Judged}
 use Rattle.prefix_lists.specs.declared.Judged.TheVariants.{Listed, Refused}
 use Rattle.prefix_lists.specs.List.{count_of, piece_at, number_at, judge}
@@ -14,18 +14,18 @@ abbrev pub number_in : List ℕ → ℕ → ℕ → ℕ → ℕ
 number_in l given w = number_at w (piece_at l) given (count_of l)
 
 -- The map's bits: the tree of all addresses of w bits.
-abbrev pub treeBits : List ℕ → ℕ → ℕ → List ℕ
-treeBits l given w = bits_of (shape (number_in l given w) w 0)
+abbrev pub tree_bits : List ℕ → ℕ → ℕ → List ℕ
+tree_bits l given w = bits_of (shape (number_in l given w) w 0)
 
 -- By how the list is judged: refused as it says; else 1 for a map over the limit, or its bytes.
-abbrev pub buildAs : List ℕ → Judged → Result
-buildAs bits Listed = refuse (ltb (8 * limit) (length bits)) 1 (Made (bytes_of bits))
-buildAs bits (Refused n) = No n
+abbrev pub build_as : List ℕ → Judged → Result
+build_as bits Listed = refuse (ltb (8 * limit) (length bits)) 1 (Made (bytes_of bits))
+build_as bits (Refused n) = No n
 
 -- The bytes of the map that is built over w address bits.
-unfoldable pub buildOf : List ℕ → ℕ → ℕ → Result
-buildOf l given w = buildAs (treeBits l given w) (judge w l given)
+unfoldable pub build_of : List ℕ → ℕ → ℕ → Result
+build_of l given w = build_as (tree_bits l given w) (judge w l given)
 
 -- "both after 18": at a width.
-abbrev pub buildAt : List ℕ → ℕ → ℕ → Result
-buildAt l given w = atWidth w No (buildOf l given w)
+abbrev pub build_at : List ℕ → ℕ → ℕ → Result
+build_at l given w = at_width w No (build_of l given w)

@@ -2,13 +2,13 @@
 use Rattle.std.specs.Prelude.{ℕ, ◌≡◌, List, take}
 use Rattle.asmap_program.specs.declared.Kind.TheVariants.{Returned}
 use Rattle.asmap_program.specs.declared.Verdict.TheVariants.{Accepted}
-use Rattle.asmap_program.specs.Map.{addressBit}
+use Rattle.asmap_program.specs.Map.{address_bit}
 use Rattle.prefix_records.specs.Tiling.{number_of}
 use Rattle.prefix_lists.specs.List.{count_of, piece_at}
-use Rattle.prefix_joins.specs.Joined.{joined, startsOf, filled}
+use Rattle.prefix_joins.specs.Joined.{joined, starts_of, filled}
 use Rattle.asmap_listing.specs.Listing.{listing}
-use Rattle.asmap_codes.specs.Instruction.{mapOf}
-use Rattle.asmap_check.specs.Check.{checkOf}
+use Rattle.asmap_codes.specs.Instruction.{map_of}
+use Rattle.asmap_check.specs.Check.{check_of}
 use Rattle.asmap_walk_bits.specs.Walk.{walk_of}
 use Rattle.asmap_records.specs.declared.Answer.{Answer}
 use Rattle.asmap_records.specs.declared.Answer.TheVariants.{Wrote}
@@ -17,10 +17,10 @@ use Rattle.asmap_build.specs.Build.{number_in}
 -- The map m, built from the record bytes l and the given number over w address bits. "Every map it writes is accepted, and every address walks to its
 -- record's number or to the given one", by a RETURN. And its listing says of the addresses what the list says: joined by number, both are the same.
 pub record Builds (l : List ℕ) (given w : ℕ) (m : List ℕ) : Type 0 where
-  pub accepted : (c : ℕ) × (d : ℕ) × (checkOf m w ≡ Accepted c d)
+  pub accepted : (c : ℕ) × (d : ℕ) × (check_of m w ≡ Accepted c d)
   pub returns : (a : List ℕ) → (walk_of m a w).kind ≡ Returned
-  pub walks : (a : List ℕ) → (walk_of m a w).number ≡ number_in l given w (number_of (addressBit a) w)
-  pub lists : joined (startsOf w (listing (mapOf m))) ≡ joined (filled w (piece_at l) given (count_of l))
+  pub walks : (a : List ℕ) → (walk_of m a w).number ≡ number_in l given w (number_of (address_bit a) w)
+  pub lists : joined (starts_of w (listing (map_of m))) ≡ joined (filled w (piece_at l) given (count_of l))
 
 -- so it is of the bytes that a call wrote, o being the output at exit and r the answer
 abbrev pub WritesMap : List ℕ → ℕ → ℕ → List ℕ → Answer → Type 0

@@ -10,7 +10,7 @@ ghost use Rattle.prefix_records.specs.models.Cursor.{value_of};
 ghost use Rattle.prefix_lists.specs.declared.Judged.TheVariants.{Listed};
 ghost use Rattle.prefix_lists.specs.models.Listed.{Number, Rising};
 ghost use Rattle.asmap_records.specs.Output.{Hands};
-ghost use Rattle.asmap_build.specs.Build.{treeBits, buildAs, buildOf, buildAt};
+ghost use Rattle.asmap_build.specs.Build.{tree_bits, build_as, build_of, build_at};
 ghost use Rattle.asmap_build.specs.Promise.{WritesMap};
 ghost use Rattle.asmap_build.specs.models.Size.{Sized, WriteReady, Filled};
 
@@ -48,9 +48,9 @@ fn no_starts() -> [usize; 129]
 // One pass over the tree of the addresses of 128 bits, from its end to its start. Without `writes` it only counts; with it, it writes the bits, of which
 // there are `total`.
 fn pass(records: &[u8], given: u32, out: &mut [u8], writes: bool, total: usize) -> Size
-    requires { Rising 128 records.now × Number given × WriteReady writes total (treeBits records.now given 128) out.old }
-    ensures { Sized (treeBits records.now given 128) result
-        × Filled writes (treeBits records.now given 128) out.old out.new }
+    requires { Rising 128 records.now × Number given × WriteReady writes total (tree_bits records.now given 128) out.old }
+    ensures { Sized (tree_bits records.now given 128) result
+        × Filled writes (tree_bits records.now given 128) out.old out.new }
 {
     let mut starts = no_starts();
     let mut run = prefix_runs::last_run(records, given);
@@ -98,7 +98,7 @@ fn pass(records: &[u8], given: u32, out: &mut [u8], writes: bool, total: usize) 
 // The map of a list that is not refused, counted and then written.
 fn build_listed(records: &[u8], given: u32, out: &mut [u8]) -> Answer
     requires { Rising 128 records.now × Number given }
-    ensures { Hands (buildAs (treeBits records.now given 128) Listed) out.old out.new result }
+    ensures { Hands (build_as (tree_bits records.now given 128) Listed) out.old out.new result }
 {
     let Size::Ends(total) = pass(records, given, out, false, 0) else {
         return Answer::Refused(1);
@@ -114,7 +114,7 @@ fn build_listed(records: &[u8], given: u32, out: &mut [u8]) -> Answer
 // Builds over a number of address bits. The tree does not depend on it, once no prefix is longer.
 fn build_over(records: &[u8], given: u32, bits: u8, out: &mut [u8]) -> Answer
     requires { bits ≤ 128 }
-    ensures hands { Hands (buildOf records.now given bits) out.old out.new result }
+    ensures hands { Hands (build_of records.now given bits) out.old out.new result }
     ensures builds { WritesMap records.now given bits out.new result }
 {
     match prefix_lists::judge_list(records, given, bits) {
@@ -127,7 +127,7 @@ fn build_over(records: &[u8], given: u32, bits: u8, out: &mut [u8]) -> Answer
 // 18 for a width that is neither 32 nor 128; 21 for record bytes that are no multiple of 24; for the first wrong record 21 for its prefix or 22 for
 // its number; 22 for the given number; 1 for a map over the limit; 14. A refused call writes nothing.
 pub fn build(records: &[u8], given: u32, width: u32, out: &mut [u8]) -> Answer
-    ensures hands { Hands (buildAt records.now given width) out.old out.new result }
+    ensures hands { Hands (build_at records.now given width) out.old out.new result }
     ensures builds { WritesMap records.now given width out.new result }
 {
     if asmap_program::is_width(width) {

@@ -9,65 +9,65 @@ use lib.ListN.{length}
 use borrow.Author.Tests.{ltb-true, ltb-false, ne_eqb, eqb-true, eqb-false}
 use Rattle.prefix_records.specs.Tiling.{Piece, first_of, past_of, Tiles}
 use Rattle.prefix_records.specs.models.Cursor.{value_of}
-use Rattle.prefix_records.proofs.TilingLaws.{some, tiles-le}
+use Rattle.prefix_records.proofs.TilingLaws.{some, tiles_le}
 use Rattle.prefix_changes.specs.Change.{Change, adding, against, changes}
-use Rattle.prefix_changes.proofs.ChangeLaws.{nested, test, old-first, new-first, both_first, changes-none, changes-few}
-use Rattle.asmap_codes.specs.Instruction.{mapOf}
+use Rattle.prefix_changes.proofs.ChangeLaws.{nested, test, old_first, new_first, both_first, changes_none, changes_few}
+use Rattle.asmap_codes.specs.Instruction.{map_of}
 use Rattle.asmap_listing.specs.Listing.{listing}
 use Rattle.asmap_list_step.specs.declared.Spot.{Spot}
-use Rattle.asmap_list_step.proofs.StepLaws.{startSpot}
-use Rattle.asmap_changes.specs.Changes.{changesOf}
+use Rattle.asmap_list_step.proofs.StepLaws.{start_spot}
+use Rattle.asmap_changes.specs.Changes.{changes_of}
 use Rattle.asmap_changes.specs.declared.Front.{Front}
 use Rattle.asmap_changes.specs.declared.Found.{Found}
-use Rattle.asmap_changes.specs.models.Side.{Ready, mostChanges, Coming, Split, First, Paired, Noted, Roomy, RoomFor, Whole}
-use Rattle.asmap_changes.proofs.PairLaws.{start-coming, Tally, tally-start, tally-whole, Pair, tested, noted}
+use Rattle.asmap_changes.specs.models.Side.{Ready, most_changes, Coming, Split, First, Paired, Noted, Roomy, RoomFor, Whole}
+use Rattle.asmap_changes.proofs.PairLaws.{start_coming, Tally, tally_start, tally_whole, Pair, tested, noted}
 
 -- ---- how it stands
 
 pub record Standing (old new : List ℕ) (writes : Bool) (out₀ out old-bits old-numbers new-bits new-numbers : List ℕ) (f : Found) (o n : Front) : Type 0 where
-  pub piece-old : Piece
-  pub piece-new : Piece
-  pub behind-old : List Piece
-  pub behind-new : List Piece
-  pub pair : Pair old new o n old-bits old-numbers new-bits new-numbers piece-old piece-new behind-old behind-new
-  pub tally : Tally writes out₀ out f (changes 128 (piece-old ∷ behind-old) (piece-new ∷ behind-new)) (changesOf old new 128)
+  pub piece_old : Piece
+  pub piece_new : Piece
+  pub behind_old : List Piece
+  pub behind_new : List Piece
+  pub pair : Pair old new o n old-bits old-numbers new-bits new-numbers piece_old piece_new behind_old behind_new
+  pub tally : Tally writes out₀ out f (changes 128 (piece_old ∷ behind_old) (piece_new ∷ behind_new)) (changes_of old new 128)
 
 -- pieces that begin at one address overlap
-start-lap : (p q : Piece) → first_of 128 p ≡ first_of 128 q → (first_of 128 p < past_of 128 q) × (first_of 128 q < past_of 128 p)
-start-lap p q e = (omega (arith, e, some 128 q), omega (arith, e, some 128 p))
+start_lap : (p q : Piece) → first_of 128 p ≡ first_of 128 q → (first_of 128 p < past_of 128 q) × (first_of 128 q < past_of 128 p)
+start_lap p q e = (omega (arith, e, some 128 q), omega (arith, e, some 128 p))
 
-pub start-standing : (old new : List ℕ) (writes : Bool) (out ob on nb nn : List ℕ) (f : Found) (o n : Front) → Ready old → Ready new → Paired old new o n ob on nb nn
+pub start_standing : (old new : List ℕ) (writes : Bool) (out ob on nb nn : List ℕ) (f : Found) (o n : Front) → Ready old → Ready new → Paired old new o n ob on nb nn
     → f ≡ record { pieces = 0; first = record { high = 0; low = 0 } } → Standing old new writes out out ob on nb nn f o n
-start-standing old new writes out ob on nb nn f o n r s x e =
-    let p = x.old-split in
+start_standing old new writes out ob on nb nn f o n r s x e =
+    let p = x.old_split in
     let q = x.new_split in
     let t : Tiles 128 0 (2 ^ 128) (p.piece ∷ p.behind) = subst (Tiles 128 0 (2 ^ 128)) p.parts r.tiles in
     let u : Tiles 128 0 (2 ^ 128) (q.piece ∷ q.behind) = subst (Tiles 128 0 (2 ^ 128)) q.parts s.tiles in
     record {
-      piece-old = p.piece;
-      piece-new = q.piece;
-      behind-old = p.behind;
-      behind-new = q.behind;
-      pair = record { fore-old = p.fore; fore-new = q.fore; lap = start-lap p.piece q.piece (t.0 ∙ sym u.0) };
+      piece_old = p.piece;
+      piece_new = q.piece;
+      behind_old = p.behind;
+      behind_new = q.behind;
+      pair = record { fore_old = p.fore; fore_new = q.fore; lap = start_lap p.piece q.piece (t.0 ∙ sym u.0) };
       tally =
-          subst (λ (g : Found). Tally writes out out g (changes 128 (p.piece ∷ p.behind) (q.piece ∷ q.behind)) (changesOf old new 128)) (sym e)
-          (subst (λ (l : List Change). Tally writes out out (record { pieces = 0; first = record { high = 0; low = 0 } }) l (changesOf old new 128))
-          (ap (λ (l : List Piece). changes 128 l (listing (mapOf new))) p.parts ∙ ap (changes 128 (p.piece ∷ p.behind)) q.parts)
-          (tally-start writes out (changesOf old new 128)));
+          subst (λ (g : Found). Tally writes out out g (changes 128 (p.piece ∷ p.behind) (q.piece ∷ q.behind)) (changes_of old new 128)) (sym e)
+          (subst (λ (l : List Change). Tally writes out out (record { pieces = 0; first = record { high = 0; low = 0 } }) l (changes_of old new 128))
+          (ap (λ (l : List Piece). changes 128 l (listing (map_of new))) p.parts ∙ ap (changes 128 (p.piece ∷ p.behind)) q.parts)
+          (tally_start writes out (changes_of old new 128)));
     }
 
 -- ---- room and number of changes
 
-pub few-changes : (old new : List ℕ) → Ready old → Ready new → length (changesOf old new 128) ≤ mostChanges
-few-changes old new r s = omega (arith, r.few, s.few, changes-few 128 0 0 (2 ^ 128) (2 ^ 128) (listing (mapOf old)) (listing (mapOf new)) r.tiles s.tiles)
+pub few_changes : (old new : List ℕ) → Ready old → Ready new → length (changes_of old new 128) ≤ most_changes
+few_changes old new r s = omega (arith, r.few, s.few, changes_few 128 0 0 (2 ^ 128) (2 ^ 128) (listing (map_of old)) (listing (map_of new)) r.tiles s.tiles)
 
-one-at-least : (p q : Piece) (ps qs : List Piece) → test 128 p q ≡ true → 1 ≤ length (changes 128 (p ∷ ps) (q ∷ qs))
+one_at_least : (p q : Piece) (ps qs : List Piece) → test 128 p q ≡ true → 1 ≤ length (changes 128 (p ∷ ps) (q ∷ qs))
 unfolding changes against adding
-one-at-least p q ps qs e = rw e (omega arith)
+one_at_least p q ps qs e = rw e (omega arith)
 
-room-for-one : (writes : Bool) (k n : ℕ) (out out' : List ℕ) → RoomFor writes n out → length out' ≡ length out → k + 1 ≤ n → Roomy writes k out'
-room-for-one true k n out out' h e l = omega (arith, h, e, l)
-room-for-one false k n out out' h e l = tt
+room_for_one : (writes : Bool) (k n : ℕ) (out out' : List ℕ) → RoomFor writes n out → length out' ≡ length out → k + 1 ≤ n → Roomy writes k out'
+room_for_one true k n out out' h e l = omega (arith, h, e, l)
+room_for_one false k n out out' h e l = tt
 
 -- ---- where both end
 
@@ -97,40 +97,40 @@ strictly x y h d = go (ltb x y) refl
     go false f = absurd (d (omega (arith, ltb-false x y f)))
 
 module _ {old new : List ℕ} {o n : Front} {ob on nb nn : List ℕ} {p q : Piece} {ps qs : List Piece} (a : Pair old new o n ob on nb nn p q ps qs) where
-  ends-old : past_of 128 p ≤ 2 ^ 128
-  ends-old = tiles-le 128 (past_of 128 p) (2 ^ 128) ps a.fore-old.tiles.2
+  ends_old : past_of 128 p ≤ 2 ^ 128
+  ends_old = tiles_le 128 (past_of 128 p) (2 ^ 128) ps a.fore_old.tiles.2
 
-  ends-new : past_of 128 q ≤ 2 ^ 128
-  ends-new = tiles-le 128 (past_of 128 q) (2 ^ 128) qs a.fore-new.tiles.2
+  ends_new : past_of 128 q ≤ 2 ^ 128
+  ends_new = tiles_le 128 (past_of 128 q) (2 ^ 128) qs a.fore_new.tiles.2
 
   same_end : eqb (value_of o.end) (value_of n.end) ≡ true → past_of 128 p ≡ past_of 128 q
   same_end e =
       stands_one (value_of o.end) (value_of n.end) (past_of 128 p) (past_of 128 q) (2 ^ 128)
-      a.fore-old.ends.0 a.fore-old.ends.1 a.fore-new.ends.0 a.fore-new.ends.1
-      (positive (first_of 128 p) (past_of 128 p) (some 128 p)) (positive (first_of 128 q) (past_of 128 q) (some 128 q)) ends-old ends-new
+      a.fore_old.ends.0 a.fore_old.ends.1 a.fore_new.ends.0 a.fore_new.ends.1
+      (positive (first_of 128 p) (past_of 128 p) (some 128 p)) (positive (first_of 128 q) (past_of 128 q) (some 128 q)) ends_old ends_new
       (eqb-true (value_of o.end) (value_of n.end) e)
     where
       positive : (x y : ℕ) → x < y → 0 < y
       positive x y h = omega arith
 
-  other-end : eqb (value_of o.end) (value_of n.end) ≡ false → past_of 128 p ≡ past_of 128 q → ⊥
-  other-end e f =
+  other_end : eqb (value_of o.end) (value_of n.end) ≡ false → past_of 128 p ≡ past_of 128 q → ⊥
+  other_end e f =
       eqb-false (value_of o.end) (value_of n.end) e
       (stands_same (value_of o.end) (value_of n.end) (past_of 128 p) (past_of 128 q) (2 ^ 128)
-      a.fore-old.ends.0 a.fore-old.ends.1 a.fore-new.ends.0 a.fore-new.ends.1 ends-old f)
+      a.fore_old.ends.0 a.fore_old.ends.1 a.fore_new.ends.0 a.fore_new.ends.1 ends_old f)
 
   -- the longer prefix ends first
-  old-ends : eqb (value_of o.end) (value_of n.end) ≡ false → n.len < o.len → past_of 128 p < past_of 128 q
-  old-ends e h =
-      let l : q.length ≤ p.length = omega (arith, a.fore-old.long, a.fore-new.long, h) in
-      let r = nested 128 q p l a.fore-old.tiles.1 a.lap.1 a.lap.0 in
-      strictly (past_of 128 p) (past_of 128 q) r.1 (other-end e)
+  old_ends : eqb (value_of o.end) (value_of n.end) ≡ false → n.len < o.len → past_of 128 p < past_of 128 q
+  old_ends e h =
+      let l : q.length ≤ p.length = omega (arith, a.fore_old.long, a.fore_new.long, h) in
+      let r = nested 128 q p l a.fore_old.tiles.1 a.lap.1 a.lap.0 in
+      strictly (past_of 128 p) (past_of 128 q) r.1 (other_end e)
 
-  new-ends : eqb (value_of o.end) (value_of n.end) ≡ false → o.len ≤ n.len → past_of 128 q < past_of 128 p
-  new-ends e h =
-      let l : p.length ≤ q.length = omega (arith, a.fore-old.long, a.fore-new.long, h) in
-      let r = nested 128 p q l a.fore-new.tiles.1 a.lap.0 a.lap.1 in
-      strictly (past_of 128 q) (past_of 128 p) r.1 (λ f. other-end e (sym f))
+  new_ends : eqb (value_of o.end) (value_of n.end) ≡ false → o.len ≤ n.len → past_of 128 q < past_of 128 p
+  new_ends e h =
+      let l : p.length ≤ q.length = omega (arith, a.fore_old.long, a.fore_new.long, h) in
+      let r = nested 128 p q l a.fore_new.tiles.1 a.lap.0 a.lap.1 in
+      strictly (past_of 128 q) (past_of 128 p) r.1 (λ f. other_end e (sym f))
 
 weaker : (x y : ℕ) → x < y → x ≤ y
 weaker x y h = omega arith
@@ -139,19 +139,19 @@ none_old : (ps qs : List Piece) → ps ≡ [] → changes 128 ps qs ≡ []
 unfolding changes
 none_old ps qs e = ap (λ (l : List Piece). changes 128 l qs) e
 
-none-new : (ps qs : List Piece) → qs ≡ [] → changes 128 ps qs ≡ []
-none-new ps qs e = ap (changes 128 ps) e ∙ changes-none 128 ps
+none_new : (ps qs : List Piece) → qs ≡ [] → changes 128 ps qs ≡ []
+none_new ps qs e = ap (changes 128 ps) e ∙ changes_none 128 ps
 
 -- ---- on from there
 
 -- the piece that follows one begins where it ends
-begins-behind : (p p' : Piece) (ps ps' : List Piece) → Tiles 128 (first_of 128 p) (2 ^ 128) (p ∷ ps) → ps ≡ p' ∷ ps' → first_of 128 p' ≡ past_of 128 p
-begins-behind p p' ps ps' t e = let u : Tiles 128 (past_of 128 p) (2 ^ 128) (p' ∷ ps') = subst (Tiles 128 (past_of 128 p) (2 ^ 128)) e t.2 in u.0
+begins_behind : (p p' : Piece) (ps ps' : List Piece) → Tiles 128 (first_of 128 p) (2 ^ 128) (p ∷ ps) → ps ≡ p' ∷ ps' → first_of 128 p' ≡ past_of 128 p
+begins_behind p p' ps ps' t e = let u : Tiles 128 (past_of 128 p) (2 ^ 128) (p' ∷ ps') = subst (Tiles 128 (past_of 128 p) (2 ^ 128)) e t.2 in u.0
 
 -- the new one goes on beside the next old one, and the other way round
-lap-on : (p p' q : Piece) → first_of 128 p' ≡ past_of 128 p → first_of 128 q < past_of 128 p → past_of 128 p < past_of 128 q
+lap_on : (p p' q : Piece) → first_of 128 p' ≡ past_of 128 p → first_of 128 q < past_of 128 p → past_of 128 p < past_of 128 q
     → (first_of 128 p' < past_of 128 q) × (first_of 128 q < past_of 128 p')
-lap-on p p' q e h k = (subst (λ (x : ℕ). x < past_of 128 q) (sym e) k, further (first_of 128 q) (past_of 128 p) (first_of 128 p') (past_of 128 p') h e (some 128 p'))
+lap_on p p' q e h k = (subst (λ (x : ℕ). x < past_of 128 q) (sym e) k, further (first_of 128 q) (past_of 128 p) (first_of 128 p') (past_of 128 p') h e (some 128 p'))
   where
     further : (x y z v : ℕ) → x < y → z ≡ y → z < v → x < v
     further x y z v a b c = omega arith
@@ -160,34 +160,34 @@ module _
     {old new : List ℕ} {writes : Bool} {out₀ out ob on nb nn : List ℕ} {f : Found} {o n : Front} (s : Standing old new writes out₀ out ob on nb nn f o n)
   where
     abbrev all : List Change
-    all = changesOf old new 128
+    all = changes_of old new 128
 
     abbrev p : Piece
-    p = s.piece-old
+    p = s.piece_old
 
     abbrev q : Piece
-    q = s.piece-new
+    q = s.piece_new
 
     abbrev ps : List Piece
-    ps = s.behind-old
+    ps = s.behind_old
 
     abbrev qs : List Piece
-    qs = s.behind-new
+    qs = s.behind_new
 
-    told-old : Tiles 128 (first_of 128 p) (2 ^ 128) (p ∷ ps)
-    told-old = s.pair.fore-old.tiles
+    told_old : Tiles 128 (first_of 128 p) (2 ^ 128) (p ∷ ps)
+    told_old = s.pair.fore_old.tiles
 
-    told-new : Tiles 128 (first_of 128 q) (2 ^ 128) (q ∷ qs)
-    told-new = s.pair.fore-new.tiles
+    told_new : Tiles 128 (first_of 128 q) (2 ^ 128) (q ∷ qs)
+    told_new = s.pair.fore_new.tiles
 
-    pub room-here : RoomFor writes (length all) out₀ → (o.number ≡ n.number → ⊥) → Roomy writes f.pieces out
-    room-here h d =
+    pub room_here : RoomFor writes (length all) out₀ → (o.number ≡ n.number → ⊥) → Roomy writes f.pieces out
+    room_here h d =
         let t : test 128 p q ≡ true = tested s.pair ∙ ap not (ne_eqb o.number n.number d) in
-        let l = one-at-least p q ps qs t in
-        room-for-one writes f.pieces (length all) out₀ out h s.tally.long (omega (arith, l, s.tally.count))
+        let l = one_at_least p q ps qs t in
+        room_for_one writes f.pieces (length all) out₀ out h s.tally.long (omega (arith, l, s.tally.count))
 
-    pub count-here : length all ≤ mostChanges → f.pieces ≤ mostChanges
-    count-here h = omega (arith, h, s.tally.count)
+    pub count_here : length all ≤ most_changes → f.pieces ≤ most_changes
+    count_here h = omega (arith, h, s.tally.count)
 
     module _ {out' : List ℕ} {f' : Found} where
       -- what is left to find behind both, behind the old one, behind the new one
@@ -195,101 +195,101 @@ module _
       left_both h e =
           noted s.pair writes out₀ out out' f f' (changes 128 ps qs) all
           (subst (λ (l : List Change). Tally writes out₀ out f l all)
-          (both_first 128 (first_of 128 p) (first_of 128 q) (2 ^ 128) (2 ^ 128) p q ps qs told-old told-new (same_end s.pair e)) s.tally) h
+          (both_first 128 (first_of 128 p) (first_of 128 q) (2 ^ 128) (2 ^ 128) p q ps qs told_old told_new (same_end s.pair e)) s.tally) h
 
-      left-old : Noted writes o n f f' out out' → past_of 128 p < past_of 128 q → Tally writes out₀ out' f' (changes 128 ps (q ∷ qs)) all
-      left-old h k =
+      left_old : Noted writes o n f f' out out' → past_of 128 p < past_of 128 q → Tally writes out₀ out' f' (changes 128 ps (q ∷ qs)) all
+      left_old h k =
           noted s.pair writes out₀ out out' f f' (changes 128 ps (q ∷ qs)) all
-          (subst (λ (l : List Change). Tally writes out₀ out f l all) (old-first 128 (first_of 128 q) (2 ^ 128) p q ps qs told-new (weaker (past_of 128 p) (past_of 128 q) k)) s.tally) h
+          (subst (λ (l : List Change). Tally writes out₀ out f l all) (old_first 128 (first_of 128 q) (2 ^ 128) p q ps qs told_new (weaker (past_of 128 p) (past_of 128 q) k)) s.tally) h
 
-      left-new : Noted writes o n f f' out out' → past_of 128 q < past_of 128 p → Tally writes out₀ out' f' (changes 128 (p ∷ ps) qs) all
-      left-new h k =
+      left_new : Noted writes o n f f' out out' → past_of 128 q < past_of 128 p → Tally writes out₀ out' f' (changes 128 (p ∷ ps) qs) all
+      left_new h k =
           noted s.pair writes out₀ out out' f f' (changes 128 (p ∷ ps) qs) all
-          (subst (λ (l : List Change). Tally writes out₀ out f l all) (new-first 128 (first_of 128 p) (2 ^ 128) p q ps qs told-old (weaker (past_of 128 q) (past_of 128 p) k)) s.tally) h
+          (subst (λ (l : List Change). Tally writes out₀ out f l all) (new_first 128 (first_of 128 p) (2 ^ 128) p q ps qs told_old (weaker (past_of 128 q) (past_of 128 p) k)) s.tally) h
 
       pub on_both : {o' n' : Front} {ob' on' nb' nn' : List ℕ} → Noted writes o n f f' out out' → eqb (value_of o.end) (value_of n.end) ≡ true → Split old o.spot ps ob' on' o' → Split new n.spot qs nb' nn' n'
           → Standing old new writes out₀ out' ob' on' nb' nn' f' o' n'
       on_both h e x y =
           record {
-            piece-old = x.piece;
-            piece-new = y.piece;
-            behind-old = x.behind;
-            behind-new = y.behind;
+            piece_old = x.piece;
+            piece_new = y.piece;
+            behind_old = x.behind;
+            behind_new = y.behind;
             pair = record {
-              fore-old = x.fore;
-              fore-new = y.fore;
-              lap = start-lap x.piece y.piece
-                  (begins-behind p x.piece ps x.behind told-old x.parts ∙ same_end s.pair e ∙ sym (begins-behind q y.piece qs y.behind told-new y.parts));
+              fore_old = x.fore;
+              fore_new = y.fore;
+              lap = start_lap x.piece y.piece
+                  (begins_behind p x.piece ps x.behind told_old x.parts ∙ same_end s.pair e ∙ sym (begins_behind q y.piece qs y.behind told_new y.parts));
             };
             tally = subst (λ (l : List Change). Tally writes out₀ out' f' l all)
                 (ap (λ (l : List Piece). changes 128 l qs) x.parts ∙ ap (changes 128 (x.piece ∷ x.behind)) y.parts) (left_both h e);
           }
 
-      pub on-old : {o' : Front} {ob' on' : List ℕ} → Noted writes o n f f' out out' → eqb (value_of o.end) (value_of n.end) ≡ false → n.len < o.len → Split old o.spot ps ob' on' o'
+      pub on_old : {o' : Front} {ob' on' : List ℕ} → Noted writes o n f f' out out' → eqb (value_of o.end) (value_of n.end) ≡ false → n.len < o.len → Split old o.spot ps ob' on' o'
           → Standing old new writes out₀ out' ob' on' nb nn f' o' n
-      on-old h e l x =
+      on_old h e l x =
           record {
-            piece-old = x.piece;
-            piece-new = q;
-            behind-old = x.behind;
-            behind-new = qs;
+            piece_old = x.piece;
+            piece_new = q;
+            behind_old = x.behind;
+            behind_new = qs;
             pair = record {
-              fore-old = x.fore;
-              fore-new = s.pair.fore-new;
-              lap = lap-on p x.piece q (begins-behind p x.piece ps x.behind told-old x.parts) s.pair.lap.1 (old-ends s.pair e l);
+              fore_old = x.fore;
+              fore_new = s.pair.fore_new;
+              lap = lap_on p x.piece q (begins_behind p x.piece ps x.behind told_old x.parts) s.pair.lap.1 (old_ends s.pair e l);
             };
-            tally = subst (λ (i : List Piece). Tally writes out₀ out' f' (changes 128 i (q ∷ qs)) all) x.parts (left-old h (old-ends s.pair e l));
+            tally = subst (λ (i : List Piece). Tally writes out₀ out' f' (changes 128 i (q ∷ qs)) all) x.parts (left_old h (old_ends s.pair e l));
           }
 
-      pub on-new : {n' : Front} {nb' nn' : List ℕ} → Noted writes o n f f' out out' → eqb (value_of o.end) (value_of n.end) ≡ false → o.len ≤ n.len → Split new n.spot qs nb' nn' n'
+      pub on_new : {n' : Front} {nb' nn' : List ℕ} → Noted writes o n f f' out out' → eqb (value_of o.end) (value_of n.end) ≡ false → o.len ≤ n.len → Split new n.spot qs nb' nn' n'
           → Standing old new writes out₀ out' ob on nb' nn' f' o n'
-      on-new h e l y =
-          let m = lap-on q y.piece p (begins-behind q y.piece qs y.behind told-new y.parts) s.pair.lap.0 (new-ends s.pair e l) in
+      on_new h e l y =
+          let m = lap_on q y.piece p (begins_behind q y.piece qs y.behind told_new y.parts) s.pair.lap.0 (new_ends s.pair e l) in
           record {
-            piece-old = p;
-            piece-new = y.piece;
-            behind-old = ps;
-            behind-new = y.behind;
-            pair = record { fore-old = s.pair.fore-old; fore-new = y.fore; lap = (m.1, m.0) };
-            tally = subst (λ (i : List Piece). Tally writes out₀ out' f' (changes 128 (p ∷ ps) i) all) y.parts (left-new h (new-ends s.pair e l));
+            piece_old = p;
+            piece_new = y.piece;
+            behind_old = ps;
+            behind_new = y.behind;
+            pair = record { fore_old = s.pair.fore_old; fore_new = y.fore; lap = (m.1, m.0) };
+            tally = subst (λ (i : List Piece). Tally writes out₀ out' f' (changes 128 (p ∷ ps) i) all) y.parts (left_new h (new_ends s.pair e l));
           }
 
       -- ---- the end of one of them
 
-      pub end-both-old : Noted writes o n f f' out out' → eqb (value_of o.end) (value_of n.end) ≡ true → ps ≡ [] → Whole writes all out₀ out' f'
-      end-both-old h e z = tally-whole (left_both h e) (none_old ps qs z)
+      pub end_both_old : Noted writes o n f f' out out' → eqb (value_of o.end) (value_of n.end) ≡ true → ps ≡ [] → Whole writes all out₀ out' f'
+      end_both_old h e z = tally_whole (left_both h e) (none_old ps qs z)
 
-      pub end-both-new : Noted writes o n f f' out out' → eqb (value_of o.end) (value_of n.end) ≡ true → qs ≡ [] → Whole writes all out₀ out' f'
-      end-both-new h e z = tally-whole (left_both h e) (none-new ps qs z)
+      pub end_both_new : Noted writes o n f f' out out' → eqb (value_of o.end) (value_of n.end) ≡ true → qs ≡ [] → Whole writes all out₀ out' f'
+      end_both_new h e z = tally_whole (left_both h e) (none_new ps qs z)
 
-      pub end-old : Noted writes o n f f' out out' → eqb (value_of o.end) (value_of n.end) ≡ false → n.len < o.len → ps ≡ [] → Whole writes all out₀ out' f'
-      end-old h e l z = tally-whole (left-old h (old-ends s.pair e l)) (none_old ps (q ∷ qs) z)
+      pub end_old : Noted writes o n f f' out out' → eqb (value_of o.end) (value_of n.end) ≡ false → n.len < o.len → ps ≡ [] → Whole writes all out₀ out' f'
+      end_old h e l z = tally_whole (left_old h (old_ends s.pair e l)) (none_old ps (q ∷ qs) z)
 
-      pub end-new : Noted writes o n f f' out out' → eqb (value_of o.end) (value_of n.end) ≡ false → o.len ≤ n.len → qs ≡ [] → Whole writes all out₀ out' f'
-      end-new h e l z = tally-whole (left-new h (new-ends s.pair e l)) (none-new (p ∷ ps) qs z)
+      pub end_new : Noted writes o n f f' out out' → eqb (value_of o.end) (value_of n.end) ≡ false → o.len ≤ n.len → qs ≡ [] → Whole writes all out₀ out' f'
+      end_new h e l z = tally_whole (left_new h (new_ends s.pair e l)) (none_new (p ∷ ps) qs z)
 
 -- ---- before the loop
 
-pub start-at : (map : List ℕ) (s : Spot) (bits numbers : List ℕ) → Ready map → 128 ≡ length bits → 128 ≡ length numbers → s ≡ startSpot
-    → Coming map s (record { high = 0; low = 0 }) bits numbers 0 (listing (mapOf map))
-start-at map s bits numbers r b n e = subst (λ (t : Spot). Coming map t (record { high = 0; low = 0 }) bits numbers 0 (listing (mapOf map))) (sym e) (start-coming map bits numbers r b n)
+pub start_at : (map : List ℕ) (s : Spot) (bits numbers : List ℕ) → Ready map → 128 ≡ length bits → 128 ≡ length numbers → s ≡ start_spot
+    → Coming map s (record { high = 0; low = 0 }) bits numbers 0 (listing (map_of map))
+start_at map s bits numbers r b n e = subst (λ (t : Spot). Coming map t (record { high = 0; low = 0 }) bits numbers 0 (listing (map_of map))) (sym e) (start_coming map bits numbers r b n)
 
-pub first-of : {map : List ℕ} {s : Spot} {ps : List Piece} {bits numbers : List ℕ} {f : Front} → Split map s ps bits numbers f → First map ps bits numbers f
-first-of x = record { piece = x.piece; behind = x.behind; parts = x.parts; fore = x.fore }
+pub first_of : {map : List ℕ} {s : Spot} {ps : List Piece} {bits numbers : List ℕ} {f : Front} → Split map s ps bits numbers f → First map ps bits numbers f
+first_of x = record { piece = x.piece; behind = x.behind; parts = x.parts; fore = x.fore }
 
-whole-none : (writes : Bool) (out : List ℕ) (f : Found) (cs : List Change) → cs ≡ [] → f ≡ record { pieces = 0; first = record { high = 0; low = 0 } } → Whole writes cs out out f
-whole-none writes out f cs e h = subst (Whole writes cs out out) (sym h) (tally-whole (tally-start writes out cs) e)
+whole_none : (writes : Bool) (out : List ℕ) (f : Found) (cs : List Change) → cs ≡ [] → f ≡ record { pieces = 0; first = record { high = 0; low = 0 } } → Whole writes cs out out f
+whole_none writes out f cs e h = subst (Whole writes cs out out) (sym h) (tally_whole (tally_start writes out cs) e)
 
 -- a listing of nothing, which no accepted map has
-pub no_old : (old new : List ℕ) (writes : Bool) (out : List ℕ) (f : Found) → listing (mapOf old) ≡ [] → f ≡ record { pieces = 0; first = record { high = 0; low = 0 } }
-    → Whole writes (changesOf old new 128) out out f
-no_old old new writes out f e h = whole-none writes out f (changesOf old new 128) (none_old (listing (mapOf old)) (listing (mapOf new)) e) h
+pub no_old : (old new : List ℕ) (writes : Bool) (out : List ℕ) (f : Found) → listing (map_of old) ≡ [] → f ≡ record { pieces = 0; first = record { high = 0; low = 0 } }
+    → Whole writes (changes_of old new 128) out out f
+no_old old new writes out f e h = whole_none writes out f (changes_of old new 128) (none_old (listing (map_of old)) (listing (map_of new)) e) h
 
-pub no-new : (old new : List ℕ) (writes : Bool) (out : List ℕ) (f : Found) → listing (mapOf new) ≡ [] → f ≡ record { pieces = 0; first = record { high = 0; low = 0 } }
-    → Whole writes (changesOf old new 128) out out f
-no-new old new writes out f e h = whole-none writes out f (changesOf old new 128) (none-new (listing (mapOf old)) (listing (mapOf new)) e) h
+pub no_new : (old new : List ℕ) (writes : Bool) (out : List ℕ) (f : Found) → listing (map_of new) ≡ [] → f ≡ record { pieces = 0; first = record { high = 0; low = 0 } }
+    → Whole writes (changes_of old new 128) out out f
+no_new old new writes out f e h = whole_none writes out f (changes_of old new 128) (none_new (listing (map_of old)) (listing (map_of new)) e) h
 
 -- as many changes as both maps have pieces, at most
-pub bounded-changes : (old new : List ℕ) (k l : ℕ) → Ready old → Ready new → length (listing (mapOf old)) ≡ k → length (listing (mapOf new)) ≡ l
-    → length (changesOf old new 128) ≤ k + l
-bounded-changes old new k l r s e f = omega (arith, e, f, changes-few 128 0 0 (2 ^ 128) (2 ^ 128) (listing (mapOf old)) (listing (mapOf new)) r.tiles s.tiles)
+pub bounded_changes : (old new : List ℕ) (k l : ℕ) → Ready old → Ready new → length (listing (map_of old)) ≡ k → length (listing (map_of new)) ≡ l
+    → length (changes_of old new 128) ≤ k + l
+bounded_changes old new k l r s e f = omega (arith, e, f, changes_few 128 0 0 (2 ^ 128) (2 ^ 128) (listing (map_of old)) (listing (map_of new)) r.tiles s.tiles)

@@ -4,9 +4,9 @@ ghost use Rattle.std.specs.Prelude.{◌≡◌, List, ◌++◌, ℕ, ◌*◌, ◌
 ghost use Rattle.byte_numbers.specs.Numbers.{bytes4};
 ghost use Rattle.asmap_program.specs.Map.{limit};
 ghost use Rattle.prefix_records.specs.Tiling.{Piece};
-ghost use Rattle.prefix_records.specs.models.Cursor.{value_of, recordAt, Behind};
-ghost use Rattle.asmap_changes.specs.Changes.{changesOf};
-ghost use Rattle.asmap_changes.specs.models.Side.{Ready, Coming, Comes, Fronted, Paired, place_of, putIf, added, Noted, Roomy, RoomFor, Whole, mostChanges};
+ghost use Rattle.prefix_records.specs.models.Cursor.{value_of, record_at, Behind};
+ghost use Rattle.asmap_changes.specs.Changes.{changes_of};
+ghost use Rattle.asmap_changes.specs.models.Side.{Ready, Coming, Comes, Fronted, Paired, place_of, put_if, added, Noted, Roomy, RoomFor, Whole, most_changes};
 
 use asmap_list_step::{Next, Spot};
 use prefix_records::Address;
@@ -108,7 +108,7 @@ fn shared(o: Front, n: Front) -> Place
 // Where the pieces are counted only, nothing is written.
 fn put_if(writes: bool, out: &mut [u8], k: usize, p: Place, old: u32, new: u32)
     requires { Roomy writes k out.old }
-    ensures { out.new ≡ putIf writes out.old (28 * k) (recordAt p.begin p.len old ++ bytes4 new) }
+    ensures { out.new ≡ put_if writes out.old (28 * k) (record_at p.begin p.len old ++ bytes4 new) }
 {
     if writes {
         let begin = p.begin;
@@ -118,7 +118,7 @@ fn put_if(writes: bool, out: &mut [u8], k: usize, p: Place, old: u32, new: u32)
 
 // One piece more that differs.
 fn add(found: Found, a: Address) -> Found
-    requires { found.pieces ≤ mostChanges }
+    requires { found.pieces ≤ most_changes }
     ensures { result ≡ added found a }
 {
     let k = found.pieces;
@@ -137,7 +137,7 @@ fn add(found: Found, a: Address) -> Found
 
 // The foremost pieces of both listings: what they share is a change where their numbers differ.
 fn note(found: Found, writes: bool, out: &mut [u8], o: Front, n: Front) -> Found
-    requires { (found.pieces ≤ mostChanges) × ((o.number ≡ n.number → ⊥) → Roomy writes found.pieces out.old) }
+    requires { (found.pieces ≤ most_changes) × ((o.number ≡ n.number → ⊥) → Roomy writes found.pieces out.old) }
     ensures { Noted writes o n found result out.old out.new }
 {
     if o.number == n.number {
@@ -172,8 +172,8 @@ fn merge(
     new_bits: &mut [u8],
     new_numbers: &mut [u32],
 ) -> Found
-    requires { Ready old.now × Ready new.now × RoomFor writes (length (changesOf old.now new.now 128)) out.old × Paired old.now new.now first_old first_new old_bits.old old_numbers.old new_bits.old new_numbers.old }
-    ensures { Whole writes (changesOf old.now new.now 128) out.old out.new result }
+    requires { Ready old.now × Ready new.now × RoomFor writes (length (changes_of old.now new.now 128)) out.old × Paired old.now new.now first_old first_new old_bits.old old_numbers.old new_bits.old new_numbers.old }
+    ensures { Whole writes (changes_of old.now new.now 128) out.old out.new result }
 {
     let mut found = nothing();
     let mut o = first_old;
@@ -213,8 +213,8 @@ fn merge(
 
 // The pieces on which two maps that the check accepts differ: how many, the first of them, and their records, where they are wanted.
 pub fn put_changes(old: &[u8], new: &[u8], writes: bool, out: &mut [u8]) -> Found
-    requires { Ready old.now × Ready new.now × RoomFor writes (length (changesOf old.now new.now 128)) out.old }
-    ensures { Whole writes (changesOf old.now new.now 128) out.old out.new result }
+    requires { Ready old.now × Ready new.now × RoomFor writes (length (changes_of old.now new.now 128)) out.old }
+    ensures { Whole writes (changes_of old.now new.now 128) out.old out.new result }
 {
     let mut old_bits = asmap_list_step::stack_bits();
     let mut old_numbers = asmap_list_step::stack_numbers();

@@ -10,44 +10,44 @@ use lib.Dec.{ltb}
 use lib.ListN.{length}
 use Rattle.asmap_program.specs.declared.Verdict.TheVariants.{Accepted, Refused}
 use Rattle.asmap_program.specs.Check.{check}
-use Rattle.asmap_program.proofs.Wider.{accepted-wider}
-use Rattle.asmap_codes.specs.Instruction.{mapOf}
+use Rattle.asmap_program.proofs.Wider.{accepted_wider}
+use Rattle.asmap_codes.specs.Instruction.{map_of}
 use Rattle.asmap_check_run.specs.declared.Judged.{Judged}
 use Rattle.asmap_check_run.specs.models.State.{judged}
 use Rattle.asmap_check.specs.declared.Stopped.TheVariants as stopped
-use Rattle.asmap_check.specs.Check.{unlessLong, checkOf, reasonOf, stoppedOf}
+use Rattle.asmap_check.specs.Check.{unless_long, check_of, reason_of, stopped_of}
 use Rattle.asmap_check.specs.declared.Counted.TheVariants as counted
-use Rattle.asmap_check.specs.models.Counted.{countedAs, countedOf}
+use Rattle.asmap_check.specs.models.Counted.{counted_as, counted_of}
 
 module _ (m : List ℕ) (w : ℕ) where
-  pub checked-long : 16777216 < length m → Refused 1 ≡ checkOf m w
-  checked-long h = rw (lt-ltb 16777216 (length m) h)
+  pub checked_long : 16777216 < length m → Refused 1 ≡ check_of m w
+  checked_long h = rw (lt-ltb 16777216 (length m) h)
 
-  pub checked : length m ≤ 16777216 → check (mapOf m) w ≡ checkOf m w
+  pub checked : length m ≤ 16777216 → check (map_of m) w ≡ check_of m w
   checked h = rw (le-ltb 16777216 (length m) h)
 
-  pub stopped-long : 16777216 < length m → stopped.Refused 1 ≡ stoppedOf m w
-  stopped-long h = rw (lt-ltb 16777216 (length m) h)
+  pub stopped_long : 16777216 < length m → stopped.Refused 1 ≡ stopped_of m w
+  stopped_long h = rw (lt-ltb 16777216 (length m) h)
 
-  pub stopped-at : length m ≤ 16777216 → (j : Judged) → j ≡ judged m w → stopped.At (reasonOf j.verdict) j.place ≡ stoppedOf m w
-  stopped-at h j e = rw (e, le-ltb 16777216 (length m) h)
+  pub stopped_at_lem : length m ≤ 16777216 → (j : Judged) → j ≡ judged m w → stopped.At (reason_of j.verdict) j.place ≡ stopped_of m w
+  stopped_at_lem h j e = rw (e, le-ltb 16777216 (length m) h)
 
-  pub counted-long : 16777216 < length m → counted.Refused 1 ≡ countedOf m w
-  counted-long h = rw (lt-ltb 16777216 (length m) h)
+  pub counted_long : 16777216 < length m → counted.Refused 1 ≡ counted_of m w
+  counted_long h = rw (lt-ltb 16777216 (length m) h)
 
-  pub counted-at : length m ≤ 16777216 → (j : Judged) → j ≡ judged m w → countedAs j.pieces j.verdict ≡ countedOf m w
-  counted-at h j e = rw (e, le-ltb 16777216 (length m) h)
+  pub counted_at : length m ≤ 16777216 → (j : Judged) → j ≡ judged m w → counted_as j.pieces j.verdict ≡ counted_of m w
+  counted_at h j e = rw (e, le-ltb 16777216 (length m) h)
 
   -- an accepted map is within the limit
-  pub accepted-within : (c d : ℕ) → checkOf m w ≡ Accepted c d → (length m ≤ 16777216) × (check (mapOf m) w ≡ Accepted c d)
-  accepted-within c d e = go (ltb 16777216 (length m)) refl e
+  pub accepted_within : (c d : ℕ) → check_of m w ≡ Accepted c d → (length m ≤ 16777216) × (check (map_of m) w ≡ Accepted c d)
+  accepted_within c d e = go (ltb 16777216 (length m)) refl e
     where
-      go : (b : Bool) → ltb 16777216 (length m) ≡ b → unlessLong b (check (mapOf m) w) ≡ Accepted c d → (length m ≤ 16777216) × (check (mapOf m) w ≡ Accepted c d)
+      go : (b : Bool) → ltb 16777216 (length m) ≡ b → unless_long b (check (map_of m) w) ≡ Accepted c d → (length m ≤ 16777216) × (check (map_of m) w ≡ Accepted c d)
       go true h q = let z : ◌≡◌ {A = ℕ} 0 1 = cc in absurd (omega arith)
       go false h q = (ltb-false 16777216 (length m) h, q)
 
 -- what is accepted at a width is accepted at every greater one, alike
-pub accepted-at-more : (m : List ℕ) (w v c d : ℕ) → w ≤ v → checkOf m w ≡ Accepted c d → checkOf m v ≡ Accepted c d
-accepted-at-more m w v c d h e =
-    let s = accepted-within m w c d e in
-    sym (checked m v s.0) ∙ (accepted-wider (mapOf m) w v c d h s.1).0
+pub accepted_at_more : (m : List ℕ) (w v c d : ℕ) → w ≤ v → check_of m w ≡ Accepted c d → check_of m v ≡ Accepted c d
+accepted_at_more m w v c d h e =
+    let s = accepted_within m w c d e in
+    sym (checked m v s.0) ∙ (accepted_wider (map_of m) w v c d h s.1).0

@@ -11,11 +11,11 @@ use lib.Dec.{ltb}
 use lib.ListN.{length}
 use Rattle.asmap_program.specs.declared.Verdict.{Verdict}
 use Rattle.asmap_program.specs.declared.Verdict.TheVariants.{Accepted, Refused}
-use Rattle.asmap_program.specs.Map.{limit, Map, Opcode, Operand, cutReason}
+use Rattle.asmap_program.specs.Map.{limit, Map, Opcode, Operand, cut_reason}
 use Rattle.asmap_program.specs.Check.{State, Outcome, Next, Done, Refuse, step, after, run, start, check}
-use Rattle.asmap_program.proofs.Refusals.{test-number, Refuses, step-refuses}
-use Rattle.asmap_codes.specs.Instruction.{mapOf}
-use Rattle.asmap_check.specs.Check.{unlessLong, checkOf, Reason}
+use Rattle.asmap_program.proofs.Refusals.{test-number, Refuses, step_refuses}
+use Rattle.asmap_codes.specs.Instruction.{map_of}
+use Rattle.asmap_check.specs.Check.{unless_long, check_of, Reason}
 
 -- of a verdict that refuses
 abbrev pub Judged : (ℕ → Type 0) → Verdict → Type 0
@@ -27,37 +27,37 @@ pub reason-some : (n : ℕ) → Reason n → 0 < n
 reason-some n (inl h) = omega arith
 reason-some n (inr e) = omega arith
 
-pub reason-small : (n : ℕ) → Reason n → n ≤ 19
-reason-small n (inl h) = omega arith
-reason-small n (inr e) = omega arith
+pub reason_small : (n : ℕ) → Reason n → n ≤ 19
+reason_small n (inl h) = omega arith
+reason_small n (inr e) = omega arith
 
 module _ (P : ℕ → Type 0) (reason : (n : ℕ) → Reason n → P n) where
   stepped : (m : Map) (s : State) → Refuses m s P (step m s)
   stepped m s =
-      step-refuses m s P
+      step_refuses m s P
       (λ n t. let k = test-number n t in reason n (inl (k.0, k.1.0)))
-      (λ e. reason (cutReason Opcode) (inl (omega arith, omega arith)))
-      (λ op e. reason (cutReason Operand) (inr refl))
+      (λ e. reason (cut_reason Opcode) (inl (omega arith, omega arith)))
+      (λ op e. reason (cut_reason Operand) (inr refl))
 
-  judged-after : (m : Map) (s : State) (k : State → Verdict) → ((s : State) → Judged P (k s)) → (o : Outcome) → Refuses m s P o → Judged P (after k o)
-  judged-after m s k h (Next i s') v = h s'
-  judged-after m s k h (Done i c d) v = tt
-  judged-after m s k h (Refuse n) v = v
+  judged_after : (m : Map) (s : State) (k : State → Verdict) → ((s : State) → Judged P (k s)) → (o : Outcome) → Refuses m s P o → Judged P (after k o)
+  judged_after m s k h (Next i s') v = h s'
+  judged_after m s k h (Done i c d) v = tt
+  judged_after m s k h (Refuse n) v = v
 
   judged-run : (m : Map) (f : ℕ) (s : State) → Judged P (run m f s)
   unfolding run
   judged-run m zero s = reason 2 (inl (omega arith, omega arith))
-  judged-run m (suc f) s = judged-after m s (run m f) (λ s'. judged-run m f s') (step m s) (stepped m s)
+  judged-run m (suc f) s = judged_after m s (run m f) (λ s'. judged-run m f s') (step m s) (stepped m s)
 
   -- a map within the limit
   pub check-judged : (m : Map) (w : ℕ) → Judged P (check m w)
   unfolding check
   check-judged m w = judged-run m m.bits (start w)
 
-  judged-long : (long : Bool) (v : Verdict) → P 1 → Judged P v → Judged P (unlessLong long v)
-  judged-long true v one h = one
-  judged-long false v one h = h
+  judged_long : (long : Bool) (v : Verdict) → P 1 → Judged P v → Judged P (unless_long long v)
+  judged_long true v one h = one
+  judged_long false v one h = h
 
   -- any map: 1, or one of these
-  pub map-judged : (m : List ℕ) (w : ℕ) → P 1 → Judged P (checkOf m w)
-  map-judged m w one = judged-long (ltb limit (length m)) (check (mapOf m) w) one (check-judged (mapOf m) w)
+  pub map-judged : (m : List ℕ) (w : ℕ) → P 1 → Judged P (check_of m w)
+  map-judged m w one = judged_long (ltb limit (length m)) (check (map_of m) w) one (check-judged (map_of m) w)

@@ -2,8 +2,8 @@
 // prefixes the map tells apart, which is counted on the way.
 ghost use Rattle.std.specs.Prelude.{◌≡◌, ◌≤◌, ltb, length};
 ghost use Rattle.asmap_program.specs.Map.{limit};
-ghost use Rattle.asmap_check.specs.models.Counted.{countedAs, countedOf, Few};
-ghost use Rattle.asmap_check.specs.Check.{checkOf, checkAt, LikeCore, LikeCoreAt, reasonOf, stoppedOf, stoppedAt};
+ghost use Rattle.asmap_check.specs.models.Counted.{counted_as, counted_of, Few};
+ghost use Rattle.asmap_check.specs.Check.{check_of, check_at, LikeCore, LikeCoreAt, reason_of, stopped_of, stopped_at};
 
 use asmap_check_run::run_check;
 use asmap_program::{ADDRESS_BITS, MAX_MAP_BYTES, Verdict};
@@ -33,7 +33,7 @@ fn too_long(map: &[u8]) -> bool
 // The check over a number of address bits, for the calls below and for those of other crates, which all fix it.
 pub fn check_over(map: &[u8], bits: u8) -> Verdict
     requires { bits ≤ 128 }
-    ensures value { result ≡ checkOf map.now bits }
+    ensures value { result ≡ check_of map.now bits }
     ensures core { LikeCore map.now bits result }
 {
     if too_long(map) {
@@ -44,7 +44,7 @@ pub fn check_over(map: &[u8], bits: u8) -> Verdict
 
 // The check: accepted with the number of instructions and the greatest depth, or refused, 1 to 10 or 19. Any bytes may be handed in.
 pub fn sanity_check(map: &[u8]) -> Verdict
-    ensures value { result ≡ checkOf map.now 128 }
+    ensures value { result ≡ check_of map.now 128 }
     ensures core { LikeCore map.now 128 result }
 {
     check_over(map, ADDRESS_BITS)
@@ -52,7 +52,7 @@ pub fn sanity_check(map: &[u8]) -> Verdict
 
 // The check at a width: 18 for one that is neither 32 nor 128, whatever the map is; else as above.
 pub fn sanity_check_bits(map: &[u8], width: u32) -> Verdict
-    ensures value { result ≡ checkAt map.now width }
+    ensures value { result ≡ check_at map.now width }
     ensures core { LikeCoreAt map.now width result }
 {
     if asmap_program::is_width(width) {
@@ -63,7 +63,7 @@ pub fn sanity_check_bits(map: &[u8], width: u32) -> Verdict
 
 // The reason in a verdict.
 fn reason_of(verdict: Verdict) -> u8
-    ensures { result ≡ reasonOf verdict }
+    ensures { result ≡ reason_of verdict }
 {
     match verdict {
         Verdict::Accepted(count, depth) => 0,
@@ -74,7 +74,7 @@ fn reason_of(verdict: Verdict) -> u8
 // The check over a number of address bits, and the place at which it stops.
 fn stop_over(map: &[u8], bits: u8) -> Stopped
     requires { bits ≤ 128 }
-    ensures { result ≡ stoppedOf map.now bits }
+    ensures { result ≡ stopped_of map.now bits }
 {
     if too_long(map) {
         return Stopped::Refused(1);
@@ -87,14 +87,14 @@ fn stop_over(map: &[u8], bits: u8) -> Stopped
 // The check, and the place at which it stops: for whoever has to say where in a map the fault was met. Any bytes may be handed in; refused is
 // a map over the limit alone, 1.
 pub fn sanity_check_stop(map: &[u8]) -> Stopped
-    ensures { result ≡ stoppedOf map.now 128 }
+    ensures { result ≡ stopped_of map.now 128 }
 {
     stop_over(map, ADDRESS_BITS)
 }
 
 // The same at a width: 18 for one that is neither 32 nor 128, before 1.
 pub fn sanity_check_stop_bits(map: &[u8], width: u32) -> Stopped
-    ensures { result ≡ stoppedAt map.now width }
+    ensures { result ≡ stopped_at map.now width }
 {
     if asmap_program::is_width(width) {
         return stop_over(map, width as u8);
@@ -104,7 +104,7 @@ pub fn sanity_check_stop_bits(map: &[u8], width: u32) -> Stopped
 
 // An acceptance with the pieces counted, or the refusal.
 fn with_pieces(verdict: Verdict, pieces: usize) -> Counted
-    ensures { result ≡ countedAs pieces verdict }
+    ensures { result ≡ counted_as pieces verdict }
 {
     match verdict {
         Verdict::Accepted(count, depth) => Counted::Pieces(pieces),
@@ -116,7 +116,7 @@ fn with_pieces(verdict: Verdict, pieces: usize) -> Counted
 // before it is written. Refused as the check does, 1 to 10 or 19.
 pub fn sanity_check_pieces(map: &[u8], bits: u8) -> Counted
     requires { bits ≤ 128 }
-    ensures { (result ≡ countedOf map.now bits) × Few result }
+    ensures { (result ≡ counted_of map.now bits) × Few result }
 {
     if too_long(map) {
         return Counted::Refused(1);

@@ -2,12 +2,12 @@
 // `asmap_check` is to carry out, or why the map is refused.
 ghost use Rattle.std.specs.Prelude.{◌≡◌, ◌&&◌, ltb, ◌*◌, ◌^◌, ◌≤◌, ◌<◌, length};
 ghost use Rattle.asmap_program.specs.Map.{limit};
-ghost use Rattle.asmap_program.specs.Check.{is_default, isShort};
-ghost use Rattle.asmap_codes.specs.Row.{asnRow, jump_row, matchRow};
+ghost use Rattle.asmap_program.specs.Check.{is_default, is_short};
+ghost use Rattle.asmap_codes.specs.Row.{asn_row, jump_row, match_row};
 ghost use Rattle.asmap_codes.specs.Code.{code_at};
-ghost use Rattle.asmap_codes.specs.Instruction.{paddedFrom};
+ghost use Rattle.asmap_codes.specs.Instruction.{padded_from};
 ghost use Rattle.asmap_row_decoder.specs.models.InWindow.{Holds};
-ghost use Rattle.asmap_check_act.specs.models.Act.{pastTop, onReturn, onJump, onMatch, onDefault, acts};
+ghost use Rattle.asmap_check_act.specs.models.Act.{past_top, on_return, on_jump, on_match, on_default, acts};
 
 use asmap_codes::Code;
 use asmap_program::{CUT_OPCODE, CUT_OPERAND, Previous};
@@ -37,7 +37,7 @@ fn is_default(previous: Previous) -> bool
 }
 
 fn is_short(previous: Previous) -> bool
-    ensures { result ≡ isShort previous }
+    ensures { result ≡ is_short previous }
 {
     match previous {
         Previous::Short => true,
@@ -48,7 +48,7 @@ fn is_short(previous: Previous) -> bool
 
 // A MATCH shorter than 8 straight after a MATCH shorter than 8.
 fn short_again(length: u8, previous: Previous) -> bool
-    ensures { result ≡ (ltb length 8 && isShort previous) }
+    ensures { result ≡ (ltb length 8 && is_short previous) }
 {
     if length < 8 {
         return is_short(previous);
@@ -58,7 +58,7 @@ fn short_again(length: u8, previous: Previous) -> bool
 
 // A place at or past the innermost open target.
 fn past(depth: usize, top: u32, place: usize) -> bool
-    ensures { result ≡ pastTop depth top place }
+    ensures { result ≡ past_top depth top place }
 {
     if depth == 0 {
         return false;
@@ -69,7 +69,7 @@ fn past(depth: usize, top: u32, place: usize) -> bool
 // Padding after the final RETURN: at most 7 bits, all 0.
 fn padded(map: &[u8], at: usize) -> bool
     requires { (length map.now ≤ limit) × (at ≤ 8 * length map.now) }
-    ensures { result ≡ paddedFrom map.now at }
+    ensures { result ≡ padded_from map.now at }
 {
     let end = 8 * map.len();
     if 7 < end - at {
@@ -89,8 +89,8 @@ fn padded(map: &[u8], at: usize) -> bool
 
 // RETURN: 5 after DEFAULT, 19 cut; with no open jump 6 where no padding follows, with one 7 where it does not end at the target.
 fn sanity_return(map: &[u8], w: u64, at: usize, previous: Previous, depth: usize, top: u32) -> Act
-    requires { (length map.now ≤ limit) × (at < 2 ^ 34) × Holds asnRow map.now at w }
-    ensures { result ≡ onReturn map.now previous depth top (code_at map.now at asnRow) }
+    requires { (length map.now ≤ limit) × (at < 2 ^ 34) × Holds asn_row map.now at w }
+    ensures { result ≡ on_return map.now previous depth top (code_at map.now at asn_row) }
 {
     if is_default(previous) {
         return Act::Refuses(5);
@@ -114,7 +114,7 @@ fn sanity_return(map: &[u8], w: u64, at: usize, previous: Previous, depth: usize
 // JUMP: 19 cut, 8 with no bit left, 9 where its target is at or past the innermost. The target is counted from the JUMP's end.
 fn sanity_jump(map: &[u8], w: u64, at: usize, bits: u8, depth: usize, top: u32) -> Act
     requires { (length map.now ≤ limit) × (at < 2 ^ 34) × Holds jump_row map.now at w }
-    ensures { result ≡ onJump bits depth top (code_at map.now at jump_row) }
+    ensures { result ≡ on_jump bits depth top (code_at map.now at jump_row) }
 {
     let got = asmap_row_decoder::jump_in(w, at, 8 * map.len());
     let Code::Value(offset, next) = got else {
@@ -132,8 +132,8 @@ fn sanity_jump(map: &[u8], w: u64, at: usize, bits: u8, depth: usize, top: u32) 
 
 // MATCH: 19 cut, 10 short after short, 8 where it is longer than the bits left.
 fn sanity_match(map: &[u8], w: u64, at: usize, previous: Previous, bits: u8) -> Act
-    requires { (length map.now ≤ limit) × (at < 2 ^ 34) × Holds matchRow map.now at w }
-    ensures { result ≡ onMatch previous bits (code_at map.now at matchRow) }
+    requires { (length map.now ≤ limit) × (at < 2 ^ 34) × Holds match_row map.now at w }
+    ensures { result ≡ on_match previous bits (code_at map.now at match_row) }
 {
     let got = asmap_row_decoder::match_in(w, at, 8 * map.len());
     let Code::Value(operand, next) = got else {
@@ -151,8 +151,8 @@ fn sanity_match(map: &[u8], w: u64, at: usize, previous: Previous, bits: u8) -> 
 
 // DEFAULT: 5 after DEFAULT, 19 cut.
 fn sanity_default(map: &[u8], w: u64, at: usize, previous: Previous) -> Act
-    requires { (length map.now ≤ limit) × (at < 2 ^ 34) × Holds asnRow map.now at w }
-    ensures { result ≡ onDefault previous (code_at map.now at asnRow) }
+    requires { (length map.now ≤ limit) × (at < 2 ^ 34) × Holds asn_row map.now at w }
+    ensures { result ≡ on_default previous (code_at map.now at asn_row) }
 {
     if is_default(previous) {
         return Act::Refuses(5);

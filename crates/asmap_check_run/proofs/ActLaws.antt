@@ -1,4 +1,4 @@
--- The model of specs/Act.antt is the step of asmap_program's check on a map's bytes (`act-is`), what it makes sure of (`sure`), and how many
+-- The model of specs/Act.antt is the step of asmap_program's check on a map's bytes (`act_is`), what it makes sure of (`sure`), and how many
 -- pieces the instruction gives (`tells`).
 -- Assumes nothing.
 use Prim.Native.Nat.{ℕ, zero, suc, ◌+◌, ◌-◌, ◌*◌, ◌≤◌, ◌<◌, max}
@@ -12,33 +12,33 @@ use lib.ListN.{length}
 use Rattle.asmap_program.specs.declared.Instruction.{Instruction}
 use Rattle.asmap_program.specs.declared.Previous.{Previous}
 use Rattle.asmap_program.specs.declared.Previous.TheVariants.{Other, Default}
-use Rattle.asmap_program.specs.Map.{CutOperand, Operand, cutReason, length_of}
-use Rattle.asmap_program.specs.Check.{Open, State, is_default, isShort, afterMatch, guard, Outcome, Next, Done, Refuse, closing, stepWhole, stepOn, step}
+use Rattle.asmap_program.specs.Map.{CutOperand, Operand, cut_reason, length_of}
+use Rattle.asmap_program.specs.Check.{Open, State, is_default, is_short, after_match, guard, Outcome, Next, Done, Refuse, closing, step_whole, step_on, step}
 use Rattle.asmap_program.specs.models.Pieces.{pieces_of}
 use Rattle.asmap_codes.specs.declared.Code.{Code}
 use Rattle.asmap_codes.specs.declared.Code.TheVariants.{Value, Cut}
-use Rattle.asmap_codes.specs.Row.{typeRow, operand_row}
+use Rattle.asmap_codes.specs.Row.{type_row, operand_row}
 use Rattle.asmap_codes.specs.Code.{code_at}
-use Rattle.asmap_codes.specs.Instruction.{withOperand, withOpcode, fetchAt, paddedFrom, mapOf}
-use Rattle.asmap_codes.proofs.Inside.{value-at, long-operand}
+use Rattle.asmap_codes.specs.Instruction.{with_operand, with_opcode, fetch_at, padded_from, map_of}
+use Rattle.asmap_codes.proofs.Inside.{value_at, long_operand}
 use Rattle.asmap_check_run.specs.models.State.{opens_of, top}
-use Rattle.asmap_check_act.specs.models.Act.{pastTop}
-use Rattle.asmap_check_act.specs.models.Act.{refusing, returned, kept, on_operand, onOpcode, acts}
+use Rattle.asmap_check_act.specs.models.Act.{past_top}
+use Rattle.asmap_check_act.specs.models.Act.{refusing, returned, kept, on_operand, on_opcode, acts}
 use Rattle.asmap_check_act.specs.declared.Act.{Act}
 use Rattle.asmap_check_act.specs.declared.Act.TheVariants.{Opens, Closes, Uses, Keeps, Accepts, Refuses}
-use Rattle.asmap_check_run.proofs.StateLaws.{past_top}
+use Rattle.asmap_check_run.proofs.StateLaws.{past_top_lem}
 
 -- the instruction at a place, by what was read of it; where a code is cut, no outcome names it
 abbrev instruction : ℕ → ℕ → Code → Instruction
 instruction p op Cut = record { opcode = op; operand = 0; place = p; size = 0 }
 instruction p op (Value v n) = record { opcode = op; operand = v; place = p; size = n - p }
 
-abbrev instructionAt : List ℕ → ℕ → Code → Instruction
-instructionAt m p Cut = instruction p 0 Cut
-instructionAt m p (Value op n) = instruction p op (code_at m n (operand_row op))
+abbrev instruction_at : List ℕ → ℕ → Code → Instruction
+instruction_at m p Cut = instruction p 0 Cut
+instruction_at m p (Value op n) = instruction p op (code_at m n (operand_row op))
 
 abbrev pub here : List ℕ → ℕ → Instruction
-here m p = instructionAt m p (code_at m p typeRow)
+here m p = instruction_at m p (code_at m p type_row)
 
 -- what an act makes of a state
 abbrev pub closed : State → Instruction → ℕ → List Open → Outcome
@@ -58,7 +58,7 @@ applied s i (Opens n t) =
     })
 applied s i (Closes n) = closed s i n s.opens
 applied s i (Uses n k) =
-    Next i (record { at = n; left = s.left - k; before = afterMatch k; opens = s.opens; count = suc s.count; deepest = s.deepest })
+    Next i (record { at = n; left = s.left - k; before = after_match k; opens = s.opens; count = suc s.count; deepest = s.deepest })
 applied s i (Keeps n) =
     Next i (record { at = n; left = s.left; before = Default; opens = s.opens; count = suc s.count; deepest = s.deepest })
 applied s i Accepts = Done i (suc s.count) s.deepest
@@ -85,24 +85,24 @@ module _ (m ts ss : List ℕ) (left at : ℕ) (before : Previous) (count deepest
   abbrev s : ℕ → State
   s d = record { at = at; left = left; before = before; opens = opens_of ts ss d; count = count; deepest = deepest }
 
-  closes-is : (d op v n : ℕ) → at < n
-      → closing (mapOf m) (s d) (instruction at op (Value v n)) (opens_of ts ss d) ≡ applied (s d) (instruction at op (Value v n)) (returned m d (top ts d) (Value v n))
-  unfolding mapOf
-  closes-is zero op v n h =
+  closes_is : (d op v n : ℕ) → at < n
+      → closing (map_of m) (s d) (instruction at op (Value v n)) (opens_of ts ss d) ≡ applied (s d) (instruction at op (Value v n)) (returned m d (top ts d) (Value v n))
+  unfolding map_of
+  closes_is zero op v n h =
       let e : at + (n - at) ≡ n = omega arith in
-      rw e (guarded _ _ (not (paddedFrom m n)) 6 _ Accepts refl)
-  closes-is (suc d) op v n h =
+      rw e (guarded _ _ (not (padded_from m n)) 6 _ Accepts refl)
+  closes_is (suc d) op v n h =
       let e : at + (n - at) ≡ n = omega arith in
       let z : suc d - 1 ≡ d = omega arith in
       rw (e, z, ne_eqb (suc d) 0 (omega arith)) (guarded _ _ _ 7 _ (Closes n) refl)
 
   whole_is : (d v n : ℕ) → at < n → (op : ℕ)
-      → stepWhole (mapOf m) (s d) (instruction at op (Value v n)) op ≡ applied (s d) (instruction at op (Value v n)) (on_operand m before left d (top ts d) op (Value v n))
-  whole_is d v n h zero = guarded _ _ (is_default before) 5 _ (returned m d (top ts d) (Value v n)) (closes-is d 0 v n h)
+      → step_whole (map_of m) (s d) (instruction at op (Value v n)) op ≡ applied (s d) (instruction at op (Value v n)) (on_operand m before left d (top ts d) op (Value v n))
+  whole_is d v n h zero = guarded _ _ (is_default before) 5 _ (returned m d (top ts d) (Value v n)) (closes_is d 0 v n h)
   whole_is d v n h (suc zero) =
       let e : at + (n - at) ≡ n = omega arith in
-      guarded _ _ (eqb left 0) 8 _ (refusing (pastTop d (top ts d) (n + v)) 9 (Opens n (n + v)))
-      (rw (e, past_top ts ss d (n + v)) (guarded _ _ (pastTop d (top ts d) (n + v)) 9 _ (Opens n (n + v)) refl))
+      guarded _ _ (eqb left 0) 8 _ (refusing (past_top d (top ts d) (n + v)) 9 (Opens n (n + v)))
+      (rw (e, past_top_lem ts ss d (n + v)) (guarded _ _ (past_top d (top ts d) (n + v)) 9 _ (Opens n (n + v)) refl))
   whole_is d v n h (suc (suc zero)) =
       let e : at + (n - at) ≡ n = omega arith in
       rw e (guarded _ _ _ 10 _ (refusing (ltb left (length_of v)) 8 (Uses n (length_of v))) (guarded _ _ _ 8 _ (Uses n (length_of v)) refl))
@@ -110,36 +110,36 @@ module _ (m ts ss : List ℕ) (left at : ℕ) (before : Previous) (count deepest
       let e : at + (n - at) ≡ n = omega arith in
       rw e (guarded _ _ (is_default before) 5 _ (Keeps n) refl)
 
-  cut-is : (d op : ℕ) → op < 4 → stepOn (mapOf m) (s d) (CutOperand op) ≡ applied (s d) (instruction at op Cut) (on_operand m before left d (top ts d) op Cut)
-  cut-is d zero h = rw (and-true (is_default before)) (guarded _ _ (is_default before) 5 _ (Refuses (cutReason Operand)) refl)
-  cut-is d (suc zero) h = rw (and-false (is_default before)) (passed 5 (Refuse (cutReason Operand)))
-  cut-is d (suc (suc zero)) h = rw (and-false (is_default before)) (passed 5 (Refuse (cutReason Operand)))
-  cut-is d (suc (suc (suc zero))) h = rw (and-true (is_default before)) (guarded _ _ (is_default before) 5 _ (Refuses (cutReason Operand)) refl)
-  cut-is d (suc (suc (suc (suc op)))) h = absurd (omega arith)
+  cut_is : (d op : ℕ) → op < 4 → step_on (map_of m) (s d) (CutOperand op) ≡ applied (s d) (instruction at op Cut) (on_operand m before left d (top ts d) op Cut)
+  cut_is d zero h = rw (and-true (is_default before)) (guarded _ _ (is_default before) 5 _ (Refuses (cut_reason Operand)) refl)
+  cut_is d (suc zero) h = rw (and-false (is_default before)) (passed 5 (Refuse (cut_reason Operand)))
+  cut_is d (suc (suc zero)) h = rw (and-false (is_default before)) (passed 5 (Refuse (cut_reason Operand)))
+  cut_is d (suc (suc (suc zero))) h = rw (and-true (is_default before)) (guarded _ _ (is_default before) 5 _ (Refuses (cut_reason Operand)) refl)
+  cut_is d (suc (suc (suc (suc op)))) h = absurd (omega arith)
 
-  operand-is : (d op : ℕ) → op < 4 → (c : Code) → ((v n : ℕ) → c ≡ Value v n → at < n)
-      → stepOn (mapOf m) (s d) (withOperand at op c) ≡ applied (s d) (instruction at op c) (on_operand m before left d (top ts d) op c)
-  operand-is d op h Cut k = cut-is d op h
-  operand-is d op h (Value v n) k = whole_is d v n (k v n refl) op
+  operand_is : (d op : ℕ) → op < 4 → (c : Code) → ((v n : ℕ) → c ≡ Value v n → at < n)
+      → step_on (map_of m) (s d) (with_operand at op c) ≡ applied (s d) (instruction at op c) (on_operand m before left d (top ts d) op c)
+  operand_is d op h Cut k = cut_is d op h
+  operand_is d op h (Value v n) k = whole_is d v n (k v n refl) op
 
-  opcode-is : (d : ℕ) (c : Code) → code_at m at typeRow ≡ c
-      → stepOn (mapOf m) (s d) (withOpcode m at c) ≡ applied (s d) (instructionAt m at c) (onOpcode m before left d (top ts d) c)
-  opcode-is d Cut q = refl
-  opcode-is d (Value op e) q =
-      let x = value-at m at typeRow op e (lit< tt) q in
-      operand-is d op x.below (code_at m e (operand_row op))
-      (λ v n z. let y = value-at m e (operand_row op) v n (long-operand op) z in omega (arith, x.past, y.past))
+  opcode_is : (d : ℕ) (c : Code) → code_at m at type_row ≡ c
+      → step_on (map_of m) (s d) (with_opcode m at c) ≡ applied (s d) (instruction_at m at c) (on_opcode m before left d (top ts d) c)
+  opcode_is d Cut q = refl
+  opcode_is d (Value op e) q =
+      let x = value_at m at type_row op e (lit< tt) q in
+      operand_is d op x.below (code_at m e (operand_row op))
+      (λ v n z. let y = value_at m e (operand_row op) v n (long_operand op) z in omega (arith, x.past, y.past))
 
   -- a step inside the map
-  pub act-is : (d : ℕ) → at < 8 * length m → step (mapOf m) (s d) ≡ applied (s d) (here m at) (acts m before left d (top ts d) at)
-  unfolding step mapOf fetchAt
-  act-is d h =
-      rw (lt-leb (8 * length m) at h, past_top ts ss d at)
-      (passed 2 _ ∙ guarded _ _ (pastTop d (top ts d) at) 3 _ (onOpcode m before left d (top ts d) (code_at m at typeRow)) (opcode-is d (code_at m at typeRow) refl))
+  pub act_is : (d : ℕ) → at < 8 * length m → step (map_of m) (s d) ≡ applied (s d) (here m at) (acts m before left d (top ts d) at)
+  unfolding step map_of fetch_at
+  act_is d h =
+      rw (lt-leb (8 * length m) at h, past_top_lem ts ss d at)
+      (passed 2 _ ∙ guarded _ _ (past_top d (top ts d) at) 3 _ (on_opcode m before left d (top ts d) (code_at m at type_row)) (opcode_is d (code_at m at type_row) refl))
 
   -- a step at its end
-  pub end_is : (d : ℕ) → 8 * length m ≤ at → step (mapOf m) (s d) ≡ Refuse 2
-  unfolding step guard mapOf
+  pub end_is : (d : ℕ) → 8 * length m ≤ at → step (map_of m) (s d) ≡ Refuse 2
+  unfolding step guard map_of
   end_is d h = rw (le-leb (8 * length m) at h)
 
 -- what an act is sure of: a bit for a JUMP, an open jump to close, the bits of a MATCH
@@ -151,39 +151,39 @@ Sure bits d (Keeps n) = Unit {0}
 Sure bits d Accepts = Unit {0}
 Sure bits d (Refuses n) = Unit {0}
 
-sure-unless : (bits d : ℕ) (b : Bool) (n : ℕ) (a : Act) → (b ≡ false → Sure bits d a) → Sure bits d (refusing b n a)
+sure_unless : (bits d : ℕ) (b : Bool) (n : ℕ) (a : Act) → (b ≡ false → Sure bits d a) → Sure bits d (refusing b n a)
 unfolding refusing
-sure-unless bits d true n a h = tt
-sure-unless bits d false n a h = h refl
+sure_unless bits d true n a h = tt
+sure_unless bits d false n a h = h refl
 
 module _ (m : List ℕ) (p : Previous) (bits t : ℕ) where
   sure-returned : (d : ℕ) (c : Code) → Sure bits d (returned m d t c)
   sure-returned d Cut = tt
-  sure-returned zero (Value v n) = sure-unless bits 0 (not (paddedFrom m n)) 6 Accepts (λ _. tt)
-  sure-returned (suc d) (Value v n) = rw (ne_eqb (suc d) 0 (omega arith)) (sure-unless bits (suc d) (not (eqb n t)) 7 (Closes n) (λ _. omega arith))
+  sure-returned zero (Value v n) = sure_unless bits 0 (not (padded_from m n)) 6 Accepts (λ _. tt)
+  sure-returned (suc d) (Value v n) = rw (ne_eqb (suc d) 0 (omega arith)) (sure_unless bits (suc d) (not (eqb n t)) 7 (Closes n) (λ _. omega arith))
 
   sure-kept : (d : ℕ) (c : Code) → Sure bits d (kept c)
   sure-kept d Cut = tt
   sure-kept d (Value v n) = tt
 
-  sure-on : (d op : ℕ) (c : Code) → Sure bits d (on_operand m p bits d t op c)
-  sure-on d zero c = sure-unless bits d (is_default p) 5 (returned m d t c) (λ _. sure-returned d c)
-  sure-on d (suc zero) Cut = tt
-  sure-on d (suc zero) (Value v n) =
-      sure-unless bits d (eqb bits 0) 8 (refusing (pastTop d t (n + v)) 9 (Opens n (n + v)))
-      (λ z. sure-unless bits d (pastTop d t (n + v)) 9 (Opens n (n + v)) (λ _. omega (arith, eqb-false bits 0 z)))
-  sure-on d (suc (suc zero)) Cut = tt
-  sure-on d (suc (suc zero)) (Value v n) =
-      sure-unless bits d (ltb (length_of v) 8 && isShort p) 10 (refusing (ltb bits (length_of v)) 8 (Uses n (length_of v)))
-      (λ _. sure-unless bits d (ltb bits (length_of v)) 8 (Uses n (length_of v)) (λ z. ltb-false bits (length_of v) z))
-  sure-on d (suc (suc (suc op))) c = sure-unless bits d (is_default p) 5 (kept c) (λ _. sure-kept d c)
+  sure_on : (d op : ℕ) (c : Code) → Sure bits d (on_operand m p bits d t op c)
+  sure_on d zero c = sure_unless bits d (is_default p) 5 (returned m d t c) (λ _. sure-returned d c)
+  sure_on d (suc zero) Cut = tt
+  sure_on d (suc zero) (Value v n) =
+      sure_unless bits d (eqb bits 0) 8 (refusing (past_top d t (n + v)) 9 (Opens n (n + v)))
+      (λ z. sure_unless bits d (past_top d t (n + v)) 9 (Opens n (n + v)) (λ _. omega (arith, eqb-false bits 0 z)))
+  sure_on d (suc (suc zero)) Cut = tt
+  sure_on d (suc (suc zero)) (Value v n) =
+      sure_unless bits d (ltb (length_of v) 8 && is_short p) 10 (refusing (ltb bits (length_of v)) 8 (Uses n (length_of v)))
+      (λ _. sure_unless bits d (ltb bits (length_of v)) 8 (Uses n (length_of v)) (λ z. ltb-false bits (length_of v) z))
+  sure_on d (suc (suc (suc op))) c = sure_unless bits d (is_default p) 5 (kept c) (λ _. sure-kept d c)
 
-  sure-opcode : (d : ℕ) (c : Code) → Sure bits d (onOpcode m p bits d t c)
-  sure-opcode d Cut = tt
-  sure-opcode d (Value op n) = sure-on d op (code_at m n (operand_row op))
+  sure_opcode : (d : ℕ) (c : Code) → Sure bits d (on_opcode m p bits d t c)
+  sure_opcode d Cut = tt
+  sure_opcode d (Value op n) = sure_on d op (code_at m n (operand_row op))
 
   pub sure : (d place : ℕ) → Sure bits d (acts m p bits d t place)
-  sure d place = sure-unless bits d (pastTop d t place) 3 (onOpcode m p bits d t (code_at m place typeRow)) (λ _. sure-opcode d (code_at m place typeRow))
+  sure d place = sure_unless bits d (past_top d t place) 3 (on_opcode m p bits d t (code_at m place type_row)) (λ _. sure_opcode d (code_at m place type_row))
 
 -- how many pieces the instruction of an act gives
 abbrev pub Tells : Instruction → Act → Type 0
@@ -194,32 +194,32 @@ Tells i (Keeps n) = pieces_of i ≡ 0
 Tells i Accepts = pieces_of i ≡ 1
 Tells i (Refuses n) = Unit {0}
 
-tells-unless : (i : Instruction) (b : Bool) (n : ℕ) (a : Act) → Tells i a → Tells i (refusing b n a)
+tells_unless : (i : Instruction) (b : Bool) (n : ℕ) (a : Act) → Tells i a → Tells i (refusing b n a)
 unfolding refusing
-tells-unless i true n a h = tt
-tells-unless i false n a h = h
+tells_unless i true n a h = tt
+tells_unless i false n a h = h
 
 module _ (m : List ℕ) (p : Previous) (bits t : ℕ) where
   tells-returned : (d place : ℕ) (c : Code) → Tells (instruction place 0 c) (returned m d t c)
   tells-returned d place Cut = tt
-  tells-returned zero place (Value v n) = tells-unless _ (not (paddedFrom m n)) 6 Accepts refl
-  tells-returned (suc d) place (Value v n) = rw (ne_eqb (suc d) 0 (omega arith)) (tells-unless _ (not (eqb n t)) 7 (Closes n) refl)
+  tells-returned zero place (Value v n) = tells_unless _ (not (padded_from m n)) 6 Accepts refl
+  tells-returned (suc d) place (Value v n) = rw (ne_eqb (suc d) 0 (omega arith)) (tells_unless _ (not (eqb n t)) 7 (Closes n) refl)
 
-  tells-on : (d op place : ℕ) (c : Code) → Tells (instruction place op c) (on_operand m p bits d t op c)
-  tells-on d zero place c = tells-unless _ (is_default p) 5 (returned m d t c) (tells-returned d place c)
-  tells-on d (suc zero) place Cut = tt
-  tells-on d (suc zero) place (Value v n) =
-      tells-unless _ (eqb bits 0) 8 (refusing (pastTop d t (n + v)) 9 (Opens n (n + v))) (tells-unless _ (pastTop d t (n + v)) 9 (Opens n (n + v)) refl)
-  tells-on d (suc (suc zero)) place Cut = tt
-  tells-on d (suc (suc zero)) place (Value v n) =
-      tells-unless _ (ltb (length_of v) 8 && isShort p) 10 (refusing (ltb bits (length_of v)) 8 (Uses n (length_of v)))
-      (tells-unless _ (ltb bits (length_of v)) 8 (Uses n (length_of v)) refl)
-  tells-on d (suc (suc (suc op))) place Cut = tells-unless _ (is_default p) 5 (kept Cut) tt
-  tells-on d (suc (suc (suc op))) place (Value v n) = tells-unless _ (is_default p) 5 (kept (Value v n)) refl
+  tells_on : (d op place : ℕ) (c : Code) → Tells (instruction place op c) (on_operand m p bits d t op c)
+  tells_on d zero place c = tells_unless _ (is_default p) 5 (returned m d t c) (tells-returned d place c)
+  tells_on d (suc zero) place Cut = tt
+  tells_on d (suc zero) place (Value v n) =
+      tells_unless _ (eqb bits 0) 8 (refusing (past_top d t (n + v)) 9 (Opens n (n + v))) (tells_unless _ (past_top d t (n + v)) 9 (Opens n (n + v)) refl)
+  tells_on d (suc (suc zero)) place Cut = tt
+  tells_on d (suc (suc zero)) place (Value v n) =
+      tells_unless _ (ltb (length_of v) 8 && is_short p) 10 (refusing (ltb bits (length_of v)) 8 (Uses n (length_of v)))
+      (tells_unless _ (ltb bits (length_of v)) 8 (Uses n (length_of v)) refl)
+  tells_on d (suc (suc (suc op))) place Cut = tells_unless _ (is_default p) 5 (kept Cut) tt
+  tells_on d (suc (suc (suc op))) place (Value v n) = tells_unless _ (is_default p) 5 (kept (Value v n)) refl
 
-  tells-opcode : (d place : ℕ) (c : Code) → Tells (instructionAt m place c) (onOpcode m p bits d t c)
-  tells-opcode d place Cut = tt
-  tells-opcode d place (Value op n) = tells-on d op place (code_at m n (operand_row op))
+  tells_opcode : (d place : ℕ) (c : Code) → Tells (instruction_at m place c) (on_opcode m p bits d t c)
+  tells_opcode d place Cut = tt
+  tells_opcode d place (Value op n) = tells_on d op place (code_at m n (operand_row op))
 
   pub tells : (d place : ℕ) → Tells (here m place) (acts m p bits d t place)
-  tells d place = tells-unless _ (pastTop d t place) 3 (onOpcode m p bits d t (code_at m place typeRow)) (tells-opcode d place (code_at m place typeRow))
+  tells d place = tells_unless _ (past_top d t place) 3 (on_opcode m p bits d t (code_at m place type_row)) (tells_opcode d place (code_at m place type_row))

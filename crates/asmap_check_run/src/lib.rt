@@ -6,7 +6,7 @@
 // copied to it and back at each call; so the loop itself stores an open jump and reads it.
 ghost use Rattle.std.specs.Prelude.{◌≡◌, ◌+◌, ◌-◌, ◌≤◌, ◌<◌, max, length};
 ghost use Rattle.asmap_program.specs.Map.{limit};
-ghost use Rattle.asmap_program.specs.Check.{afterMatch};
+ghost use Rattle.asmap_program.specs.Check.{after_match};
 ghost use Rattle.asmap_check_run.specs.models.State.{Arrays, top, judged, most};
 
 use asmap_check_act::Act;
@@ -79,7 +79,7 @@ impl CheckState {
 
 // What a MATCH leaves behind: a full one clears what a short one before it left.
 fn after_match(n: u8) -> Previous
-    ensures { result ≡ afterMatch n }
+    ensures { result ≡ after_match n }
 {
     if n < 8 {
         return Previous::Short;

@@ -1,7 +1,7 @@
 // The parts of a value's code (document 01, Codes): which size of a row has the value, how many ones stand before it, and the number
 // in the size's bits. A code's bits tell its parts, so these are one for each value.
 ghost use Rattle.std.specs.Prelude.{◌≡◌, true, ◌+◌, ◌^◌, ◌≤◌, ◌<◌, length};
-ghost use Rattle.asmap_codes.specs.Row.{typeRow, asnRow, matchRow, jump_row, operand_row, span};
+ghost use Rattle.asmap_codes.specs.Row.{type_row, asn_row, match_row, jump_row, operand_row, span};
 ghost use Rattle.asmap_codes.specs.models.Grown.{slow};
 ghost use Rattle.asmap_code_parts.specs.models.Parts.{GrownParts, CodeParts, CodedAs};
 
@@ -100,21 +100,21 @@ fn row_parts(value: u32, least: u32, count: u32, sizes: &[u8]) -> Coded
 
 // The parts of an opcode's code.
 pub fn type_parts(value: u32) -> Coded
-    ensures { CodedAs typeRow value result }
+    ensures { CodedAs type_row value result }
 {
     row_parts(value, 0, 4, &TYPE_BIT_SIZES)
 }
 
 // The parts of an AS number's code.
 pub fn asn_parts(value: u32) -> Coded
-    ensures { CodedAs asnRow value result }
+    ensures { CodedAs asn_row value result }
 {
     row_parts(value, 1, 33521664, &ASN_BIT_SIZES)
 }
 
 // The parts of a MATCH operand's code.
 pub fn match_parts(value: u32) -> Coded
-    ensures { CodedAs matchRow value result }
+    ensures { CodedAs match_row value result }
 {
     row_parts(value, 2, 510, &MATCH_BIT_SIZES)
 }

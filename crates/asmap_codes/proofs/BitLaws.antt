@@ -11,79 +11,79 @@ use lib.Dec.{lit<}
 use lib.Pow.{pow_mono}
 use lib.ListN.{length, get_or, take, drop, length-take, length-append, length-drop, get_or-append, get_or-eq_default}
 use lib.Seq.{get_or-take, get_or-append-add, get_or-drop, drop-nil}
-use Rattle.asmap_codes.specs.Bits.{low, mapBits, number}
+use Rattle.asmap_codes.specs.Bits.{low, map_bits, number}
 
 pub length-low : (n x : ℕ) → length (low n x) ≡ n
 length-low zero x = refl
 length-low (suc n) x = ap suc (length-low n (x / 2))
 
-pub getD-low : (n x i : ℕ) → i < n → get_or (low n x) i 0 ≡ x / 2 ^ i % 2
-getD-low zero x i h = absurd (not-suc-le-zero h)
-getD-low (suc n) x zero h = ap (λ (k : ℕ). k % 2) (sym (div-one x))
-getD-low (suc n) x (suc i) h =
-    getD-low n (x / 2) i (le_of_suc-le-suc h) ∙ ap (λ (k : ℕ). k % 2) (div-div-eq-div-mul x 2 (2 ^ i) ∙ ap (λ (k : ℕ). x / k) (sym (pow-succ' 2 i)))
+pub get_or-low : (n x i : ℕ) → i < n → get_or (low n x) i 0 ≡ x / 2 ^ i % 2
+get_or-low zero x i h = absurd (not-suc-le-zero h)
+get_or-low (suc n) x zero h = ap (λ (k : ℕ). k % 2) (sym (div-one x))
+get_or-low (suc n) x (suc i) h =
+    get_or-low n (x / 2) i (le_of_suc-le-suc h) ∙ ap (λ (k : ℕ). k % 2) (div-div-eq-div-mul x 2 (2 ^ i) ∙ ap (λ (k : ℕ). x / k) (sym (pow-succ' 2 i)))
 
-pub length-mapBits : (m : List ℕ) → length (mapBits m) ≡ 8 * length m
-length-mapBits [] = refl
-length-mapBits (x ∷ xs) = omega (arith, length-append (low 8 x) (mapBits xs), length-low 8 x, length-mapBits xs)
+pub length-map_bits : (m : List ℕ) → length (map_bits m) ≡ 8 * length m
+length-map_bits [] = refl
+length-map_bits (x ∷ xs) = omega (arith, length-append (low 8 x) (map_bits xs), length-low 8 x, length-map_bits xs)
 
 -- the bits of bytes and more bytes
-pub mapBits-append : (xs ys : List ℕ) → mapBits (xs ++ ys) ≡ mapBits xs ++ mapBits ys
-mapBits-append [] ys = refl
-mapBits-append (x ∷ xs) ys = rw (mapBits-append xs ys)
+pub map_bits-append : (xs ys : List ℕ) → map_bits (xs ++ ys) ≡ map_bits xs ++ map_bits ys
+map_bits-append [] ys = refl
+map_bits-append (x ∷ xs) ys = rw (map_bits-append xs ys)
 
 -- the bits from a byte on are the bits of the bytes from there on
-pub drop-mapBits : (m : List ℕ) (b : ℕ) → drop (8 * b) (mapBits m) ≡ mapBits (drop b m)
-drop-mapBits m zero = refl
-drop-mapBits [] (suc b) = drop-nil (8 * suc b)
-drop-mapBits (x ∷ xs) (suc b) =
+pub drop-map_bits : (m : List ℕ) (b : ℕ) → drop (8 * b) (map_bits m) ≡ map_bits (drop b m)
+drop-map_bits m zero = refl
+drop-map_bits [] (suc b) = drop-nil (8 * suc b)
+drop-map_bits (x ∷ xs) (suc b) =
     let e : 8 * suc b ≡ suc (suc (suc (suc (suc (suc (suc (suc (8 * b)))))))) = omega arith in
-    rw e (drop-mapBits xs b)
+    rw e (drop-map_bits xs b)
 
-pub getD-mapBits : (m : List ℕ) (i : ℕ) → i < 8 * length m → get_or (mapBits m) i 0 ≡ get_or m (i / 8) 0 / 2 ^ (i % 8) % 2
-getD-mapBits [] i h = absurd (not-suc-le-zero h)
-getD-mapBits (x ∷ xs) i h = go (dec_lt i 8) (λ j l. getD-mapBits xs j l)
+pub get_or-map_bits : (m : List ℕ) (i : ℕ) → i < 8 * length m → get_or (map_bits m) i 0 ≡ get_or m (i / 8) 0 / 2 ^ (i % 8) % 2
+get_or-map_bits [] i h = absurd (not-suc-le-zero h)
+get_or-map_bits (x ∷ xs) i h = go (dec_lt i 8) (λ j l. get_or-map_bits xs j l)
   where
     Rest : Type 0
-    Rest = (j : ℕ) → j < 8 * length xs → get_or (mapBits xs) j 0 ≡ get_or xs (j / 8) 0 / 2 ^ (j % 8) % 2
+    Rest = (j : ℕ) → j < 8 * length xs → get_or (map_bits xs) j 0 ≡ get_or xs (j / 8) 0 / 2 ^ (j % 8) % 2
 
-    go : Dec (i < 8) → Rest → get_or (mapBits (x ∷ xs)) i 0 ≡ get_or (x ∷ xs) (i / 8) 0 / 2 ^ (i % 8) % 2
+    go : Dec (i < 8) → Rest → get_or (map_bits (x ∷ xs)) i 0 ≡ get_or (x ∷ xs) (i / 8) 0 / 2 ^ (i % 8) % 2
     go (yes l) ih =
         let q : i / 8 ≡ 0 = omega arith in
         let r : i % 8 ≡ i = omega arith in
-        rw (q, r) (get_or-append (low 8 x) (mapBits xs) 0 i l ∙ getD-low 8 x i l)
+        rw (q, r) (get_or-append (low 8 x) (map_bits xs) 0 i l ∙ get_or-low 8 x i l)
     go (no g) ih =
         let j : ℕ = i - 8 in
         let e : i ≡ 8 + j = omega arith in
         let q : i / 8 ≡ suc (j / 8) = omega arith in
         let r : i % 8 ≡ j % 8 = omega arith in
-        rw (q, r) (ap (λ (k : ℕ). get_or (mapBits (x ∷ xs)) k 0) e ∙ get_or-append-add (low 8 x) (mapBits xs) j 0 ∙ ih j (omega arith))
+        rw (q, r) (ap (λ (k : ℕ). get_or (map_bits (x ∷ xs)) k 0) e ∙ get_or-append-add (low 8 x) (map_bits xs) j 0 ∙ ih j (omega arith))
 
-pub bit-lt : (m : List ℕ) (i : ℕ) → get_or (mapBits m) i 0 < 2
-bit-lt m i = go (dec_lt i (8 * length m))
+pub bit_lt : (m : List ℕ) (i : ℕ) → get_or (map_bits m) i 0 < 2
+bit_lt m i = go (dec_lt i (8 * length m))
   where
-    go : Dec (i < 8 * length m) → get_or (mapBits m) i 0 < 2
-    go (yes l) = rw (getD-mapBits m i l) (omega arith)
-    go (no g) = omega (arith, get_or-eq_default (mapBits m) 0 {n = i} (omega (arith, length-mapBits m)))
+    go : Dec (i < 8 * length m) → get_or (map_bits m) i 0 < 2
+    go (yes l) = rw (get_or-map_bits m i l) (omega arith)
+    go (no g) = omega (arith, get_or-eq_default (map_bits m) 0 {n = i} (omega (arith, length-map_bits m)))
 
 -- one bit more, at the end
-pub number-snoc : (xs : List ℕ) (b : ℕ) → number (xs ++ (b ∷ [])) ≡ number xs * 2 + b
-number-snoc [] b = omega arith
-number-snoc (x ∷ xs) b =
-    rw (length-append xs (b ∷ []), add-one, pow-suc, ← mul_assoc) (omega (arith, number-snoc xs b))
+pub number_snoc : (xs : List ℕ) (b : ℕ) → number (xs ++ (b ∷ [])) ≡ number xs * 2 + b
+number_snoc [] b = omega arith
+number_snoc (x ∷ xs) b =
+    rw (length-append xs (b ∷ []), add-one, pow-suc, ← mul_assoc) (omega (arith, number_snoc xs b))
 
 pub pow_below : (i : ℕ) {x : ℕ} → i < 31 → x < 2 ^ i → x * 2 + 1 < 2 ^ 32
 pow_below i h l = omega (arith, pow_mono {i = i} {j = 30} (omega arith))
 
-pub below-more-bit : (i : ℕ) {x b : ℕ} → x < 2 ^ i → b < 2 → x * 2 + b < 2 ^ (i + 1)
-below-more-bit i h l = rw (add-one, pow-suc) (omega arith)
+pub below_more_bit : (i : ℕ) {x b : ℕ} → x < 2 ^ i → b < 2 → x * 2 + b < 2 ^ (i + 1)
+below_more_bit i h l = rw (add-one, pow-suc) (omega arith)
 
-pub length-left : (m : List ℕ) (at : ℕ) → length (drop at (mapBits m)) ≡ 8 * length m - at
-length-left m at = rw (length-drop at (mapBits m), length-mapBits m)
+pub length_left : (m : List ℕ) (at : ℕ) → length (drop at (map_bits m)) ≡ 8 * length m - at
+length_left m at = rw (length-drop at (map_bits m), length-map_bits m)
 
 -- a size whose power is at most 2 ^ 31 is at most 31
-pub size-of-pow : (s : ℕ) → 2 ^ s ≤ 2 ^ 31 → s ≤ 31
-size-of-pow s h = go (dec_lt 31 s)
+pub size_of_pow : (s : ℕ) → 2 ^ s ≤ 2 ^ 31 → s ≤ 31
+size_of_pow s h = go (dec_lt 31 s)
   where
     go : Dec (31 < s) → s ≤ 31
     go (yes l) = omega (arith, pow_mono {i = 32} {j = s} l)
@@ -111,8 +111,8 @@ bits-take n l h i = go (dec_lt i n)
 pub bits-drop : (n : ℕ) (l : List ℕ) → AllBits l → AllBits (drop n l)
 bits-drop n l h i = rw (get_or-drop n l i 0) (h (n + i))
 
-pub bits-map : (m : List ℕ) → AllBits (mapBits m)
-bits-map m i = bit-lt m i
+pub bits-map : (m : List ℕ) → AllBits (map_bits m)
+bits-map m i = bit_lt m i
 
 -- s bits write a number below 2 ^ s
 pub number-below : (s : ℕ) (l : List ℕ) → AllBits l → number (take s l) < 2 ^ s
@@ -120,18 +120,18 @@ number-below s l h =
     omega (arith, number_lt (take s l) (bits-take s l h), pow_mono {i = length (take s l)} {j = s} (omega (arith, length-take s l)))
 
 -- one bit more of a number, above
-low-snoc : (k w : ℕ) → low (suc k) w ≡ low k w ++ ((w / 2 ^ k % 2) ∷ [])
-low-snoc zero w = rw (div-one w)
-low-snoc (suc k) w =
+low_snoc : (k w : ℕ) → low (suc k) w ≡ low k w ++ ((w / 2 ^ k % 2) ∷ [])
+low_snoc zero w = rw (div-one w)
+low_snoc (suc k) w =
     let e : w / 2 / 2 ^ k ≡ w / 2 ^ suc k = div-div-eq-div-mul w 2 (2 ^ k) ∙ ap (λ (x : ℕ). w / x) (sym (pow-succ' 2 k)) in
-    ap (◌∷◌ (w % 2)) (low-snoc k (w / 2) ∙ ap (λ (x : ℕ). low k (w / 2) ++ (x % 2 ∷ [])) e)
+    ap (◌∷◌ (w % 2)) (low_snoc k (w / 2) ∙ ap (λ (x : ℕ). low k (w / 2) ++ (x % 2 ∷ [])) e)
 
 pub halved : (w k : ℕ) → w / 2 ^ k / 2 ≡ w / 2 ^ (k + 1)
 halved w k = rw (add-one, pow-suc) (div-div-eq-div-mul w (2 ^ k) 2)
 
 pub number-low : (k w : ℕ) → number (low (k + 1) w) ≡ number (low k w) * 2 + w / 2 ^ k % 2
-number-low k w = ap number (ap (λ (n : ℕ). low n w) (add-one k) ∙ low-snoc k w) ∙ number-snoc (low k w) (w / 2 ^ k % 2)
+number-low k w = ap number (ap (λ (n : ℕ). low n w) (add-one k) ∙ low_snoc k w) ∙ number_snoc (low k w) (w / 2 ^ k % 2)
 
-pub number-low-lt : (k w : ℕ) → number (low k w) < 2 ^ k
-number-low-lt zero w = lit< tt
-number-low-lt (suc k) w = subst (λ (n : ℕ). number (low n w) < 2 ^ n) (add-one k) (rw (number-low k w) (below-more-bit k (number-low-lt k w) (omega arith)))
+pub number-low_lt : (k w : ℕ) → number (low k w) < 2 ^ k
+number-low_lt zero w = lit< tt
+number-low_lt (suc k) w = subst (λ (n : ℕ). number (low n w) < 2 ^ n) (add-one k) (rw (number-low k w) (below_more_bit k (number-low_lt k w) (omega arith)))

@@ -8,7 +8,7 @@ use native.Mathlib.Omega.{arith}
 use lib.ListN.{length, get_or, drop}
 use lib.Seq.{drop-cons}
 use Rattle.asmap_codes.specs.Row.{span}
-use Rattle.asmap_codes.proofs.BitLaws.{size-of-pow}
+use Rattle.asmap_codes.proofs.BitLaws.{size_of_pow}
 use types.Run.{OneOf}
 use denote.Enum.Declared.{tag_of}
 use Rattle.asmap_codes.specs.contracts.Code.{the_type}
@@ -25,7 +25,7 @@ span-drop ss i h = rw (add-one i, drop-cons ss i 0)
 
 -- a size of a row whose values fit 31 bits is at most 31
 pub size_small : (ss : List ℕ) (i : ℕ) → i < length ss → span (drop i ss) ≤ 2 ^ 31 → get_or ss i 0 ≤ 31
-size_small ss i h k = size-of-pow (get_or ss i 0) (omega (arith, span-drop ss i h))
+size_small ss i h k = size_of_pow (get_or ss i 0) (omega (arith, span-drop ss i h))
 
 -- what the `else` of `let Code::Value(..) = g else` is told: the tag is 1
 pub cut-told : (g : Code) → OneOf (1 ∷ []) (tag_of the_type g) → g ≡ Cut

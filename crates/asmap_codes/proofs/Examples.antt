@@ -5,8 +5,8 @@ use mathlib.Core.Path.{◌≡◌, refl}
 use mathlib.Core.List.{List, [], ◌∷◌, map}
 use Prim.Native.Nat.{ℕ}
 use Rattle.asmap_program.specs.Map.{Fetched, Whole, CutOpcode, CutOperand}
-use Rattle.asmap_codes.specs.Encode.{instructionBits}
-use Rattle.asmap_codes.specs.Instruction.{fetchAt}
+use Rattle.asmap_codes.specs.Encode.{instruction_bits}
+use Rattle.asmap_codes.specs.Instruction.{fetch_at}
 
 -- 00 00 00: RETURN 1. 01: JUMP 17. 09: JUMP 33, its mantissa 10000. 4b: MATCH 5, its prefix 10 and mantissa 01. An empty map
 -- has no opcode; fb ends in the prefix of a MATCH.
@@ -23,10 +23,10 @@ answers =
     ∷ CutOperand 2
     ∷ []
 
-pub fetched-by-hand : map (λ (m : List ℕ). fetchAt m 0) inputs ≡ answers
-unfolding fetchAt
-fetched-by-hand = refl
+pub fetched_by_hand : map (λ (m : List ℕ). fetch_at m 0) inputs ≡ answers
+unfolding fetch_at
+fetched_by_hand = refl
 
-pub written-by-hand : instructionBits 1 33 ≡ 1 ∷ 0 ∷ 0 ∷ 1 ∷ 0 ∷ 0 ∷ 0 ∷ 0 ∷ []
-unfolding instructionBits
-written-by-hand = refl
+pub written_by_hand : instruction_bits 1 33 ≡ 1 ∷ 0 ∷ 0 ∷ 1 ∷ 0 ∷ 0 ∷ 0 ∷ 0 ∷ []
+unfolding instruction_bits
+written_by_hand = refl

@@ -16,7 +16,7 @@ use lib.Seq.{take_at, length-take-le}
 use Rattle.asmap_codes.specs.Bits.{number, high}
 use Rattle.asmap_codes.specs.Row.{Row, span, shortest, longest}
 use Rattle.asmap_codes.specs.Code.{tail, code}
-use Rattle.asmap_codes.specs.Encode.{encode, encodeOf}
+use Rattle.asmap_codes.specs.Encode.{encode, encode_of}
 use Rattle.asmap_codes.specs.declared.Code.TheVariants.{Value, Cut}
 use Rattle.asmap_codes.proofs.BitLaws.{AllBits, number_lt, number-below, bits-take}
 
@@ -24,20 +24,20 @@ pub length_high : (n x : ℕ) → length (high n x) ≡ n
 length_high zero x = refl
 length_high (suc n) x = ap suc (length_high n x)
 
-pub number-high : (n x : ℕ) → number (high n x) ≡ x % 2 ^ n
-number-high zero x = sym (mod-one x)
-number-high (suc n) x = rw (length_high n x, number-high n x, ← mod-pow-add x 1 n, one-add n)
+pub number_high : (n x : ℕ) → number (high n x) ≡ x % 2 ^ n
+number_high zero x = sym (mod-one x)
+number_high (suc n) x = rw (length_high n x, number_high n x, ← mod-pow-add x 1 n, one-add n)
 
-tail-high : (s x v at : ℕ) (rest : List ℕ) → x < 2 ^ s → tail s v at (high s x ++ rest) ≡ Value (v + x) (at + s)
-tail-high s x v at rest h =
+tail_high : (s x v at : ℕ) (rest : List ℕ) → x < 2 ^ s → tail s v at (high s x ++ rest) ≡ Value (v + x) (at + s)
+tail_high s x v at rest h =
     let l : s ≤ length (high s x ++ rest) = omega (arith, length-append (high s x) rest, length_high s x) in
-    simp (le-leb s (length (high s x ++ rest)) l, take_at (high s x) rest s (length_high s x), number-high s x, mod-eq_of_lt h)
+    simp (le-leb s (length (high s x ++ rest)) l, take_at (high s x) rest s (length_high s x), number_high s x, mod-eq_of_lt h)
 
 -- what was written is read back, whatever follows it
 pub written : (ss : List ℕ) (x v at : ℕ) (rest : List ℕ) → x < span ss
     → code ss v at (encode ss x ++ rest) ≡ Value (v + x) (at + length (encode ss x))
 written [] x v at rest h = absurd (not-suc-le-zero h)
-written (s ∷ []) x v at rest h = rw (length_high s x) (tail-high s x v at rest (omega arith))
+written (s ∷ []) x v at rest h = rw (length_high s x) (tail_high s x v at rest (omega arith))
 written (s ∷ t ∷ ss) x v at rest h = go (dec_lt x (2 ^ s)) (λ l. written (t ∷ ss) (x - 2 ^ s) (v + 2 ^ s) (at + 1) rest l)
   where
     go : Dec (x < 2 ^ s)
@@ -45,25 +45,25 @@ written (s ∷ t ∷ ss) x v at rest h = go (dec_lt x (2 ^ s)) (λ l. written (t
         → code (t ∷ ss) (v + 2 ^ s) (at + 1) (encode (t ∷ ss) (x - 2 ^ s) ++ rest)
         ≡ Value (v + 2 ^ s + (x - 2 ^ s)) (at + 1 + length (encode (t ∷ ss) (x - 2 ^ s))))
         → code (s ∷ t ∷ ss) v at (encode (s ∷ t ∷ ss) x ++ rest) ≡ Value (v + x) (at + length (encode (s ∷ t ∷ ss) x))
-    go (yes l) ih = rw (lt-ltb x (2 ^ s) l, length_high s x) (tail-high s x v (at + 1) rest l ∙ ap (Value (v + x)) (omega arith))
+    go (yes l) ih = rw (lt-ltb x (2 ^ s) l, length_high s x) (tail_high s x v (at + 1) rest l ∙ ap (Value (v + x)) (omega arith))
     go (no g) ih = rw (le-ltb x (2 ^ s) (omega arith)) (ih (omega arith) ∙ ap₂ Value (omega arith) (omega arith))
 
 -- bits above the n lowest make no difference
-high-add : (n d a r : ℕ) → high n (a * 2 ^ (d + n) + r) ≡ high n r
-high-add zero d a r = refl
-high-add (suc n) d a r =
+high_add : (n d a r : ℕ) → high n (a * 2 ^ (d + n) + r) ≡ high n r
+high_add zero d a r = refl
+high_add (suc n) d a r =
     let e : a * 2 ^ (d + suc n) ≡ a * 2 ^ d * 2 * 2 ^ n = rw (pow-add 2 d (suc n), pow-succ' 2 n) (simp mul_assoc) in
     let k : d + suc n ≡ suc d + n = omega arith in
     let head : (a * 2 ^ (d + suc n) + r) / 2 ^ n % 2 ≡ r / 2 ^ n % 2
     = rw (e, mul-add-div_right (pow_pos n) (a * 2 ^ d * 2) r) (mul-add-mod_self_right (a * 2 ^ d) 2 (r / 2 ^ n)) in
-    ap₂ ◌∷◌ head (rw k (high-add n (suc d) a r))
+    ap₂ ◌∷◌ head (rw k (high_add n (suc d) a r))
 
 pub high-number : (l : List ℕ) → AllBits l → high (length l) (number l) ≡ l
 high-number [] h = refl
 high-number (x ∷ xs) h =
     let r : number xs < 2 ^ length xs = number_lt xs (λ i. h (suc i)) in
     let head : (x * 2 ^ length xs + number xs) / 2 ^ length xs % 2 ≡ x = rw (pow.high x (length xs) r) (mod-eq_of_lt (h 0)) in
-    let low = rw zero-add at (high-add (length xs) 0 x (number xs)) in
+    let low = rw zero-add at (high_add (length xs) 0 x (number xs)) in
     ap₂ ◌∷◌ head (low ∙ high-number xs (λ i. h (suc i)))
 
 -- what a code's reading says of the bits read
@@ -73,32 +73,32 @@ pub record Read (ss : List ℕ) (v at : ℕ) (bs : List ℕ) (y n : ℕ) : Type 
   pub after : at ≤ n
   pub bits : encode ss (y - v) ≡ take (n - at) bs
 
-pub tail-read : (s v at : ℕ) (bs : List ℕ) (y n : ℕ) → tail s v at bs ≡ Value y n
+pub tail_read : (s v at : ℕ) (bs : List ℕ) (y n : ℕ) → tail s v at bs ≡ Value y n
     → (y ≡ v + number (take s bs)) × (n ≡ at + s) × (s ≤ length bs)
-tail-read s v at bs y n e = go (dec_le s (length bs))
+tail_read s v at bs y n e = go (dec_le s (length bs))
   where
     go : Dec (s ≤ length bs) → (y ≡ v + number (take s bs)) × (n ≡ at + s) × (s ≤ length bs)
     go (yes l) = let q = rw (le-leb s (length bs) l) at e in (cc, cc, l)
     go (no g) = let q = rw (lt-leb s (length bs) (omega arith)) at e in let z : ◌≡◌ {A = ℕ} 0 1 = cc in absurd (omega arith)
 
 -- s bits of bs, read as a number and written again
-high-take : (s : ℕ) (bs : List ℕ) → AllBits bs → s ≤ length bs → high s (number (take s bs)) ≡ take s bs
-high-take s bs h l = rw (length-take-le s bs l) at (high-number (take s bs) (bits-take s bs h))
+high_take : (s : ℕ) (bs : List ℕ) → AllBits bs → s ≤ length bs → high s (number (take s bs)) ≡ take s bs
+high_take s bs h l = rw (length-take-le s bs l) at (high-number (take s bs) (bits-take s bs h))
 
 -- the last size
-read-last : (s v at : ℕ) (bs : List ℕ) (y n : ℕ) → AllBits bs → tail s v at bs ≡ Value y n → Read (s ∷ []) v at bs y n
-read-last s v at bs y n h e =
-    let t = tail-read s v at bs y n e in
+read_last : (s v at : ℕ) (bs : List ℕ) (y n : ℕ) → AllBits bs → tail s v at bs ≡ Value y n → Read (s ∷ []) v at bs y n
+read_last s v at bs y n h e =
+    let t = tail_read s v at bs y n e in
     let d : y - v ≡ number (take s bs) = omega arith in
     let k : n - at ≡ s = omega arith in
     let b = number-below s bs h in
-    record { above = omega arith; below = omega arith; after = omega arith; bits = rw (d, k) (high-take s bs h t.2) }
+    record { above = omega arith; below = omega arith; after = omega arith; bits = rw (d, k) (high_take s bs h t.2) }
 
 -- a bit that is 0
-read-stop : (s t : ℕ) (ss : List ℕ) (v at : ℕ) (bs : List ℕ) (y n : ℕ) → AllBits bs → tail s v (at + 1) bs ≡ Value y n
+read_stop : (s t : ℕ) (ss : List ℕ) (v at : ℕ) (bs : List ℕ) (y n : ℕ) → AllBits bs → tail s v (at + 1) bs ≡ Value y n
     → Read (s ∷ t ∷ ss) v at (0 ∷ bs) y n
-read-stop s t ss v at bs y n h e =
-    let q = tail-read s v (at + 1) bs y n e in
+read_stop s t ss v at bs y n h e =
+    let q = tail_read s v (at + 1) bs y n e in
     let d : y - v ≡ number (take s bs) = omega arith in
     let k : n - at ≡ suc s = omega arith in
     let b = number-below s bs h in
@@ -106,7 +106,7 @@ read-stop s t ss v at bs y n h e =
       above = omega arith;
       below = omega arith;
       after = omega arith;
-      bits = rw (d, k, lt-ltb (number (take s bs)) (2 ^ s) b) (ap (◌∷◌ 0) (high-take s bs h q.2));
+      bits = rw (d, k, lt-ltb (number (take s bs)) (2 ^ s) b) (ap (◌∷◌ 0) (high_take s bs h q.2));
     }
 
 -- a bit that is 1
@@ -125,38 +125,38 @@ read_more s t ss v at b bs y n h r =
       bits = rw (k, z, le-ltb (y - v) (2 ^ s) (omega arith), d) (ap (◌∷◌ 1) r.bits);
     }
 
-pub cut-no-value : (y n : ℕ) {A : Type 0} → Cut ≡ Value y n → A
-cut-no-value y n e = let z : ◌≡◌ {A = ℕ} 0 1 = cc in absurd (omega arith)
+pub cut_no_value : (y n : ℕ) {A : Type 0} → Cut ≡ Value y n → A
+cut_no_value y n e = let z : ◌≡◌ {A = ℕ} 0 1 = cc in absurd (omega arith)
 
 -- writing what was read gives the bits read
 pub was_read : (ss : List ℕ) (v at : ℕ) (bs : List ℕ) (y n : ℕ) → AllBits bs → code ss v at bs ≡ Value y n → Read ss v at bs y n
-was_read [] v at bs y n h e = cut-no-value y n e
-was_read (s ∷ []) v at bs y n h e = read-last s v at bs y n h e
-was_read (s ∷ t ∷ ss) v at [] y n h e = cut-no-value y n e
-was_read (s ∷ t ∷ ss) v at (zero ∷ bs) y n h e = read-stop s t ss v at bs y n (λ i. h (suc i)) e
+was_read [] v at bs y n h e = cut_no_value y n e
+was_read (s ∷ []) v at bs y n h e = read_last s v at bs y n h e
+was_read (s ∷ t ∷ ss) v at [] y n h e = cut_no_value y n e
+was_read (s ∷ t ∷ ss) v at (zero ∷ bs) y n h e = read_stop s t ss v at bs y n (λ i. h (suc i)) e
 was_read (s ∷ t ∷ ss) v at (suc b ∷ bs) y n h e =
     read_more s t ss v at b bs y n (h 0) (was_read (t ∷ ss) (v + 2 ^ s) (at + 1) bs y n (λ i. h (suc i)) e)
 
 -- ---- the two laws, over a row. They ask nothing of its sizes.
 
 -- Reading what was written: a value of the row, whatever stands after its bits, is read as that value, up to their end.
-pub written-then-read : (row : Row) (v at : ℕ) (rest : List ℕ) → row.least ≤ v → v < row.least + span row.sizes
-    → code row.sizes row.least at (encodeOf row v ++ rest) ≡ Value v (at + length (encodeOf row v))
-written-then-read row v at rest h k =
+pub written_then_read : (row : Row) (v at : ℕ) (rest : List ℕ) → row.least ≤ v → v < row.least + span row.sizes
+    → code row.sizes row.least at (encode_of row v ++ rest) ≡ Value v (at + length (encode_of row v))
+written_then_read row v at rest h k =
     let e : row.least + (v - row.least) ≡ v = omega arith in
-    written row.sizes (v - row.least) row.least at rest (omega arith) ∙ ap (λ (x : ℕ). Value x (at + length (encodeOf row v))) e
+    written row.sizes (v - row.least) row.least at rest (omega arith) ∙ ap (λ (x : ℕ). Value x (at + length (encode_of row v))) e
 
 -- Writing what was read: the bits that a code was read from are those written for its value.
-pub read-then-written : (row : Row) (at : ℕ) (bs : List ℕ) (v n : ℕ) → AllBits bs → code row.sizes row.least at bs ≡ Value v n
-    → take (n - at) bs ≡ encodeOf row v
-read-then-written row at bs v n h e = sym (was_read row.sizes row.least at bs v n h e).bits
+pub read_then_written : (row : Row) (at : ℕ) (bs : List ℕ) (v n : ℕ) → AllBits bs → code row.sizes row.least at bs ≡ Value v n
+    → take (n - at) bs ≡ encode_of row v
+read_then_written row at bs v n h e = sym (was_read row.sizes row.least at bs v n h e).bits
 
 -- ---- how many bits a code has
 
-pub length-encode : (ss : List ℕ) (x : ℕ) → (shortest ss ≤ length (encode ss x)) × (length (encode ss x) ≤ longest ss)
-length-encode [] x = (omega arith, omega arith)
-length-encode (s ∷ []) x = omega (arith, length_high s x)
-length-encode (s ∷ t ∷ ss) x = go (dec_lt x (2 ^ s)) (length-encode (t ∷ ss) (x - 2 ^ s))
+pub length_encode : (ss : List ℕ) (x : ℕ) → (shortest ss ≤ length (encode ss x)) × (length (encode ss x) ≤ longest ss)
+length_encode [] x = (omega arith, omega arith)
+length_encode (s ∷ []) x = omega (arith, length_high s x)
+length_encode (s ∷ t ∷ ss) x = go (dec_lt x (2 ^ s)) (length_encode (t ∷ ss) (x - 2 ^ s))
   where
     go : Dec (x < 2 ^ s) → (shortest (t ∷ ss) ≤ length (encode (t ∷ ss) (x - 2 ^ s))) × (length (encode (t ∷ ss) (x - 2 ^ s)) ≤ longest (t ∷ ss))
         → (shortest (s ∷ t ∷ ss) ≤ length (encode (s ∷ t ∷ ss) x)) × (length (encode (s ∷ t ∷ ss) x) ≤ longest (s ∷ t ∷ ss))

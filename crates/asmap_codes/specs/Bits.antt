@@ -13,9 +13,9 @@ high zero x = []
 high (suc n) x = x / 2 ^ n % 2 ∷ high n x
 
 -- The bits of a map (document 01, Codes): byte after byte, and in each byte from the lowest bit up.
-abbrev pub mapBits : List ℕ → List ℕ
-mapBits [] = []
-mapBits (x ∷ xs) = low 8 x ++ mapBits xs
+abbrev pub map_bits : List ℕ → List ℕ
+map_bits [] = []
+map_bits (x ∷ xs) = low 8 x ++ map_bits xs
 
 -- The number that bits write, the highest first, as the size bits of a code do (document 01, Codes).
 abbrev pub number : List ℕ → ℕ
@@ -28,7 +28,7 @@ word [] = 0
 word (b ∷ bs) = b + 2 * word bs
 
 -- No bit is 1 (document 01, Check: what may follow the final RETURN).
-abbrev pub allZero : List ℕ → Bool
-allZero [] = true
-allZero (zero ∷ bs) = allZero bs
-allZero (suc b ∷ bs) = false
+abbrev pub all_zero : List ℕ → Bool
+all_zero [] = true
+all_zero (zero ∷ bs) = all_zero bs
+all_zero (suc b ∷ bs) = false

@@ -1,8 +1,8 @@
 -- What reading a code gives (document 01, Codes): the value and the bit after it, or Cut where the bits end first.
 -- Assumes nothing.
 use Rattle.std.specs.Prelude.{ℕ, zero, suc, ◌+◌, ◌^◌, Bool, true, false, List, [], ◌∷◌, leb, ltb, length, take, drop}
-use Rattle.asmap_program.specs.Map.{limit, Part, Opcode, Operand, cutReason}
-use Rattle.asmap_codes.specs.Bits.{mapBits, number}
+use Rattle.asmap_program.specs.Map.{limit, Part, Opcode, Operand, cut_reason}
+use Rattle.asmap_codes.specs.Bits.{map_bits, number}
 use Rattle.asmap_codes.specs.Row.{Row}
 use Rattle.asmap_codes.specs.declared.Code.{Code}
 use Rattle.asmap_codes.specs.declared.Code.TheVariants.{Value, Cut}
@@ -29,20 +29,20 @@ code (s ∷ t ∷ ss) v at (suc b ∷ bs) = code (t ∷ ss) (v + 2 ^ s) (at + 1)
 
 -- The code of a row that starts at bit `at` of a map.
 abbrev pub code_at : List ℕ → ℕ → Row → Code
-code_at m at row = code row.sizes row.least at (drop at (mapBits m))
+code_at m at row = code row.sizes row.least at (drop at (map_bits m))
 
 -- A code as it is handed back (document 01, "What a call hands back", Order): refused 1 for a map over the limit, then with the
 -- number of a cut for a code that is no value; p: which part of an instruction the code is.
 abbrev pub answered : Part → Bool → Code → Decoded
 answered p true c = Refused 1
 answered p false (Value v n) = Found v n
-answered p false Cut = Refused (cutReason p)
+answered p false Cut = Refused (cut_reason p)
 
 -- Which part of an instruction the codes over a least value are: the row of the opcodes alone begins at 0.
-abbrev pub partFrom : ℕ → Part
-partFrom zero = Opcode
-partFrom (suc n) = Operand
+abbrev pub part_from : ℕ → Part
+part_from zero = Opcode
+part_from (suc n) = Operand
 
 -- Reading a code of a row, for every map and every bit of it or past it.
 abbrev pub read_code : List ℕ → ℕ → Row → Decoded
-read_code m at row = answered (partFrom row.least) (ltb limit (length m)) (code_at m at row)
+read_code m at row = answered (part_from row.least) (ltb limit (length m)) (code_at m at row)

@@ -4,7 +4,7 @@
 use Rattle.std.specs.Prelude.{ℕ, zero, suc, ◌+◌, ◌*◌, ◌^◌, ◌≤◌, ◌<◌, ◌≡◌, cond, List, [], ◌∷◌, eqb, length, get_or}
 use Rattle.asmap_program.specs.Map.{limit}
 use Rattle.asmap_program.specs.Core.{Read, File, INVALID}
-use Rattle.asmap_codes.specs.Bits.{mapBits}
+use Rattle.asmap_codes.specs.Bits.{map_bits}
 use Rattle.asmap_codes.specs.declared.Code.{Code}
 use Rattle.asmap_codes.specs.declared.Code.TheVariants.{Value, Cut}
 use Rattle.asmap_codes.specs.declared.Decoded.{Decoded}
@@ -20,12 +20,12 @@ module _ (B : List ℕ) where
 
   -- The exponent: a bit for each size but the last, INVALID where the file has none; 1 goes on to the next size, 0 and the
   -- last size to the mantissa.
-  unfoldable pub decodeBits : List ℕ → ℕ → ℕ → Read
-  decodeBits [] v pos = record { value = INVALID; pos = pos }
-  decodeBits (s ∷ []) v pos = mantissa s v pos
-  decodeBits (s ∷ t ∷ ss) v pos =
+  unfoldable pub decode_bits : List ℕ → ℕ → ℕ → Read
+  decode_bits [] v pos = record { value = INVALID; pos = pos }
+  decode_bits (s ∷ []) v pos = mantissa s v pos
+  decode_bits (s ∷ t ∷ ss) v pos =
       cond (eqb pos (length B)) (record { value = INVALID; pos = pos })
-      (cond (eqb (get_or B pos 0) 1) (decodeBits (t ∷ ss) (v + 2 ^ s) (suc pos)) (mantissa s v (suc pos)))
+      (cond (eqb (get_or B pos 0) 1) (decode_bits (t ∷ ss) (v + 2 ^ s) (suc pos)) (mantissa s v (suc pos)))
 
 -- Core's answer for a code of ours: its value and the bit after it, or INVALID for a cut one.
 abbrev pub Agrees : Code → Read → Type 0
@@ -33,14 +33,14 @@ Agrees (Value v n) r = r ≡ record { value = v; pos = n }
 Agrees Cut r = r.value ≡ INVALID
 
 -- A map's bytes as a file: its bits, and the four decoders with Core's own numbers.
-unfoldable pub fileOf : List ℕ → File
-fileOf m = record {
-  endpos = length (mapBits m);
-  bit = λ (p : ℕ). get_or (mapBits m) p 0;
-  decodeType = λ (p : ℕ). decodeBits (mapBits m) (0 ∷ 0 ∷ 1 ∷ []) 0 p;
-  decodeASN = λ (p : ℕ). decodeBits (mapBits m) (15 ∷ 16 ∷ 17 ∷ 18 ∷ 19 ∷ 20 ∷ 21 ∷ 22 ∷ 23 ∷ 24 ∷ []) 1 p;
-  decodeMatch = λ (p : ℕ). decodeBits (mapBits m) (1 ∷ 2 ∷ 3 ∷ 4 ∷ 5 ∷ 6 ∷ 7 ∷ 8 ∷ []) 2 p;
-  decodeJump = λ (p : ℕ). decodeBits (mapBits m) (5 ∷ 6 ∷ 7 ∷ 8 ∷ 9 ∷ 10 ∷ 11 ∷ 12 ∷ 13 ∷ 14 ∷ 15 ∷ 16 ∷ 17 ∷ 18 ∷ 19 ∷ 20 ∷ 21 ∷ 22 ∷ 23 ∷ 24 ∷ 25 ∷ 26 ∷ 27 ∷ 28 ∷ 29 ∷ 30 ∷ []) 17 p;
+unfoldable pub file_of : List ℕ → File
+file_of m = record {
+  endpos = length (map_bits m);
+  bit = λ (p : ℕ). get_or (map_bits m) p 0;
+  decode_type = λ (p : ℕ). decode_bits (map_bits m) (0 ∷ 0 ∷ 1 ∷ []) 0 p;
+  decode_asn = λ (p : ℕ). decode_bits (map_bits m) (15 ∷ 16 ∷ 17 ∷ 18 ∷ 19 ∷ 20 ∷ 21 ∷ 22 ∷ 23 ∷ 24 ∷ []) 1 p;
+  decode_match = λ (p : ℕ). decode_bits (map_bits m) (1 ∷ 2 ∷ 3 ∷ 4 ∷ 5 ∷ 6 ∷ 7 ∷ 8 ∷ []) 2 p;
+  decode_jump = λ (p : ℕ). decode_bits (map_bits m) (5 ∷ 6 ∷ 7 ∷ 8 ∷ 9 ∷ 10 ∷ 11 ∷ 12 ∷ 13 ∷ 14 ∷ 15 ∷ 16 ∷ 17 ∷ 18 ∷ 19 ∷ 20 ∷ 21 ∷ 22 ∷ 23 ∷ 24 ∷ 25 ∷ 26 ∷ 27 ∷ 28 ∷ 29 ∷ 30 ∷ []) 17 p;
 }
 
 -- What a call that reads a code hands back, beside Core's answer: the value, which is never INVALID, and the bit after it; or a

@@ -8,16 +8,16 @@ pub record Row : Type 0 where
   pub sizes : List ℕ
 
 -- Opcodes (the table's first line).
-abbrev pub typeRow : Row
-typeRow = record { least = 0; sizes = 0 ∷ 0 ∷ 1 ∷ [] }
+abbrev pub type_row : Row
+type_row = record { least = 0; sizes = 0 ∷ 0 ∷ 1 ∷ [] }
 
 -- AS numbers (its second line).
-abbrev pub asnRow : Row
-asnRow = record { least = 1; sizes = 15 ∷ 16 ∷ 17 ∷ 18 ∷ 19 ∷ 20 ∷ 21 ∷ 22 ∷ 23 ∷ 24 ∷ [] }
+abbrev pub asn_row : Row
+asn_row = record { least = 1; sizes = 15 ∷ 16 ∷ 17 ∷ 18 ∷ 19 ∷ 20 ∷ 21 ∷ 22 ∷ 23 ∷ 24 ∷ [] }
 
 -- MATCH operands (its third line).
-abbrev pub matchRow : Row
-matchRow = record { least = 2; sizes = 1 ∷ 2 ∷ 3 ∷ 4 ∷ 5 ∷ 6 ∷ 7 ∷ 8 ∷ [] }
+abbrev pub match_row : Row
+match_row = record { least = 2; sizes = 1 ∷ 2 ∷ 3 ∷ 4 ∷ 5 ∷ 6 ∷ 7 ∷ 8 ∷ [] }
 
 -- JUMP operands (its fourth line).
 abbrev pub jump_row : Row
@@ -28,14 +28,14 @@ jump_row = record {
 
 -- The table, line by line.
 abbrev pub rows : List Row
-rows = typeRow ∷ asnRow ∷ matchRow ∷ jump_row ∷ []
+rows = type_row ∷ asn_row ∷ match_row ∷ jump_row ∷ []
 
 -- The row of an opcode's operand (document 01, Codes): an AS number for RETURN 0 and DEFAULT 3, its own for JUMP 1 and MATCH 2.
 abbrev pub operand_row : ℕ → Row
-operand_row zero = asnRow
+operand_row zero = asn_row
 operand_row (suc zero) = jump_row
-operand_row (suc (suc zero)) = matchRow
-operand_row (suc (suc (suc n))) = asnRow
+operand_row (suc (suc zero)) = match_row
+operand_row (suc (suc (suc n))) = asn_row
 
 -- How many values sizes have: 2 ^ size for each.
 abbrev pub span : List ℕ → ℕ

@@ -1,7 +1,7 @@
 // The codes of an asmap program (document 01, Codes): the four rows of sizes, and what reading hands back. The decoder is
 // `asmap_decode`, the writer `asmap_encode`; both stand on the definitions and laws of this crate.
 ghost use Rattle.std.specs.Prelude.{◌≡◌, ◌+◌, ◌-◌, ◌*◌, ◌/◌, ◌^◌, ◌≤◌, ◌<◌, eqb, length, get_or};
-ghost use Rattle.asmap_codes.specs.Row.{typeRow, asnRow, matchRow, jump_row};
+ghost use Rattle.asmap_codes.specs.Row.{type_row, asn_row, match_row, jump_row};
 ghost use Rattle.asmap_codes.specs.models.Grown.{stops};
 ghost use Rattle.asmap_codes.specs.models.Reverse.{rev, swap};
 
@@ -34,7 +34,7 @@ pub struct BitSizes {
 // The four tables, which are the sizes of the defined rows. The decoder and the writer borrow each table where they use it;
 // that it is the right one is said here, beside the tables, so that a wrong size is refused by this crate already.
 pub fn bit_sizes() -> BitSizes
-    ensures { (result.types ≡ typeRow.sizes) × (result.asns ≡ asnRow.sizes) × (result.matches ≡ matchRow.sizes) × (result.jumps ≡ jump_row.sizes) }
+    ensures { (result.types ≡ type_row.sizes) × (result.asns ≡ asn_row.sizes) × (result.matches ≡ match_row.sizes) × (result.jumps ≡ jump_row.sizes) }
 {
     BitSizes {
         types: TYPE_BIT_SIZES,

@@ -2,10 +2,10 @@
 // takes.
 ghost use Rattle.std.specs.Prelude.{true, ◌≤◌, length};
 ghost use Rattle.asmap_records.specs.Output.{Made, Hands};
-ghost use Rattle.prefix_changes.specs.Record.{changeRecordsOf};
-ghost use Rattle.asmap_changes.specs.Changes.{changesOf};
+ghost use Rattle.prefix_changes.specs.Record.{change_records_of};
+ghost use Rattle.asmap_changes.specs.Changes.{changes_of};
 ghost use Rattle.asmap_changes.specs.models.Side.{Ready, RoomFor};
-ghost use Rattle.asmap_compare.specs.Compare.{Told, comparison, comparisonAt, compareOf, compareAt, Finds};
+ghost use Rattle.asmap_compare.specs.Compare.{Told, comparison, comparison_at, compare_of, compare_at, Finds};
 ghost use Rattle.asmap_compare.specs.Promise.{Compares};
 
 use asmap_changes::put_changes;
@@ -16,8 +16,8 @@ use asmap_records::Answer;
 
 // The records of two maps that the check accepts, into an output that has room for them.
 fn write_changes(old: &[u8], new: &[u8], out: &mut [u8]) -> Answer
-    requires { Ready old.now × Ready new.now × RoomFor true (length (changesOf old.now new.now 128)) out.old }
-    ensures { Hands (Made (changeRecordsOf (changesOf old.now new.now 128))) out.old out.new result }
+    requires { Ready old.now × Ready new.now × RoomFor true (length (changes_of old.now new.now 128)) out.old }
+    ensures { Hands (Made (change_records_of (changes_of old.now new.now 128))) out.old out.new result }
 {
     let found = put_changes(old, new, true, out);
     Answer::Wrote(28 * found.pieces)
@@ -26,8 +26,8 @@ fn write_changes(old: &[u8], new: &[u8], out: &mut [u8]) -> Answer
 // The same into any output. One with room for all `pieces` of both maps has room for the changes; else they are counted first, so that an output
 // too short is refused before the first byte is written.
 fn write_if_room(old: &[u8], new: &[u8], pieces: usize, out: &mut [u8]) -> Answer
-    requires { Ready old.now × Ready new.now × (length (changesOf old.now new.now 128) ≤ pieces) }
-    ensures { Hands (Made (changeRecordsOf (changesOf old.now new.now 128))) out.old out.new result }
+    requires { Ready old.now × Ready new.now × (length (changes_of old.now new.now 128) ≤ pieces) }
+    ensures { Hands (Made (change_records_of (changes_of old.now new.now 128))) out.old out.new result }
 {
     if pieces <= out.len() / 28 {
         return write_changes(old, new, out);
@@ -42,7 +42,7 @@ fn write_if_room(old: &[u8], new: &[u8], pieces: usize, out: &mut [u8]) -> Answe
 // Compares two maps that the check accepts over a number of address bits. The calls below fix it.
 fn compare_over(old: &[u8], new: &[u8], bits: u8, out: &mut [u8]) -> Answer
     requires { bits ≤ 128 }
-    ensures { Hands (compareOf old.now new.now bits) out.old out.new result }
+    ensures { Hands (compare_of old.now new.now bits) out.old out.new result }
 {
     let old_counted = asmap_check::sanity_check_pieces(old, bits);
     match old_counted {
@@ -60,7 +60,7 @@ fn compare_over(old: &[u8], new: &[u8], bits: u8, out: &mut [u8]) -> Answer
 // Compares two maps that the check accepts at 128 address bits. Refusals: the old map's check, 1 to 10 and 19; the new map's, 101 to 110 and 119,
 // which is the check's number and 100 more; then 14. A refused call writes nothing.
 pub fn compare(old: &[u8], new: &[u8], out: &mut [u8]) -> Answer
-    ensures hands { Hands (compareOf old.now new.now 128) out.old out.new result }
+    ensures hands { Hands (compare_of old.now new.now 128) out.old out.new result }
     ensures compares { Compares old.now new.now 128 }
 {
     compare_over(old, new, ADDRESS_BITS, out)
@@ -68,7 +68,7 @@ pub fn compare(old: &[u8], new: &[u8], out: &mut [u8]) -> Answer
 
 // The same at a width, which both maps have: 18 for one that is neither 32 nor 128, before the checks.
 pub fn compare_bits(old: &[u8], new: &[u8], width: u32, out: &mut [u8]) -> Answer
-    ensures hands { Hands (compareAt old.now new.now width) out.old out.new result }
+    ensures hands { Hands (compare_at old.now new.now width) out.old out.new result }
     ensures compares { Compares old.now new.now width }
 {
     if asmap_program::is_width(width) {
@@ -80,7 +80,7 @@ pub fn compare_bits(old: &[u8], new: &[u8], width: u32, out: &mut [u8]) -> Answe
 // How many bytes the changes of two maps that the check accepts need, and the first address that differs, into 16 bytes.
 fn find_changes(old: &[u8], new: &[u8], first: &mut [u8]) -> Needed
     requires { Ready old.now × Ready new.now }
-    ensures { Finds (Told (changesOf old.now new.now 128)) first.old first.new result }
+    ensures { Finds (Told (changes_of old.now new.now 128)) first.old first.new result }
 {
     if first.len() < 16 {
         return Needed::Refused(14);
@@ -121,7 +121,7 @@ pub fn compare_bytes(old: &[u8], new: &[u8], first: &mut [u8]) -> Needed
 
 // The same at a width, which both maps have: 18 for one that is neither 32 nor 128, before the checks.
 pub fn compare_bytes_bits(old: &[u8], new: &[u8], width: u32, first: &mut [u8]) -> Needed
-    ensures finds { Finds (comparisonAt old.now new.now width) first.old first.new result }
+    ensures finds { Finds (comparison_at old.now new.now width) first.old first.new result }
     ensures compares { Compares old.now new.now width }
 {
     if asmap_program::is_width(width) {

@@ -1,12 +1,12 @@
 // The calls that read a code or an instruction (document 01, Codes): any map, any bit; 1 for a map over the limit, then 4 or 19 for the code that
 // is cut (document 02, CR 5).
 ghost use Rattle.std.specs.Prelude.{◌≡◌, true};
-ghost use Rattle.asmap_codes.specs.Row.{typeRow, asnRow, matchRow, jump_row, Fit};
+ghost use Rattle.asmap_codes.specs.Row.{type_row, asn_row, match_row, jump_row, Fit};
 ghost use Rattle.asmap_codes.specs.models.Grown.{slow};
-ghost use Rattle.asmap_program.specs.Map.{cutReason};
-ghost use Rattle.asmap_codes.specs.Code.{partFrom, read_code};
-ghost use Rattle.asmap_codes.specs.Instruction.{readInstruction};
-ghost use Rattle.asmap_codes.specs.Core.{fileOf, CoreReads};
+ghost use Rattle.asmap_program.specs.Map.{cut_reason};
+ghost use Rattle.asmap_codes.specs.Code.{part_from, read_code};
+ghost use Rattle.asmap_codes.specs.Instruction.{read_instruction};
+ghost use Rattle.asmap_codes.specs.Core.{file_of, CoreReads};
 
 use asmap_codes::{
     ASN_BIT_SIZES, Code, Decoded, DecodedInstruction, JUMP_BIT_SIZES, MATCH_BIT_SIZES,
@@ -16,7 +16,7 @@ use asmap_program::{CUT_OPCODE, CUT_OPERAND, Instruction, MAX_MAP_BYTES};
 
 // The number for a cut code of the row that begins at `least`. The row of the opcodes alone begins at 0.
 fn cut_reason(least: u32) -> u8
-    ensures { result ≡ cutReason (partFrom least) }
+    ensures { result ≡ cut_reason (part_from least) }
 {
     if least == 0 {
         return CUT_OPCODE;
@@ -46,24 +46,24 @@ fn decode_row(map: &[u8], at: usize, least: u32, sizes: &[u8]) -> Decoded
 
 // Reads an opcode. Refusals 1, then 4; nothing is asked of the caller.
 pub fn decode_type(map: &[u8], at: usize) -> Decoded
-    ensures value { result ≡ read_code map.now at typeRow }
-    ensures core { CoreReads map.now at result ((fileOf map.now).decodeType at) }
+    ensures value { result ≡ read_code map.now at type_row }
+    ensures core { CoreReads map.now at result ((file_of map.now).decode_type at) }
 {
     decode_row(map, at, 0, &TYPE_BIT_SIZES)
 }
 
 // Reads an AS number. Refusals 1, then 19; nothing is asked of the caller.
 pub fn decode_asn(map: &[u8], at: usize) -> Decoded
-    ensures value { result ≡ read_code map.now at asnRow }
-    ensures core { CoreReads map.now at result ((fileOf map.now).decodeASN at) }
+    ensures value { result ≡ read_code map.now at asn_row }
+    ensures core { CoreReads map.now at result ((file_of map.now).decode_asn at) }
 {
     decode_row(map, at, 1, &ASN_BIT_SIZES)
 }
 
 // Reads a MATCH operand. Refusals 1, then 19; nothing is asked of the caller.
 pub fn decode_match(map: &[u8], at: usize) -> Decoded
-    ensures value { result ≡ read_code map.now at matchRow }
-    ensures core { CoreReads map.now at result ((fileOf map.now).decodeMatch at) }
+    ensures value { result ≡ read_code map.now at match_row }
+    ensures core { CoreReads map.now at result ((file_of map.now).decode_match at) }
 {
     decode_row(map, at, 2, &MATCH_BIT_SIZES)
 }
@@ -71,7 +71,7 @@ pub fn decode_match(map: &[u8], at: usize) -> Decoded
 // Reads a JUMP operand. Refusals 1, then 19; nothing is asked of the caller.
 pub fn decode_jump(map: &[u8], at: usize) -> Decoded
     ensures value { result ≡ read_code map.now at jump_row }
-    ensures core { CoreReads map.now at result ((fileOf map.now).decodeJump at) }
+    ensures core { CoreReads map.now at result ((file_of map.now).decode_jump at) }
 {
     decode_row(map, at, 17, &JUMP_BIT_SIZES)
 }
@@ -79,7 +79,7 @@ pub fn decode_jump(map: &[u8], at: usize) -> Decoded
 // Reads an instruction: its opcode, then its operand. Refusals 1, then 4 where the opcode is cut or 19 where the operand is; nothing is asked of
 // the caller.
 pub fn decode_instruction(map: &[u8], at: usize) -> DecodedInstruction
-    ensures { result ≡ readInstruction map.now at }
+    ensures { result ≡ read_instruction map.now at }
 {
     if MAX_MAP_BYTES < map.len() {
         return DecodedInstruction::Refused(1);

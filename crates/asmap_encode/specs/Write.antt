@@ -1,8 +1,8 @@
 -- What writing hands back (document 01, Codes): bits in a word, the first bit lowest, or 15 where a value is out of its row's
 -- range. Assumes nothing.
 use Rattle.std.specs.Prelude.{ℕ, ◌+◌, ◌*◌, ◌^◌, Bool, true, false, ◌&&◌, List, [], ◌∷◌}
-use Rattle.asmap_codes.specs.Encode.{encodeOf, instructionBits}
-use Rattle.asmap_codes.specs.Row.{Row, typeRow, operand_row, in_range}
+use Rattle.asmap_codes.specs.Encode.{encode_of, instruction_bits}
+use Rattle.asmap_codes.specs.Row.{Row, type_row, operand_row, in_range}
 use Rattle.asmap_encode.specs.declared.Word.{Word}
 use Rattle.asmap_encode.specs.declared.Written.{Written}
 use Rattle.asmap_encode.specs.declared.Written.TheVariants.{Bits, Refused}
@@ -21,18 +21,18 @@ abbrev pub none : Word
 none = record { bits = 0; len = 0 }
 
 -- The first where the test holds, else the second.
-abbrev pub pickWritten : Bool → Written → Written → Written
-pickWritten true a b = a
-pickWritten false a b = b
+abbrev pub pick_written : Bool → Written → Written → Written
+pick_written true a b = a
+pick_written false a b = b
 
 -- A code after the bits of a word.
-abbrev pub writeAfter : Word → Row → ℕ → Written
-writeAfter w row v = pickWritten (in_range row v) (Bits (puts w (encodeOf row v))) (Refused 15)
+abbrev pub write_after : Word → Row → ℕ → Written
+write_after w row v = pick_written (in_range row v) (Bits (puts w (encode_of row v))) (Refused 15)
 
 -- Writing a code (document 01, "What a call hands back", Order): 15 for a value out of the row's range, else the code's bits.
-abbrev pub writeCode : Row → ℕ → Written
-writeCode row v = writeAfter none row v
+abbrev pub write_code : Row → ℕ → Written
+write_code row v = write_after none row v
 
 -- Writing an instruction (document 01, "What a call hands back": opcode or operand out of its range is 15).
-unfoldable pub writeInstruction : ℕ → ℕ → Written
-writeInstruction op v = pickWritten (in_range typeRow op && in_range (operand_row op) v) (Bits (puts none (instructionBits op v))) (Refused 15)
+unfoldable pub write_instruction : ℕ → ℕ → Written
+write_instruction op v = pick_written (in_range type_row op && in_range (operand_row op) v) (Bits (puts none (instruction_bits op v))) (Refused 15)

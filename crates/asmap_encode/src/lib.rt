@@ -1,8 +1,8 @@
 // Writing codes and instructions (document 01, Codes): bits in a word, by the parts of their codes.
 ghost use Rattle.std.specs.Prelude.{◌≡◌, ◌^◌, ◌≤◌, ◌<◌};
-ghost use Rattle.asmap_codes.specs.Row.{typeRow, asnRow, matchRow, jump_row};
-ghost use Rattle.asmap_encode.specs.models.Words.{Short, Shortened, after, writtenAs, lengthWritten};
-ghost use Rattle.asmap_encode.specs.Write.{writeCode, writeInstruction};
+ghost use Rattle.asmap_codes.specs.Row.{type_row, asn_row, match_row, jump_row};
+ghost use Rattle.asmap_encode.specs.models.Words.{Short, Shortened, after, written_as, length_written};
+ghost use Rattle.asmap_encode.specs.Write.{write_code, write_instruction};
 
 use asmap_code_parts::{Coded, Parts};
 
@@ -40,7 +40,7 @@ fn encode_bits(before: Word, prefix: usize, parts: Parts) -> Word
 // The bits of what was found of a value, after the bits of a word; 15 where the row does not have it.
 fn write(before: Word, coded: Coded) -> Written
     requires { (before.bits < 2 ^ before.len) × (before.len ≤ 3) × Shortened coded }
-    ensures { result ≡ writtenAs before coded }
+    ensures { result ≡ written_as before coded }
 {
     match coded {
         Coded::In(prefix, parts) => Written::Bits(encode_bits(before, prefix, parts)),
@@ -52,7 +52,7 @@ fn write(before: Word, coded: Coded) -> Written
 
 // Writes an opcode. Refusal 15; nothing is asked of the caller.
 pub fn encode_type(value: u32) -> Written
-    ensures { result ≡ writeCode typeRow value }
+    ensures { result ≡ write_code type_row value }
 {
     write(
         Word { bits: 0, len: 0 },
@@ -62,14 +62,14 @@ pub fn encode_type(value: u32) -> Written
 
 // Writes an AS number. Refusal 15; nothing is asked of the caller.
 pub fn encode_asn(value: u32) -> Written
-    ensures { result ≡ writeCode asnRow value }
+    ensures { result ≡ write_code asn_row value }
 {
     write(Word { bits: 0, len: 0 }, asmap_code_parts::asn_parts(value))
 }
 
 // Writes a MATCH operand. Refusal 15; nothing is asked of the caller.
 pub fn encode_match(value: u32) -> Written
-    ensures { result ≡ writeCode matchRow value }
+    ensures { result ≡ write_code match_row value }
 {
     write(
         Word { bits: 0, len: 0 },
@@ -79,7 +79,7 @@ pub fn encode_match(value: u32) -> Written
 
 // Writes a JUMP operand. Refusal 15; nothing is asked of the caller.
 pub fn encode_jump(value: u32) -> Written
-    ensures { result ≡ writeCode jump_row value }
+    ensures { result ≡ write_code jump_row value }
 {
     write(
         Word { bits: 0, len: 0 },
@@ -90,7 +90,7 @@ pub fn encode_jump(value: u32) -> Written
 // Writes an instruction: its opcode's code, then its operand's. Refusal 15 for either; nothing is asked of the caller. The
 // bits are at most 57.
 pub fn encode_instruction(opcode: u32, operand: u32) -> Written
-    ensures { result ≡ writeInstruction opcode operand }
+    ensures { result ≡ write_instruction opcode operand }
 {
     let first = encode_type(opcode);
     let Written::Bits(code) = first else {
@@ -101,7 +101,7 @@ pub fn encode_instruction(opcode: u32, operand: u32) -> Written
 
 // How many bits are written for an instruction; 0 for one that is refused. Nothing is asked of the caller.
 pub fn instruction_length(opcode: u32, operand: u32) -> usize
-    ensures { result ≡ lengthWritten (writeInstruction opcode operand) }
+    ensures { result ≡ length_written (write_instruction opcode operand) }
 {
     let first = asmap_code_parts::type_parts(opcode);
     let Coded::In(prefix, parts) = first else {

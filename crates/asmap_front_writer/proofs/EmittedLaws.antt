@@ -5,31 +5,31 @@ use mathlib.Core.Bool.{Bool, true, false, ◌&&◌, true≢false}
 use mathlib.Core.List.{List}
 use lib.ListN.{length}
 use Rattle.asmap_codes.specs.Bits.{low}
-use Rattle.asmap_codes.specs.Row.{typeRow, operand_row, in_range}
-use Rattle.asmap_encode.specs.Write.{writeInstruction}
+use Rattle.asmap_codes.specs.Row.{type_row, operand_row, in_range}
+use Rattle.asmap_encode.specs.Write.{write_instruction}
 use Rattle.asmap_encode.specs.declared.Word.{Word}
-use Rattle.asmap_encode.specs.models.Words.{lengthWritten}
+use Rattle.asmap_encode.specs.models.Words.{length_written}
 use Rattle.asmap_encode.specs.declared.Written.{Written}
 use Rattle.asmap_encode.specs.declared.Written.TheVariants.{Bits, Refused}
-use Rattle.asmap_bit_writer.proofs.WrittenLaws.{Holding, Measured, written-some, written-never}
+use Rattle.asmap_bit_writer.proofs.WrittenLaws.{Holding, Measured, written_some, written_never}
 use Rattle.asmap_front_writer.specs.declared.Front.{Front}
 use Rattle.asmap_front_writer.specs.models.Front.{Room, Moved, Ready, Emitted}
 
 -- the length of an instruction in range
-pub measured : (op v n : ℕ) → (in_range typeRow op && in_range (operand_row op) v) ≡ true → n ≡ lengthWritten (writeInstruction op v) → Measured op v n
-measured op v n h e = go (writeInstruction op v) refl e
+pub measured : (op v n : ℕ) → (in_range type_row op && in_range (operand_row op) v) ≡ true → n ≡ length_written (write_instruction op v) → Measured op v n
+measured op v n h e = go (write_instruction op v) refl e
   where
-    go : (x : Written) → writeInstruction op v ≡ x → n ≡ lengthWritten x → Measured op v n
+    go : (x : Written) → write_instruction op v ≡ x → n ≡ length_written x → Measured op v n
     go (Bits u) q l =
-        let k = written-some op v u q in
+        let k = written_some op v u q in
         record { ranged = h; len = l ∙ k.len; short = subst (λ (i : ℕ). i ≤ 57) (sym l) k.short }
-    go (Refused m) q l = absurd (written-never op v m h q)
+    go (Refused m) q l = absurd (written_never op v m h q)
 
 module _ (o : List ℕ) (w : Front) (op v : ℕ) (writes : Bool) where
   -- an instruction that is only counted
-  pub emitted-counted : (n : ℕ) → Measured op v n → writes ≡ false
+  pub emitted_counted : (n : ℕ) → Measured op v n → writes ≡ false
       → Emitted o w op v writes o record { done = w.done + n; bits = w.bits; held = w.held; place = w.place }
-  emitted-counted n m f = record {
+  emitted_counted n m f = record {
     done = ap (λ (i : ℕ). w.done + i) m.len;
     kept = refl;
     idle = λ _. refl;
@@ -42,9 +42,9 @@ module _ (o : List ℕ) (w : Front) (op v : ℕ) (writes : Bool) where
     room_word r = subst (Room o w) (sym h.len) (r.room t)
 
     -- an instruction that is written
-    pub emitted-written : (o' : List ℕ) (w' : Front) → w'.done ≡ w.done + u.len → length o' ≡ length o → Moved o w (low u.len u.bits) o' w'
+    pub emitted_written : (o' : List ℕ) (w' : Front) → w'.done ≡ w.done + u.len → length o' ≡ length o → Moved o w (low u.len u.bits) o' w'
         → Emitted o w op v writes o' w'
-    emitted-written o' w' d k m = record {
+    emitted_written o' w' d k m = record {
       done = d ∙ ap (λ (i : ℕ). w.done + i) h.len;
       kept = k;
       idle = λ f. absurd (true≢false (sym t ∙ f));

@@ -13,7 +13,7 @@ use Rattle.asmap_codes.proofs.BitLaws.{length-low}
 use Rattle.asmap_encode.specs.declared.Word.{Word}
 use Rattle.asmap_encode.proofs.WordLaws.{shifted}
 use Rattle.asmap_bit_writer.specs.Bytes.{bytes_of}
-use Rattle.asmap_bit_writer.proofs.ByteLaws.{bytes-eight, bytes-last, length-bytesOf, low-append}
+use Rattle.asmap_bit_writer.proofs.ByteLaws.{bytes-eight, bytes_last, length-bytes_of, low-append}
 use Rattle.asmap_front_writer.specs.declared.Front.{Front}
 use Rattle.asmap_front_writer.specs.models.Front.{filled, Room, Moved}
 
@@ -40,26 +40,26 @@ sets_last o k [] y = let e : k + 0 ≡ k = omega arith in rw e
 sets_last o k (x ∷ xs) y = let e : k + suc (length xs) ≡ suc k + length xs = omega arith in rw e (sets_last (set o k x) (suc k) xs y)
 
 -- a store behind those that come later
-store-late : (xs o : List ℕ) (i k y : ℕ) → i + length xs ≤ k → set (sets o i xs) k y ≡ sets (set o k y) i xs
-store-late [] o i k y h = refl
-store-late (x ∷ xs) o i k y h =
-    store-late xs (set o i x) (suc i) k y (omega arith)
+store_late : (xs o : List ℕ) (i k y : ℕ) → i + length xs ≤ k → set (sets o i xs) k y ≡ sets (set o k y) i xs
+store_late [] o i k y h = refl
+store_late (x ∷ xs) o i k y h =
+    store_late xs (set o i x) (suc i) k y (omega arith)
     ∙ ap (λ (l : List ℕ). sets l (suc i) xs) (set_comm o i k x y (λ e. omega arith))
 
 -- a byte goes out: it is the last of what was to come
-byte-out : (o before eight : List ℕ) (n : ℕ) → length before ≡ 8 * n → length eight ≡ 8
+byte_out : (o before eight : List ℕ) (n : ℕ) → length before ≡ 8 * n → length eight ≡ 8
     → sets o 0 (bytes_of (before ++ eight)) ≡ sets (set o n (word eight)) 0 (bytes_of before)
-byte-out o before eight n h l =
-    let m : length (bytes_of before) ≡ n = length-bytesOf before ∙ omega (arith, h) in
+byte_out o before eight n h l =
+    let m : length (bytes_of before) ≡ n = length-bytes_of before ∙ omega (arith, h) in
     let z : 0 + length (bytes_of before) ≡ n = omega (arith, m) in
-    ap (sets o 0) (bytes-before n before eight h ∙ ap (λ (x : List ℕ). bytes_of before ++ x) (bytes-last eight (omega (arith, l)) (omega (arith, l))))
+    ap (sets o 0) (bytes-before n before eight h ∙ ap (λ (x : List ℕ). bytes_of before ++ x) (bytes_last eight (omega (arith, l)) (omega (arith, l))))
     ∙ sets_last o 0 (bytes_of before) (word eight)
     ∙ ap (λ (k : ℕ). set (sets o 0 (bytes_of before)) k (word eight)) z
-    ∙ store-late (bytes_of before) o 0 n (word eight) (omega (arith, m))
+    ∙ store_late (bytes_of before) o 0 n (word eight) (omega (arith, m))
 
 -- a word of k bits put before n bits of a window
-window-front : (before : List ℕ) (k n u a : ℕ) → u < 2 ^ k → (before ++ low k u) ++ low n a ≡ before ++ low (k + n) (u + a * 2 ^ k)
-window-front before k n u a h = append_assoc before (low k u) (low n a) ∙ ap (λ (x : List ℕ). before ++ x) (sym (low-append k n u a h))
+window_front : (before : List ℕ) (k n u a : ℕ) → u < 2 ^ k → (before ++ low k u) ++ low n a ≡ before ++ low (k + n) (u + a * 2 ^ k)
+window_front before k n u a h = append_assoc before (low k u) (low n a) ∙ ap (λ (x : List ℕ). before ++ x) (sym (low-append k n u a h))
 
 -- the bits of a number, as those of its rest and above them those of its quotient
 low_parts : (n k x : ℕ) → low (n + k) x ≡ low n (x % 2 ^ n) ++ low k (x / 2 ^ n)
@@ -68,29 +68,29 @@ low_parts n k x =
     ap (low (n + k)) e ∙ low-append n k (x % 2 ^ n) (x / 2 ^ n) (mod-lt x (pow.pow_pos n))
 
 -- bits above the lowest n do not matter to those
-low-rest : (n x : ℕ) → low n x ≡ low n (x % 2 ^ n)
-low-rest n x =
+low_rest : (n x : ℕ) → low n x ≡ low n (x % 2 ^ n)
+low_rest n x =
     let e : n ≡ n + 0 = omega arith in
     ap (λ (k : ℕ). low k x) e ∙ low_parts n 0 x ∙ append-nil (low n (x % 2 ^ n))
 
 -- the lowest n bits of a number and the k above them
 low-split : (n k x : ℕ) → low (n + k) x ≡ low n x ++ low k (x / 2 ^ n)
-low-split n k x = low_parts n k x ∙ ap (λ (l : List ℕ). l ++ low k (x / 2 ^ n)) (sym (low-rest n x))
+low-split n k x = low_parts n k x ∙ ap (λ (l : List ℕ). l ++ low k (x / 2 ^ n)) (sym (low_rest n x))
 
 -- eight bits as a byte
 word-eight : (x : ℕ) → word (low 8 x) ≡ x % 256
 word-eight x = omega arith
 
 -- the highest byte of a window of h + 8 bits goes out before the byte n that did
-window-out : (o before : List ℕ) (h a n : ℕ) → length before + h ≡ 8 * n
+window_out : (o before : List ℕ) (h a n : ℕ) → length before + h ≡ 8 * n
     → sets o 0 (bytes_of (before ++ low (h + 8) a)) ≡ sets (set o n (a / 2 ^ h % 256)) 0 (bytes_of (before ++ low h a))
-window-out o before h a n e =
+window_out o before h a n e =
     let x = a / 2 ^ h in
     let b = before ++ low h a in
     let l : length b ≡ 8 * n = omega (arith, length-append before (low h a), length-low h a) in
     ap (λ (y : List ℕ). sets o 0 (bytes_of (before ++ y))) (low-split h 8 a)
     ∙ ap (λ (y : List ℕ). sets o 0 (bytes_of y)) (sym (append_assoc before (low h a) (low 8 x)))
-    ∙ byte-out o b (low 8 x) n l (length-low 8 x)
+    ∙ byte_out o b (low 8 x) n l (length-low 8 x)
     ∙ ap (λ (y : ℕ). sets (set o n y) 0 (bytes_of b)) (word-eight x)
 
 -- the number above h bits
@@ -117,7 +117,7 @@ going_start o w u r s l = record {
   inside = r.inside;
   kept = refl;
   placed = omega arith;
-  fills = λ before e. ap (λ (y : List ℕ). sets o 0 (bytes_of y)) (window-front before u.len w.held u.bits w.bits s);
+  fills = λ before e. ap (λ (y : List ℕ). sets o 0 (bytes_of y)) (window_front before u.len w.held u.bits w.bits s);
 }
 
 module _ (o : List ℕ) (w : Front) (u : Word) (a : ℕ) (o' : List ℕ) (h p : ℕ) (g : Going o w u a o' h p) where
@@ -135,15 +135,15 @@ module _ (o : List ℕ) (w : Front) (u : Word) (a : ℕ) (o' : List ℕ) (h p : 
         fills = λ before q.
             g.fills before (omega (arith, q, g.free))
             ∙ ap (λ (i : ℕ). sets o' 0 (bytes_of (before ++ low i a))) e
-            ∙ window-out o' before (h - 8) a (p - 1) q;
+            ∙ window_out o' before (h - 8) a (p - 1) q;
       }
 
   -- no whole byte is left
-  pub going-stop : h < 8 → (d : ℕ) → Moved o w (low u.len u.bits) o' record { done = d; bits = a % 2 ^ h; held = h; place = p }
+  pub going_stop : h < 8 → (d : ℕ) → Moved o w (low u.len u.bits) o' record { done = d; bits = a % 2 ^ h; held = h; place = p }
   unfolding filled
-  going-stop l d = record {
+  going_stop l d = record {
     small = mod-lt a (pow.pow_pos h);
     short = l;
     placed = omega (arith, g.placed, length-low u.len u.bits);
-    fills = λ before q. g.fills before q ∙ ap (λ (y : List ℕ). sets o' 0 (bytes_of (before ++ y))) (low-rest h a);
+    fills = λ before q. g.fills before q ∙ ap (λ (y : List ℕ). sets o' 0 (bytes_of (before ++ y))) (low_rest h a);
   }

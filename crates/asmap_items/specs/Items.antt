@@ -3,8 +3,8 @@
 use Rattle.std.specs.Prelude.{ℕ, ◌+◌, ◌-◌, ◌*◌, cond, List, ltb, length, get_or}
 use Rattle.asmap_program.specs.Map.{limit}
 use Rattle.asmap_program.specs.Map as part
-use Rattle.asmap_codes.specs.Bits.{mapBits}
-use Rattle.asmap_codes.specs.Row.{typeRow, asnRow, matchRow, jump_row}
+use Rattle.asmap_codes.specs.Bits.{map_bits}
+use Rattle.asmap_codes.specs.Row.{type_row, asn_row, match_row, jump_row}
 use Rattle.asmap_codes.specs.Code.{pick, answered, read_code}
 use Rattle.asmap_codes.specs.declared.Code.{Code}
 use Rattle.asmap_codes.specs.declared.Code.TheVariants.{Value, Cut}
@@ -15,25 +15,25 @@ use Rattle.asmap_items.specs.declared.Item.TheVariants.{Bit, Opcode, Asn, Match,
 
 -- The bit at a place, and the place after it; no value at or past the map's end (document 01, Codes).
 abbrev pub bit_at : List ℕ → ℕ → Code
-bit_at m at = pick (ltb at (8 * length m)) (Value (get_or (mapBits m) at 0) (at + 1)) Cut
+bit_at m at = pick (ltb at (8 * length m)) (Value (get_or (map_bits m) at 0) (at + 1)) Cut
 
 -- Reading one bit, with the refusals of reading an opcode: 1 for a map over the limit, then 4.
-abbrev pub readBit : List ℕ → ℕ → Decoded
-readBit m at = answered part.Opcode (ltb limit (length m)) (bit_at m at)
+abbrev pub read_bit : List ℕ → ℕ → Decoded
+read_bit m at = answered part.Opcode (ltb limit (length m)) (bit_at m at)
 
 -- Reading what a reader is asked for: a bit, or a code of the row.
-abbrev pub readItem : List ℕ → ℕ → Item → Decoded
-readItem m at Bit = readBit m at
-readItem m at Opcode = read_code m at typeRow
-readItem m at Asn = read_code m at asnRow
-readItem m at Match = read_code m at matchRow
-readItem m at Jump = read_code m at jump_row
+abbrev pub read_item : List ℕ → ℕ → Item → Decoded
+read_item m at Bit = read_bit m at
+read_item m at Opcode = read_code m at type_row
+read_item m at Asn = read_code m at asn_row
+read_item m at Match = read_code m at match_row
+read_item m at Jump = read_code m at jump_row
 
 -- Where a reader stands after a read: behind what was read; where it was, when the read was refused.
-abbrev pub placeAfter : ℕ → Decoded → ℕ
-placeAfter at (Found v n) = n
-placeAfter at (Refused r) = at
+abbrev pub place_after : ℕ → Decoded → ℕ
+place_after at (Found v n) = n
+place_after at (Refused r) = at
 
 -- How many bits can be read from a place on: none of a map over the limit, of which every read is refused.
-abbrev pub bitsLeft : List ℕ → ℕ → ℕ
-bitsLeft m at = cond (ltb limit (length m)) 0 (8 * length m - at)
+abbrev pub bits_left : List ℕ → ℕ → ℕ
+bits_left m at = cond (ltb limit (length m)) 0 (8 * length m - at)

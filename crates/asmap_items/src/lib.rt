@@ -1,7 +1,7 @@
 // What a bit reader reads (document 01, Forms and Codes), on a plain slice and a number: one bit, or a code of one of the four rows; the place after
 // it, and how many bits are left there.
 ghost use Rattle.std.specs.Prelude.{◌≡◌};
-ghost use Rattle.asmap_items.specs.Items.{readBit, readItem, placeAfter, bitsLeft};
+ghost use Rattle.asmap_items.specs.Items.{read_bit, read_item, place_after, bits_left};
 
 use asmap_codes::Decoded;
 use asmap_program::{CUT_OPCODE, MAX_MAP_BYTES};
@@ -18,7 +18,7 @@ pub enum Item {
 
 // Reads one bit (`consume_bit_le`). Refusals 1, and 4 at or past the map's end, as for an opcode; nothing is asked of the caller.
 pub fn decode_bit(map: &[u8], at: usize) -> Decoded
-    ensures { result ≡ readBit map.now at }
+    ensures { result ≡ read_bit map.now at }
 {
     let bytes = map.len();
     if MAX_MAP_BYTES < bytes {
@@ -34,7 +34,7 @@ pub fn decode_bit(map: &[u8], at: usize) -> Decoded
 
 // Reads what is asked for. Refusals 1, then 4 for a bit or an opcode, 19 for the other three; nothing is asked of the caller.
 pub fn decode_item(map: &[u8], at: usize, item: Item) -> Decoded
-    ensures { result ≡ readItem map.now at item }
+    ensures { result ≡ read_item map.now at item }
 {
     match item {
         Item::Bit => decode_bit(map, at),
@@ -47,7 +47,7 @@ pub fn decode_item(map: &[u8], at: usize, item: Item) -> Decoded
 
 // The place after a read: the bit after what was read, or where the reader stood when it was refused.
 pub fn place_after(at: usize, got: Decoded) -> usize
-    ensures { result ≡ placeAfter at got }
+    ensures { result ≡ place_after at got }
 {
     match got {
         Decoded::Found(_, next) => next,
@@ -57,7 +57,7 @@ pub fn place_after(at: usize, got: Decoded) -> usize
 
 // How many bits a reader at a place can still read: none of a map over the limit.
 pub fn bits_left(map: &[u8], at: usize) -> usize
-    ensures { result ≡ bitsLeft map.now at }
+    ensures { result ≡ bits_left map.now at }
 {
     if MAX_MAP_BYTES < map.len() {
         return 0;

@@ -3,11 +3,11 @@
 ghost use Rattle.std.specs.Prelude.{◌≡◌, ◌*◌, ◌≤◌, length};
 ghost use Rattle.std.proofs.lemmas.List.Edits.{sets};
 ghost use Rattle.asmap_program.specs.Map.{limit};
-ghost use Rattle.asmap_codes.specs.Instruction.{mapOf};
+ghost use Rattle.asmap_codes.specs.Instruction.{map_of};
 ghost use Rattle.asmap_records.specs.Output.{Hands};
-ghost use Rattle.prefix_records.specs.Record.{recordsOf};
+ghost use Rattle.prefix_records.specs.Record.{records_of};
 ghost use Rattle.asmap_listing.specs.Listing.{listing};
-ghost use Rattle.asmap_list.specs.List.{list_of, listAt, neededOf, needed_at};
+ghost use Rattle.asmap_list.specs.List.{list_of, list_at, needed_of, needed_at};
 ghost use Rattle.asmap_list.specs.Promise.{Covers};
 ghost use Rattle.asmap_list.specs.models.Listed.{Listed};
 
@@ -28,7 +28,7 @@ pub enum Needed {
 // one before it ends.
 fn put_listing(map: &[u8], count: usize, out: &mut [u8])
     requires { (length map.now ≤ limit) × (24 * count ≤ length out.old) × Listed map.now count }
-    ensures { out.new ≡ sets out.old 0 (recordsOf (listing (mapOf map.now))) }
+    ensures { out.new ≡ sets out.old 0 (records_of (listing (map_of map.now))) }
 {
     let mut bits = asmap_list_step::stack_bits();
     let mut numbers = asmap_list_step::stack_numbers();
@@ -87,7 +87,7 @@ pub fn list(map: &[u8], out: &mut [u8]) -> Answer
 // The same at a width: 18 for one that is neither 32 nor 128, before the check. At 32 a record has its address in the first 4 of the 16 bytes,
 // with zeros behind, and a prefix length of at most 32.
 pub fn list_bits(map: &[u8], width: u32, out: &mut [u8]) -> Answer
-    ensures hands { Hands (listAt map.now width) out.old out.new result }
+    ensures hands { Hands (list_at map.now width) out.old out.new result }
     ensures covers { Covers map.now width }
 {
     if asmap_program::is_width(width) {
@@ -99,7 +99,7 @@ pub fn list_bits(map: &[u8], width: u32, out: &mut [u8]) -> Answer
 // How many bytes the listing of a map needs, over a number of address bits.
 fn bytes_over(map: &[u8], bits: u8) -> Needed
     requires { bits ≤ 128 }
-    ensures { result ≡ neededOf map.now bits }
+    ensures { result ≡ needed_of map.now bits }
 {
     let counted = asmap_check::sanity_check_pieces(map, bits);
     match counted {
@@ -110,7 +110,7 @@ fn bytes_over(map: &[u8], bits: u8) -> Needed
 
 // How many bytes the listing of a map needs, for whoever has to lend them. Refused as the check does, 1 to 10 or 19.
 pub fn list_bytes(map: &[u8]) -> Needed
-    ensures { result ≡ neededOf map.now 128 }
+    ensures { result ≡ needed_of map.now 128 }
 {
     bytes_over(map, ADDRESS_BITS)
 }

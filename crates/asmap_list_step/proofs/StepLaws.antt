@@ -11,16 +11,16 @@ use borrow.Author.Tests.{lt-ltb, le-ltb, lt-leb, le-leb}
 use Rattle.asmap_program.specs.declared.Instruction.{Instruction}
 use Rattle.asmap_program.specs.Map.{RETURN, JUMP, MATCH, DEFAULT, Fetched, bit_of, length_of}
 use Rattle.asmap_program.proofs.Length.{length-below}
-use Rattle.asmap_codes.specs.Row.{typeRow, operand_row, span}
+use Rattle.asmap_codes.specs.Row.{type_row, operand_row, span}
 use Rattle.asmap_codes.specs.Code.{code_at}
 use Rattle.asmap_codes.specs.declared.Code.TheVariants.{Value, Cut}
-use Rattle.asmap_codes.specs.Instruction.{mapOf}
-use Rattle.asmap_codes.proofs.Inside.{value-at, long-operand}
-use Rattle.asmap_codes.proofs.MapLaws.{laws, fetch-cut, fetch-operand}
-use Rattle.asmap_listing.specs.models.Scan.{Leaf, leaf, Entry, Side, Half, Scan, popped, taken, given, bitwise, enough, scanWhole, scanOn, scanStart, scanned, Rising}
-use Rattle.asmap_listing.proofs.ScanLaws.{scanned-step, stack-bound}
+use Rattle.asmap_codes.specs.Instruction.{map_of}
+use Rattle.asmap_codes.proofs.Inside.{value_at, long_operand}
+use Rattle.asmap_codes.proofs.MapLaws.{laws, fetch-cut, fetch_operand}
+use Rattle.asmap_listing.specs.models.Scan.{Leaf, leaf, Entry, Side, Half, Scan, popped, taken, given, bitwise, enough, scan_whole, scan_on, scan_start, scanned, Rising}
+use Rattle.asmap_listing.proofs.ScanLaws.{scanned-step, stack_bound}
 use Rattle.asmap_list_step.specs.declared.Spot.{Spot}
-use Rattle.asmap_list_step.specs.models.Step.{entryIf, entry_of, stack_of, ahead, rest, one, weight, Sane, Onward, Reads}
+use Rattle.asmap_list_step.specs.models.Step.{entry_if, entry_of, stack_of, ahead, rest, one, weight, Sane, Onward, Reads}
 
 -- ---- the stack in its arrays
 
@@ -43,35 +43,35 @@ stack_top : (bs ns : List ℕ) (d t : ℕ) → d ≡ suc t → stack_of bs ns d 
 unfolding stack_of
 stack_top bs ns d t e = ap (stack_of bs ns) e
 
-half-entry : (b n : ℕ) → b < 128 → entry_of b n ≡ Half b n
-unfolding entryIf
-half-entry b n h = rw (lt-ltb b 128 h)
+half_entry : (b n : ℕ) → b < 128 → entry_of b n ≡ Half b n
+unfolding entry_if
+half_entry b n h = rw (lt-ltb b 128 h)
 
-side-entry : (b n : ℕ) → 128 ≤ b → entry_of b n ≡ Side (b - 128) n
-unfolding entryIf
-side-entry b n h = rw (le-ltb b 128 h)
+side_entry : (b n : ℕ) → 128 ≤ b → entry_of b n ≡ Side (b - 128) n
+unfolding entry_if
+side_entry b n h = rw (le-ltb b 128 h)
 
 lower : (u v : ℕ) (st : List Entry) → u ≤ v → Rising u st → Rising v st
 lower u v [] h r = tt
 lower u v (e ∷ st) h r = (omega (arith, r.0), r.1)
 
 module _ (map : List ℕ) (s : Spot) (bs ns : List ℕ) (sane : Sane map s bs ns) where
-  pub depth-bound : s.depth ≤ s.used
-  depth-bound = omega (arith, stack-bound s.used (stack_of bs ns s.depth) sane.rising, stack-length bs ns s.depth)
+  pub depth_bound : s.depth ≤ s.used
+  depth_bound = omega (arith, stack_bound s.used (stack_of bs ns s.depth) sane.rising, stack-length bs ns s.depth)
 
   abbrev here : Scan
   here = record { used = s.used; default = s.default; stack = stack_of bs ns s.depth }
 
   abbrev on : Scan → List Leaf
-  on = scanned (mapOf map) 128 s.at
+  on = scanned (map_of map) 128 s.at
 
   rest_up : s.up ≡ true → rest map s bs ns ≡ popped on (stack_of bs ns s.depth)
   unfolding ahead
-  rest_up e = ap (λ (b : Bool). ahead (mapOf map) b s.at s.left s.value here) e
+  rest_up e = ap (λ (b : Bool). ahead (map_of map) b s.at s.left s.value here) e
 
-  rest-on : s.up ≡ false → (l : ℕ) → s.left ≡ l → rest map s bs ns ≡ bitwise on l s.value here
+  rest_on : s.up ≡ false → (l : ℕ) → s.left ≡ l → rest map s bs ns ≡ bitwise on l s.value here
   unfolding ahead
-  rest-on e l q = ap (λ (b : Bool). ahead (mapOf map) b s.at s.left s.value here) e ∙ ap (λ (n : ℕ). bitwise on n s.value here) q
+  rest_on e l q = ap (λ (b : Bool). ahead (map_of map) b s.at s.left s.value here) e ∙ ap (λ (n : ℕ). bitwise on n s.value here) q
 
   -- ---- the stack's turn
 
@@ -79,12 +79,12 @@ module _ (map : List ℕ) (s : Spot) (bs ns : List ℕ) (sane : Sane map s bs ns
   unfolding popped stack_of
   up_ends e d = rest_up e ∙ ap (λ (n : ℕ). popped on (stack_of bs ns n)) d
 
-  pub up-goes : (t b n u : ℕ) → s.up ≡ true → s.depth ≡ suc t → get_or bs t 0 ≡ b → get_or ns t 0 ≡ n → b < 128 → u ≡ suc b
+  pub up_goes : (t b n u : ℕ) → s.up ≡ true → s.depth ≡ suc t → get_or bs t 0 ≡ b → get_or ns t 0 ≡ n → b < 128 → u ≡ suc b
       → Onward map s (record { at = s.at; used = u; default = n; value = 0; left = 0; depth = t; up = false }) bs ns
       (rest map s bs ns) (rest map (record { at = s.at; used = u; default = n; value = 0; left = 0; depth = t; up = false }) bs ns)
   unfolding popped ahead bitwise one
-  up-goes t b n u e d p q h v =
-      let x : stack_of bs ns s.depth ≡ Half b n ∷ stack_of bs ns t = stack_top bs ns s.depth t d ∙ rw (p, q, half-entry b n h) in
+  up_goes t b n u e d p q h v =
+      let x : stack_of bs ns s.depth ≡ Half b n ∷ stack_of bs ns t = stack_top bs ns s.depth t d ∙ rw (p, q, half_entry b n h) in
       let r : Rising s.used (Half b n ∷ stack_of bs ns t) = subst (Rising s.used) x sane.rising in
       rw v
       record {
@@ -98,7 +98,7 @@ module _ (map : List ℕ) (s : Spot) (bs ns : List ℕ) (sane : Sane map s bs ns
       (rest map s bs ns) (leaf (b - 127) n ∷ rest map (record { at = s.at; used = b - 127; default = n; value = 0; left = 0; depth = t; up = true }) bs ns)
   unfolding popped ahead one
   up-gives t b n e d p q h =
-      let x : stack_of bs ns s.depth ≡ Side (b - 128) n ∷ stack_of bs ns t = stack_top bs ns s.depth t d ∙ rw (p, q, side-entry b n h) in
+      let x : stack_of bs ns s.depth ≡ Side (b - 128) n ∷ stack_of bs ns t = stack_top bs ns s.depth t d ∙ rw (p, q, side_entry b n h) in
       let r : Rising s.used (Side (b - 128) n ∷ stack_of bs ns t) = subst (Rising s.used) x sane.rising in
       let k : suc (b - 128) ≡ b - 127 = omega arith in
       let y : one s.up ≡ 1 = ap one e in
@@ -117,59 +117,59 @@ module _ (map : List ℕ) (s : Spot) (bs ns : List ℕ) (sane : Sane map s bs ns
   bit-gives l u e q b v =
       rw v
       record {
-        same = rest-on e (suc l) q ∙ ap (λ (x : ℕ). given (eqb x 1) here (bitwise on l s.value (taken (eqb x 1) here))) b;
+        same = rest_on e (suc l) q ∙ ap (λ (x : ℕ). given (eqb x 1) here (bitwise on l s.value (taken (eqb x 1) here))) b;
         sane = record { inside = sane.inside; bits = omega (arith, q, sane.bits); short = omega (arith, q, sane.short); rising = lower s.used (suc s.used) (stack_of bs ns s.depth) (omega arith) sane.rising; rooms = sane.rooms };
         less = omega (arith, q);
       }
 
   -- an entry more
-  rooms-after : (b : ℕ) → (128 ≡ length (set bs s.depth b)) × (128 ≡ length (set ns s.depth s.default))
-  rooms-after b = (sane.rooms.0 ∙ sym (length-set bs s.depth b), sane.rooms.1 ∙ sym (length-set ns s.depth s.default))
+  rooms_after : (b : ℕ) → (128 ≡ length (set bs s.depth b)) × (128 ≡ length (set ns s.depth s.default))
+  rooms_after b = (sane.rooms.0 ∙ sym (length-set bs s.depth b), sane.rooms.1 ∙ sym (length-set ns s.depth s.default))
 
   pushed : (b : ℕ) → s.depth < 128 → stack_of (set bs s.depth b) (set ns s.depth s.default) (suc s.depth) ≡ entry_of b s.default ∷ stack_of bs ns s.depth
   pushed b g = stack_push bs ns s.depth b s.default (omega (arith, sane.rooms.0)) (omega (arith, sane.rooms.1))
 
-  pub bit-goes : (l u k b : ℕ) → s.up ≡ false → s.left ≡ suc l → bit_of s.value l ≡ 0 → s.depth < 128 → u ≡ suc s.used → k ≡ suc s.depth → b ≡ s.used + 128
+  pub bit_goes : (l u k b : ℕ) → s.up ≡ false → s.left ≡ suc l → bit_of s.value l ≡ 0 → s.depth < 128 → u ≡ suc s.used → k ≡ suc s.depth → b ≡ s.used + 128
       → Onward map s (record { at = s.at; used = u; default = s.default; value = s.value; left = l; depth = k; up = false }) (set bs s.depth b) (set ns s.depth s.default)
       (rest map s bs ns) (rest map (record { at = s.at; used = u; default = s.default; value = s.value; left = l; depth = k; up = false }) (set bs s.depth b) (set ns s.depth s.default))
   unfolding bitwise given taken ahead one
-  bit-goes l u k b e q z g v y a =
+  bit_goes l u k b e q z g v y a =
       let j : b - 128 ≡ s.used = omega arith in
       let x : stack_of (set bs s.depth b) (set ns s.depth s.default) (suc s.depth) ≡ Side s.used s.default ∷ stack_of bs ns s.depth =
-      pushed b g ∙ rw (side-entry b s.default (omega arith), j) in
+      pushed b g ∙ rw (side_entry b s.default (omega arith), j) in
       rw (v, y)
       record {
-        same = rest-on e (suc l) q ∙ ap (λ (y : ℕ). given (eqb y 1) here (bitwise on l s.value (taken (eqb y 1) here))) z
+        same = rest_on e (suc l) q ∙ ap (λ (y : ℕ). given (eqb y 1) here (bitwise on l s.value (taken (eqb y 1) here))) z
             ∙ ap (λ (st : List Entry). bitwise on l s.value (record { used = suc s.used; default = s.default; stack = st })) (sym x);
-        sane = record { inside = sane.inside; bits = omega (arith, q, sane.bits); short = omega (arith, q, sane.short); rising = subst (Rising (suc s.used)) (sym x) (omega arith, sane.rising); rooms = rooms-after b };
+        sane = record { inside = sane.inside; bits = omega (arith, q, sane.bits); short = omega (arith, q, sane.short); rising = subst (Rising (suc s.used)) (sym x) (omega arith, sane.rising); rooms = rooms_after b };
         less = omega (arith, q);
       }
 
 -- ---- an instruction
 
 module _ (map : List ℕ) (s : Spot) (bs ns : List ℕ) (sane : Sane map s bs ns) (up : s.up ≡ false) (left : s.left ≡ 0) where
-  rest_at : rest map s bs ns ≡ scanned (mapOf map) 128 s.at (here map s bs ns sane)
+  rest_at : rest map s bs ns ≡ scanned (map_of map) 128 s.at (here map s bs ns sane)
   unfolding bitwise
-  rest_at = rest-on map s bs ns sane up 0 left
+  rest_at = rest_on map s bs ns sane up 0 left
 
   -- by what can be read there
-  rest-by : (f : Fetched) → (mapOf map).fetch s.at ≡ f → rest map s bs ns ≡ scanOn 128 (scanned (mapOf map) 128) (here map s bs ns sane) f
-  rest-by f e =
-      rest_at ∙ scanned-step (mapOf map) (laws map) 128 s.at (here map s bs ns sane)
-      ∙ ap (λ (r : Fetched). scanOn 128 (scanned (mapOf map) 128) (here map s bs ns sane) r) e
+  rest_by : (f : Fetched) → (map_of map).fetch s.at ≡ f → rest map s bs ns ≡ scan_on 128 (scanned (map_of map) 128) (here map s bs ns sane) f
+  rest_by f e =
+      rest_at ∙ scanned-step (map_of map) (laws map) 128 s.at (here map s bs ns sane)
+      ∙ ap (λ (r : Fetched). scan_on 128 (scanned (map_of map) 128) (here map s bs ns sane) r) e
 
   -- where an opcode is cut nothing is given
-  pub opcode-cut : code_at map s.at typeRow ≡ Cut → rest map s bs ns ≡ []
-  opcode-cut e = rest-by _ (fetch-cut map s.at e)
+  pub opcode_cut : code_at map s.at type_row ≡ Cut → rest map s bs ns ≡ []
+  opcode_cut e = rest_by _ (fetch-cut map s.at e)
 
 -- an operand starts inside the map, or at its end
-pub from-near : (map : List ℕ) (s : Spot) (op from : ℕ) → Reads map s op from → length map ≤ 16777216 → from < 2 ^ 34
-from-near map s op from reads h = omega (arith, (value-at map s.at typeRow op from (lit< tt) reads.2).inside)
+pub from_near : (map : List ℕ) (s : Spot) (op from : ℕ) → Reads map s op from → length map ≤ 16777216 → from < 2 ^ 34
+from_near map s op from reads h = omega (arith, (value_at map s.at type_row op from (lit< tt) reads.2).inside)
 
 module _ (map : List ℕ) (s : Spot) (bs ns : List ℕ) (sane : Sane map s bs ns) (op from : ℕ) (reads : Reads map s op from) where
   -- nor where an operand is
-  pub operand-cut : code_at map from (operand_row op) ≡ Cut → rest map s bs ns ≡ []
-  operand-cut e = rest-by map s bs ns sane reads.0 reads.1 _ (fetch-operand map s.at op from reads.2 Cut e)
+  pub operand_cut : code_at map from (operand_row op) ≡ Cut → rest map s bs ns ≡ []
+  operand_cut e = rest_by map s bs ns sane reads.0 reads.1 _ (fetch_operand map s.at op from reads.2 Cut e)
 
   -- an operand v, which ends before n
   module _ (v n : ℕ) (q : code_at map from (operand_row op) ≡ Value v n) where
@@ -182,19 +182,19 @@ module _ (map : List ℕ) (s : Spot) (bs ns : List ℕ) (sane : Sane map s bs ns
 
     pub stood : Stood
     stood =
-        let o = value-at map s.at typeRow op from (lit< tt) reads.2 in
-        let x = value-at map from (operand_row op) v n (long-operand op) q in
+        let o = value_at map s.at type_row op from (lit< tt) reads.2 in
+        let x = value_at map from (operand_row op) v n (long_operand op) q in
         record { start = omega (arith, o.past, x.past); inside = x.inside; known = o.below; above = x.above; below = x.below }
 
     abbrev i : Instruction
     i = record { opcode = op; operand = v; place = s.at; size = n - s.at }
 
-    on-at : (c : ℕ) → op ≡ c → rest map s bs ns ≡ scanWhole 128 (scanned (mapOf map) 128 n) (here map s bs ns sane) i c
-    on-at c e =
+    on_at : (c : ℕ) → op ≡ c → rest map s bs ns ≡ scan_whole 128 (scanned (map_of map) 128 n) (here map s bs ns sane) i c
+    on_at c e =
         let p : s.at + (n - s.at) ≡ n = omega (arith, stood.start) in
-        rest-by map s bs ns sane reads.0 reads.1 _ (fetch-operand map s.at op from reads.2 (Value v n) q)
-        ∙ ap (λ (x : ℕ). scanWhole 128 (scanned (mapOf map) 128 x) (here map s bs ns sane) i op) p
-        ∙ ap (λ (x : ℕ). scanWhole 128 (scanned (mapOf map) 128 n) (here map s bs ns sane) i x) e
+        rest_by map s bs ns sane reads.0 reads.1 _ (fetch_operand map s.at op from reads.2 (Value v n) q)
+        ∙ ap (λ (x : ℕ). scan_whole 128 (scanned (map_of map) 128 x) (here map s bs ns sane) i op) p
+        ∙ ap (λ (x : ℕ). scan_whole 128 (scanned (map_of map) 128 n) (here map s bs ns sane) i x) e
 
     pub at_return : op ≡ RETURN
         → Onward map s (record { at = n; used = s.used; default = s.default; value = 0; left = 0; depth = s.depth; up = true }) bs ns
@@ -202,7 +202,7 @@ module _ (map : List ℕ) (s : Spot) (bs ns : List ℕ) (sane : Sane map s bs ns
     unfolding ahead one
     at_return e =
         record {
-          same = on-at RETURN e;
+          same = on_at RETURN e;
           sane = record { inside = stood.inside; bits = omega (arith, sane.bits); short = omega arith; rising = sane.rising; rooms = sane.rooms };
           less = omega (arith, stood.start, stood.inside);
         }
@@ -212,42 +212,42 @@ module _ (map : List ℕ) (s : Spot) (bs ns : List ℕ) (sane : Sane map s bs ns
         (rest map s bs ns) (rest map (record { at = n; used = u; default = s.default; value = 0; left = 0; depth = k; up = false }) (set bs s.depth s.used) (set ns s.depth s.default))
     unfolding ahead one enough bitwise
     at-jump u k e g x y =
-        let l : s.depth < 128 = omega (arith, depth-bound map s bs ns sane) in
+        let l : s.depth < 128 = omega (arith, depth_bound map s bs ns sane) in
         let st : stack_of (set bs s.depth s.used) (set ns s.depth s.default) (suc s.depth) ≡ Half s.used s.default ∷ stack_of bs ns s.depth =
-        pushed map s bs ns sane s.used l ∙ rw (half-entry s.used s.default g) in
-        let next : List Entry → List Leaf = λ st. scanned (mapOf map) 128 n (record { used = suc s.used; default = s.default; stack = st }) in
+        pushed map s bs ns sane s.used l ∙ rw (half_entry s.used s.default g) in
+        let next : List Entry → List Leaf = λ st. scanned (map_of map) 128 n (record { used = suc s.used; default = s.default; stack = st }) in
         rw (x, y)
         record {
-          same = on-at JUMP e ∙ ap (λ (b : Bool). enough b (next (Half s.used s.default ∷ stack_of bs ns s.depth))) (lt-ltb s.used 128 g) ∙ ap next (sym st);
-          sane = record { inside = stood.inside; bits = omega arith; short = omega arith; rising = subst (Rising (suc s.used)) (sym st) (omega arith, sane.rising); rooms = rooms-after map s bs ns sane s.used };
+          same = on_at JUMP e ∙ ap (λ (b : Bool). enough b (next (Half s.used s.default ∷ stack_of bs ns s.depth))) (lt-ltb s.used 128 g) ∙ ap next (sym st);
+          sane = record { inside = stood.inside; bits = omega arith; short = omega arith; rising = subst (Rising (suc s.used)) (sym st) (omega arith, sane.rising); rooms = rooms_after map s bs ns sane s.used };
           less = omega (arith, stood.start, stood.inside);
         }
 
-    pub at-jump-full : op ≡ JUMP → s.used ≡ 128 → rest map s bs ns ≡ []
+    pub at-jump_full : op ≡ JUMP → s.used ≡ 128 → rest map s bs ns ≡ []
     unfolding enough
-    at-jump-full e g =
-        on-at JUMP e
-        ∙ ap (λ (b : Bool). enough b (scanned (mapOf map) 128 n (record { used = suc s.used; default = s.default; stack = Half s.used s.default ∷ stack_of bs ns s.depth }))) (le-ltb s.used 128 (omega arith))
+    at-jump_full e g =
+        on_at JUMP e
+        ∙ ap (λ (b : Bool). enough b (scanned (map_of map) 128 n (record { used = suc s.used; default = s.default; stack = Half s.used s.default ∷ stack_of bs ns s.depth }))) (le-ltb s.used 128 (omega arith))
 
-    pub at-match : (l : ℕ) → op ≡ MATCH → l ≡ length_of v → s.used + l ≤ 128 → v < 2 ^ 32
+    pub at_match : (l : ℕ) → op ≡ MATCH → l ≡ length_of v → s.used + l ≤ 128 → v < 2 ^ 32
         → Onward map s (record { at = n; used = s.used; default = s.default; value = v; left = l; depth = s.depth; up = false }) bs ns
         (rest map s bs ns) (rest map (record { at = n; used = s.used; default = s.default; value = v; left = l; depth = s.depth; up = false }) bs ns)
     unfolding ahead one enough
-    at-match l e k g b =
+    at_match l e k g b =
         let j : s.used + length_of v ≤ 128 = omega (arith, k, g) in
         let y = length-below v 31 b in
         rw k
         record {
-          same = on-at MATCH e ∙ ap (λ (b : Bool). enough b (bitwise (scanned (mapOf map) 128 n) (length_of v) v (here map s bs ns sane))) (le-leb (s.used + length_of v) 128 j);
+          same = on_at MATCH e ∙ ap (λ (b : Bool). enough b (bitwise (scanned (map_of map) 128 n) (length_of v) v (here map s bs ns sane))) (le-leb (s.used + length_of v) 128 j);
           sane = record { inside = stood.inside; bits = j; short = y; rising = sane.rising; rooms = sane.rooms };
           less = omega (arith, stood.start, stood.inside, j);
         }
 
-    pub at-match-full : op ≡ MATCH → 128 < s.used + length_of v → rest map s bs ns ≡ []
+    pub at-match_full : op ≡ MATCH → 128 < s.used + length_of v → rest map s bs ns ≡ []
     unfolding enough
-    at-match-full e g =
-        on-at MATCH e
-        ∙ ap (λ (b : Bool). enough b (bitwise (scanned (mapOf map) 128 n) (length_of v) v (here map s bs ns sane))) (lt-leb (s.used + length_of v) 128 g)
+    at-match_full e g =
+        on_at MATCH e
+        ∙ ap (λ (b : Bool). enough b (bitwise (scanned (map_of map) 128 n) (length_of v) v (here map s bs ns sane))) (lt-leb (s.used + length_of v) 128 g)
 
     pub at_default : op ≡ DEFAULT
         → Onward map s (record { at = n; used = s.used; default = v; value = 0; left = 0; depth = s.depth; up = false }) bs ns
@@ -255,24 +255,24 @@ module _ (map : List ℕ) (s : Spot) (bs ns : List ℕ) (sane : Sane map s bs ns
     unfolding ahead one bitwise
     at_default e =
         record {
-          same = on-at DEFAULT e;
+          same = on_at DEFAULT e;
           sane = record { inside = stood.inside; bits = omega (arith, sane.bits); short = omega arith; rising = sane.rising; rooms = sane.rooms };
           less = omega (arith, stood.start, stood.inside);
         }
 
 -- ---- the start
 
-abbrev pub startSpot : Spot
-startSpot = record { at = 0; used = 0; default = 0; value = 0; left = 0; depth = 0; up = false }
+abbrev pub start_spot : Spot
+start_spot = record { at = 0; used = 0; default = 0; value = 0; left = 0; depth = 0; up = false }
 
-pub start-sane : (map bs ns : List ℕ) → 128 ≡ length bs → 128 ≡ length ns → Sane map startSpot bs ns
+pub start_sane : (map bs ns : List ℕ) → 128 ≡ length bs → 128 ≡ length ns → Sane map start_spot bs ns
 unfolding stack_of
-start-sane map bs ns b n = record { inside = omega arith; bits = omega arith; short = omega arith; rising = tt; rooms = (b, n) }
+start_sane map bs ns b n = record { inside = omega arith; bits = omega arith; short = omega arith; rising = tt; rooms = (b, n) }
 
 -- all of the pass is still to come
-pub start-rest : (map bs ns : List ℕ) → rest map startSpot bs ns ≡ scanned (mapOf map) 128 0 scanStart
+pub start_rest : (map bs ns : List ℕ) → rest map start_spot bs ns ≡ scanned (map_of map) 128 0 scan_start
 unfolding ahead bitwise stack_of
-start-rest map bs ns = refl
+start_rest map bs ns = refl
 
 -- ---- steps up to a piece
 
@@ -290,13 +290,13 @@ module _ {map : List ℕ} {s₀ : Spot} {bs₀ ns₀ : List ℕ} {s : Spot} {bs 
   pub going_on : {s' : Spot} {bs' ns' : List ℕ} → Onward map s s' bs' ns' (rest map s bs ns) (rest map s' bs' ns') → Going map s₀ bs₀ ns₀ s' bs' ns'
   going_on o = record { same = g.same ∙ o.same; sane = o.sane; less = omega (arith, o.less, g.less); rooms = g.rooms }
 
-  pub going-gives : {l n : ℕ} {s' : Spot} {bs' ns' : List ℕ} → Onward map s s' bs' ns' (rest map s bs ns) (leaf l n ∷ rest map s' bs' ns')
+  pub going_gives : {l n : ℕ} {s' : Spot} {bs' ns' : List ℕ} → Onward map s s' bs' ns' (rest map s bs ns) (leaf l n ∷ rest map s' bs' ns')
       → Onward map s₀ s' bs' ns' (rest map s₀ bs₀ ns₀) (leaf l n ∷ rest map s' bs' ns')
-  going-gives o = record { same = g.same ∙ o.same; sane = o.sane; less = omega (arith, o.less, g.less) }
+  going_gives o = record { same = g.same ∙ o.same; sane = o.sane; less = omega (arith, o.less, g.less) }
 
-  pub going-ends : rest map s bs ns ≡ [] → rest map s₀ bs₀ ns₀ ≡ []
-  going-ends e = g.same ∙ e
+  pub going_ends : rest map s bs ns ≡ [] → rest map s₀ bs₀ ns₀ ≡ []
+  going_ends e = g.same ∙ e
 
   -- the arrays stay as long as they were
-  pub going-rooms : {s' : Spot} {bs' ns' : List ℕ} → Sane map s' bs' ns' → (length bs' ≡ length bs₀) × (length ns' ≡ length ns₀)
-  going-rooms h = (sym h.rooms.0 ∙ g.rooms.0, sym h.rooms.1 ∙ g.rooms.1)
+  pub going_rooms : {s' : Spot} {bs' ns' : List ℕ} → Sane map s' bs' ns' → (length bs' ≡ length bs₀) × (length ns' ≡ length ns₀)
+  going_rooms h = (sym h.rooms.0 ∙ g.rooms.0, sym h.rooms.1 ∙ g.rooms.1)

@@ -9,7 +9,7 @@
 // bit of its own, so that 128 places suffice. It lies in two lent arrays and not in the state: a state by value that holds them would be copied.
 ghost use Rattle.std.specs.Prelude.{◌≡◌, true, false, List, ℕ, ◌≤◌, ◌<◌, length};
 ghost use Rattle.asmap_program.specs.Map.{limit, RETURN, JUMP, MATCH, DEFAULT};
-ghost use Rattle.asmap_codes.specs.Row.{asnRow, jump_row, matchRow};
+ghost use Rattle.asmap_codes.specs.Row.{asn_row, jump_row, match_row};
 ghost use Rattle.asmap_row_decoder.specs.models.InWindow.{Holds};
 ghost use Rattle.asmap_list_step.specs.models.Step.{Sane, Stepped, Passed, Reads};
 
@@ -153,7 +153,7 @@ fn step_bit(map: &[u8], s: Spot, bits: &mut [u8], numbers: &mut [u32]) -> Turn
 
 // RETURN gives its number for all that begins with the bits used.
 fn step_return(map: &[u8], s: Spot, w: u64, from: usize) -> Turn
-    requires { (length map.now ≤ limit) × Reads map.now s RETURN from × Holds asnRow map.now from w }
+    requires { (length map.now ≤ limit) × Reads map.now s RETURN from × Holds asn_row map.now from w }
     ensures { (bs ns : List ℕ) → Sane map.now s bs ns → Stepped map.now s bs ns bs ns result }
 {
     let got = asmap_row_decoder::asn_in(w, from, 8 * map.len());
@@ -204,7 +204,7 @@ fn step_jump(map: &[u8], s: Spot, w: u64, from: usize, bits: &mut [u8], numbers:
 
 // MATCH: its bits are taken by the steps that follow.
 fn step_match(map: &[u8], s: Spot, w: u64, from: usize) -> Turn
-    requires { (length map.now ≤ limit) × Reads map.now s MATCH from × Holds matchRow map.now from w × (s.used ≤ 128) }
+    requires { (length map.now ≤ limit) × Reads map.now s MATCH from × Holds match_row map.now from w × (s.used ≤ 128) }
     ensures { (bs ns : List ℕ) → Sane map.now s bs ns → Stepped map.now s bs ns bs ns result }
 {
     let got = asmap_row_decoder::match_in(w, from, 8 * map.len());
@@ -228,7 +228,7 @@ fn step_match(map: &[u8], s: Spot, w: u64, from: usize) -> Turn
 
 // DEFAULT: its number is the default from here on, until another.
 fn step_default(map: &[u8], s: Spot, w: u64, from: usize) -> Turn
-    requires { (length map.now ≤ limit) × Reads map.now s DEFAULT from × Holds asnRow map.now from w }
+    requires { (length map.now ≤ limit) × Reads map.now s DEFAULT from × Holds asn_row map.now from w }
     ensures { (bs ns : List ℕ) → Sane map.now s bs ns → Stepped map.now s bs ns bs ns result }
 {
     let got = asmap_row_decoder::asn_in(w, from, 8 * map.len());

@@ -16,7 +16,7 @@ use Rattle.asmap_program.specs.Tree.{Tree, return, jump, match, default}
 use Rattle.asmap_program.proofs.Tree.{program, forward}
 use Rattle.prefix_records.specs.Tiling.{Piece}
 use Rattle.asmap_listing.specs.Listing.{piece, aside, sides, list_from, listing}
-use Rattle.asmap_program.specs.models.Pieces.{piecesAt, countPieces}
+use Rattle.asmap_program.specs.models.Pieces.{pieces_at, count_pieces}
 use Rattle.asmap_listing.proofs.ListingLaws.{spot, list_at}
 
 aside-length : (b : Bool) (p : Piece) (ps : List Piece) → length (aside b p ps) ≡ suc (length ps)
@@ -30,21 +30,21 @@ sides-length d c rest h zero v path u = omega (arith, h path)
 sides-length d c rest h (suc n) v path u =
     omega (arith, aside-length (eqb (bit_of v n) 1) (piece (2 * path + (1 - bit_of v n)) (suc u) d) (sides d rest n v (2 * path + bit_of v n) (suc u)), sides-length d c rest h n v (2 * path + bit_of v n) (suc u))
 
-count-append : (is js : List Instruction) → countPieces (is ++ js) ≡ countPieces is + countPieces js
-unfolding countPieces
+count-append : (is js : List Instruction) → count_pieces (is ++ js) ≡ count_pieces is + count_pieces js
+unfolding count_pieces
 count-append [] js = omega arith
 count-append (i ∷ is) js = omega (arith, count-append is js)
 
-count_at : (c : ℕ) (i : Instruction) (is : List Instruction) → i.opcode ≡ c → countPieces (i ∷ is) ≡ piecesAt i c + countPieces is
-unfolding countPieces
-count_at c i is e = ap (λ (x : ℕ). piecesAt i x + countPieces is) e
+count_at : (c : ℕ) (i : Instruction) (is : List Instruction) → i.opcode ≡ c → count_pieces (i ∷ is) ≡ pieces_at i c + count_pieces is
+unfolding count_pieces
+count_at c i is e = ap (λ (x : ℕ). pieces_at i x + count_pieces is) e
 
 module _ (m : Map) where
   abbrev Counts : ℕ → ℕ → ℕ → ℕ → ℕ → List Instruction → Type 0
-  Counts n at u path d is = length (list_from m n (spot at u path d)) ≡ countPieces is
+  Counts n at u path d is = length (list_from m n (spot at u path d)) ≡ count_pieces is
 
   counts-return : (n at u path d : ℕ) (i : Instruction) → m.fetch at ≡ Whole i → i.opcode ≡ RETURN → Counts (suc n) at u path d (i ∷ [])
-  unfolding countPieces
+  unfolding count_pieces
   counts-return n at u path d i f e = rw (list_at m n RETURN (spot at u path d) i f e) (sym (count_at RETURN i [] e))
 
   counts-jump : (n at u path d : ℕ) (i : Instruction) (is js : List Instruction) → m.fetch at ≡ Whole i → i.opcode ≡ JUMP
@@ -58,7 +58,7 @@ module _ (m : Map) where
       → ((q : ℕ) → Counts n (end_of i) (u + length_of i.operand) q d is) → Counts (suc n) at u path d (i ∷ is)
   counts-match n at u path d i is f e h =
       rw (list_at m n MATCH (spot at u path d) i f e)
-      (sides-length d (countPieces is) (λ (x : ℕ). list_from m n (spot (end_of i) (u + length_of i.operand) x d)) h (length_of i.operand) i.operand path u
+      (sides-length d (count_pieces is) (λ (x : ℕ). list_from m n (spot (end_of i) (u + length_of i.operand) x d)) h (length_of i.operand) i.operand path u
       ∙ sym (count_at MATCH i is e))
 
   counts-default : (n at u path d : ℕ) (i : Instruction) (is : List Instruction) → m.fetch at ≡ Whole i → i.opcode ≡ DEFAULT
@@ -67,25 +67,25 @@ module _ (m : Map) where
       rw (list_at m n DEFAULT (spot at u path d) i f e) (omega (arith, h, count_at DEFAULT i is e))
 
   module _ (law : Laws m) where
-    pub tree-counts : {b : Previous} {at left end : ℕ} {is : List Instruction} → Tree m b at left end is
+    pub tree_counts : {b : Previous} {at left end : ℕ} {is : List Instruction} → Tree m b at left end is
         → (f u path d : ℕ) → end ≤ at + f → Counts f at u path d is
-    tree-counts t zero u path d h = let a = forward m law t in absurd (omega arith)
-    tree-counts (return {at} {i} f e q) (suc n) u path d h = counts-return n at u path d i f e
-    tree-counts (jump {at} {i} {is} {js} f e q t t') (suc n) u path d h =
+    tree_counts t zero u path d h = let a = forward m law t in absurd (omega arith)
+    tree_counts (return {at} {i} f e q) (suc n) u path d h = counts-return n at u path d i f e
+    tree_counts (jump {at} {i} {is} {js} f e q t t') (suc n) u path d h =
         let s = law.stands _ _ f in
         let z = forward m law t' in
         counts-jump n at u path d i is js f e
-        (tree-counts t n (suc u) (2 * path) d (omega arith)) (tree-counts t' n (suc u) (2 * path + 1) d (omega arith))
-    tree-counts (match {at} {i} {is} f e q p t) (suc n) u path d h =
+        (tree_counts t n (suc u) (2 * path) d (omega arith)) (tree_counts t' n (suc u) (2 * path + 1) d (omega arith))
+    tree_counts (match {at} {i} {is} f e q p t) (suc n) u path d h =
         let s = law.stands _ _ f in
-        counts-match n at u path d i is f e λ x. tree-counts t n (u + length_of i.operand) x d (omega arith)
-    tree-counts (default {at} {i} {is} f e q t) (suc n) u path d h =
+        counts-match n at u path d i is f e λ x. tree_counts t n (u + length_of i.operand) x d (omega arith)
+    tree_counts (default {at} {i} {is} f e q t) (suc n) u path d h =
         let s = law.stands _ _ f in
-        counts-default n at u path d i is f e (tree-counts t n u path i.operand (omega arith))
+        counts-default n at u path d i is f e (tree_counts t n u path i.operand (omega arith))
 
-    pub listing-counted : {c d : ℕ} (w : ℕ) → check m w ≡ Accepted c d → length (listing m) ≡ countPieces (unpacked m w)
+    pub listing_counted : {c d : ℕ} (w : ℕ) → check m w ≡ Accepted c d → length (listing m) ≡ count_pieces (unpacked m w)
     unfolding listing
-    listing-counted w ok =
+    listing_counted w ok =
         let p = program m law w ok in
         let z = forward m law p.tree in
-        tree-counts p.tree m.bits 0 0 0 (omega arith)
+        tree_counts p.tree m.bits 0 0 0 (omega arith)

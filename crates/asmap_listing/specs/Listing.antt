@@ -19,8 +19,8 @@ pub record Lister : Type 0 where
   pub default : ℕ
 
 -- The start: map bit 0, no address bit used, default 0.
-abbrev pub listStart : Lister
-listStart = record { at = 0; used = 0; path = 0; default = 0 }
+abbrev pub list_start : Lister
+list_start = record { at = 0; used = 0; path = 0; default = 0 }
 
 -- A side that differs, and what follows on the other side: a MATCH bit of 1 has it before what follows, a bit of 0 after it.
 unfoldable pub aside : Bool → Piece → List Piece → List Piece
@@ -36,29 +36,29 @@ sides d rest (suc n) v path u =
 
 -- At an instruction read whole, by its opcode, k being the list from a state on. RETURN gives one piece. JUMP gives its end's list and then
 -- its target's, both with the default that held at it. DEFAULT sets the default.
-abbrev pub listWhole : (Lister → List Piece) → Lister → Instruction → ℕ → List Piece
-listWhole k s i zero = piece s.path s.used i.operand ∷ []
-listWhole k s i (suc zero) =
+abbrev pub list_whole : (Lister → List Piece) → Lister → Instruction → ℕ → List Piece
+list_whole k s i zero = piece s.path s.used i.operand ∷ []
+list_whole k s i (suc zero) =
     k (record { at = end_of i; used = suc s.used; path = 2 * s.path; default = s.default })
     ++ k (record { at = target_of i; used = suc s.used; path = 2 * s.path + 1; default = s.default })
-listWhole k s i (suc (suc zero)) =
+list_whole k s i (suc (suc zero)) =
     sides s.default
     (λ (path : ℕ). k (record { at = end_of i; used = s.used + length_of i.operand; path = path; default = s.default }))
     (length_of i.operand) i.operand s.path s.used
-listWhole k s i (suc (suc (suc n))) = k (record { at = end_of i; used = s.used; path = s.path; default = i.operand })
+list_whole k s i (suc (suc (suc n))) = k (record { at = end_of i; used = s.used; path = s.path; default = i.operand })
 
 -- By what can be read here; a cut code gives nothing (an accepted map has none).
-abbrev pub listOn : (Lister → List Piece) → Lister → Fetched → List Piece
-listOn k s (Whole i) = listWhole k s i i.opcode
-listOn k s CutOpcode = []
-listOn k s (CutOperand op) = []
+abbrev pub list_on : (Lister → List Piece) → Lister → Fetched → List Piece
+list_on k s (Whole i) = list_whole k s i i.opcode
+list_on k s CutOpcode = []
+list_on k s (CutOperand op) = []
 
 module _ (m : Map) where
   -- The list from a state on. Each instruction goes forward by a bit of the map at least, so with f for each bit none is wanting.
   unfoldable pub list_from : ℕ → Lister → List Piece
   list_from zero s = []
-  list_from (suc f) s = listOn (λ (s' : Lister). list_from f s') s (m.fetch s.at)
+  list_from (suc f) s = list_on (λ (s' : Lister). list_from f s') s (m.fetch s.at)
 
   -- The listing of a map.
   unfoldable pub listing : List Piece
-  listing = list_from m.bits listStart
+  listing = list_from m.bits list_start

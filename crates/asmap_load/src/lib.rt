@@ -7,7 +7,7 @@ ghost use Rattle.std.specs.Prelude.{◌≡◌, ◌*◌, ◌≤◌, length};
 ghost use Rattle.std.proofs.lemmas.List.Edits.{sets};
 ghost use Rattle.asmap_bit_writer.specs.Bytes.{bytes_of};
 ghost use Rattle.asmap_records.specs.Output.{Hands};
-ghost use Rattle.asmap_load.specs.Load.{numberBy, matchBy, loadBits, load_of};
+ghost use Rattle.asmap_load.specs.Load.{number_by, match_by, load_bits, load_of};
 ghost use Rattle.asmap_load.specs.Promise.{WritesLoad};
 
 use asmap_bit_writer::BitWriter;
@@ -20,14 +20,14 @@ pub const MAX_PAIRS: usize = 128;
 
 // The number of a DEFAULT or of the RETURN, by its draw.
 fn number_by(drawn: Generator) -> u32
-    ensures { result ≡ numberBy drawn.state }
+    ensures { result ≡ number_by drawn.state }
 {
     1 + (drawn.state % 65536) as u32
 }
 
 // The operand of a MATCH, by its draw.
 fn match_by(drawn: Generator) -> u32
-    ensures { result ≡ matchBy drawn.state }
+    ensures { result ≡ match_by drawn.state }
 {
     2 + (drawn.state % 2) as u32
 }
@@ -35,7 +35,7 @@ fn match_by(drawn: Generator) -> u32
 // How many bits a load has.
 fn load_length(generator: Generator, pairs: usize) -> usize
     requires { pairs ≤ 128 }
-    ensures { result ≡ length (loadBits pairs generator.state) }
+    ensures { result ≡ length (load_bits pairs generator.state) }
 {
     let mut drawn = generator;
     let mut bits: usize = 0;
@@ -54,8 +54,8 @@ fn load_length(generator: Generator, pairs: usize) -> usize
 
 // The load's bits as bytes, the last padded with zeros. The output is long enough.
 fn write_load(generator: Generator, pairs: usize, out: &mut [u8])
-    requires { length (loadBits pairs generator.state) ≤ 8 * length out.old }
-    ensures { out.new ≡ sets out.old 0 (bytes_of (loadBits pairs generator.state)) }
+    requires { length (load_bits pairs generator.state) ≤ 8 * length out.old }
+    ensures { out.new ≡ sets out.old 0 (bytes_of (load_bits pairs generator.state)) }
 {
     let mut writer = BitWriter {
         bits: 0,

@@ -3,8 +3,8 @@ ghost use Rattle.std.specs.Prelude.{◌≡◌, List, ℕ, ◌+◌, ◌*◌, ◌/
 ghost use Rattle.std.proofs.lemmas.List.Edits.{sets};
 ghost use Rattle.asmap_bit_writer.specs.Bytes.{bytes_of};
 ghost use Rattle.asmap_records.specs.Output.{Made, Hands};
-ghost use Rattle.asmap_records.specs.Pack.{recordBits, recordsBits, packOf};
-ghost use Rattle.asmap_pack.specs.models.Size.{sizeFrom, bitsIn};
+ghost use Rattle.asmap_records.specs.Pack.{record_bits, records_bits, pack_of};
+ghost use Rattle.asmap_pack.specs.models.Size.{size_from, bits_in};
 
 use asmap_bit_writer::BitWriter;
 use asmap_program::MAX_MAP_BYTES;
@@ -21,7 +21,7 @@ pub enum Size {
 // zeros are there where the record's first four bytes are the opcode's number.
 fn record_end(records: &[u8], from: usize, at: usize) -> Size
     requires { (from + 16 ≤ length records.now) × (at ≤ 134217728) }
-    ensures { result ≡ sizeFrom at (recordBits (drop from records.now) at) }
+    ensures { result ≡ size_from at (record_bits (drop from records.now) at) }
 {
     let opcode = records[from] as u32;
     let operand = byte_numbers::number_at(records, from + 4);
@@ -48,7 +48,7 @@ fn record_end(records: &[u8], from: usize, at: usize) -> Size
 // All records, from bit 0 on: where the last one ends, or the number of the first wrong one.
 fn records_end(records: &[u8]) -> Size
     requires { length records.now % 16 ≡ 0 }
-    ensures { result ≡ sizeFrom 0 (recordsBits (length records.now / 16) records.now 0) }
+    ensures { result ≡ size_from 0 (records_bits (length records.now / 16) records.now 0) }
 {
     let mut at: usize = 0;
     let mut from: usize = 0;
@@ -69,8 +69,8 @@ fn records_end(records: &[u8]) -> Size
 // The records' bits as bytes, the last padded with zeros. The records were found right and the output long enough.
 fn write_records(records: &[u8], out: &mut [u8])
     requires { (length records.now % 16 ≡ 0)
-        × ((bs : List ℕ) × (recordsBits (length records.now / 16) records.now 0 ≡ Made bs) × (length bs ≤ 8 * length out.old)) }
-    ensures { out.new ≡ sets out.old 0 (bytes_of (bitsIn (recordsBits (length records.now / 16) records.now 0))) }
+        × ((bs : List ℕ) × (records_bits (length records.now / 16) records.now 0 ≡ Made bs) × (length bs ≤ 8 * length out.old)) }
+    ensures { out.new ≡ sets out.old 0 (bytes_of (bits_in (records_bits (length records.now / 16) records.now 0))) }
 {
     let mut writer = BitWriter {
         bits: 0,
@@ -89,7 +89,7 @@ fn write_records(records: &[u8], out: &mut [u8])
 
 // Packs records. Refusals 16, 15, 1 and 14; a refused call writes nothing: all records are read before the first byte goes out.
 pub fn pack(records: &[u8], out: &mut [u8]) -> Answer
-    ensures { Hands (packOf records.now) out.old out.new result }
+    ensures { Hands (pack_of records.now) out.old out.new result }
 {
     if records.len() % 16 != 0 {
         return Answer::Refused(16);

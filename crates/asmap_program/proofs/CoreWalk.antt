@@ -14,8 +14,8 @@ use Rattle.asmap_program.specs.declared.Verdict.TheVariants.{Accepted}
 use Rattle.asmap_program.specs.Map.{RETURN, JUMP, MATCH, DEFAULT, Map, Whole, end_of, target_of, Laws, bit_of, length_of}
 use Rattle.asmap_program.specs.Check.{check}
 use Rattle.asmap_program.specs.declared.Walker.{Walker}
-use Rattle.asmap_program.specs.Walk.{Walked, Compared, Equal, Different, compared, meeting, enough, goOn, walkFrom, walk}
-use Rattle.asmap_program.specs.Core.{INVALID, Read, File, Pointer, CoreAnswer, Number, Interpreted, Moves, Gives, breakIf, orBreak, coreGoOn, coreCompared, coreMatched, coreTurn, coreWalk, coreInterpret, decodeOf, Reads, Joined}
+use Rattle.asmap_program.specs.Walk.{Walked, Compared, Equal, Different, compared, meeting, enough, go_on, walk_from, walk}
+use Rattle.asmap_program.specs.Core.{INVALID, Read, File, Pointer, CoreAnswer, Number, Interpreted, Moves, Gives, break_if, or_break, core_go_on, core_compared, core_matched, core_turn, core_walk, core_interpret, decode_of, Reads, Joined}
 use Rattle.asmap_program.specs.Tree.{Tree, return, jump, match, default}
 use Rattle.asmap_program.proofs.Tree.{program, forward}
 use Rattle.asmap_program.proofs.Demand.{walk_at}
@@ -31,65 +31,65 @@ abbrev equal : Compared → Bool
 equal Equal = true
 equal (Different n) = false
 
-read-there : (r : Read) (v p : ℕ) → r ≡ record { value = v; pos = p } → v < INVALID → (k : ℕ → ℕ → Interpreted) → orBreak r k ≡ k v p
-read-there r v p e h k = rw (e, ne_eqb v INVALID (omega arith))
+read_there : (r : Read) (v p : ℕ) → r ≡ record { value = v; pos = p } → v < INVALID → (k : ℕ → ℕ → Interpreted) → or_break r k ≡ k v p
+read_there r v p e h k = rw (e, ne_eqb v INVALID (omega arith))
 
 -- a turn of Core's where the operand v, read at q, ends at p
 abbrev whole : (ℕ → ℕ) → ℕ → File → Pointer → ℕ → ℕ → ℕ → Interpreted
 whole a w f s v p zero = Gives v
 whole a w f s v p (suc zero) =
-    breakIf (eqb s.bits 0)
-    (breakIf (leb (f.endpos - p) v)
+    break_if (eqb s.bits 0)
+    (break_if (leb (f.endpos - p) v)
     (Moves (record { pos = cond (eqb (a (w - s.bits)) 1) (p + v) p; bits = s.bits - 1; default = s.default })))
-whole a w f s v p (suc (suc zero)) = breakIf (ltb s.bits (length_of v)) (coreMatched a w s v p (coreCompared a w (length_of v) v s.bits))
+whole a w f s v p (suc (suc zero)) = break_if (ltb s.bits (length_of v)) (core_matched a w s v p (core_compared a w (length_of v) v s.bits))
 whole a w f s v p (suc (suc (suc n))) = Moves (record { pos = p; bits = s.bits; default = v })
 
 module _ (a : ℕ → ℕ) (w : ℕ) where
-  turn-whole : (f : File) (s : Pointer) (k q v p : ℕ) → k < 4 → decodeOf f k q ≡ record { value = v; pos = p } → v < INVALID
-      → coreTurn a w f s k q ≡ whole a w f s v p k
-  turn-whole f s zero q v p l e h = read-there (f.decodeASN q) v p e h (λ (v p : ℕ). Gives v)
-  turn-whole f s (suc zero) q v p l e h = read-there (f.decodeJump q) v p e h (λ (v p : ℕ). whole a w f s v p 1)
-  turn-whole f s (suc (suc zero)) q v p l e h = read-there (f.decodeMatch q) v p e h (λ (v p : ℕ). whole a w f s v p 2)
-  turn-whole f s (suc (suc (suc zero))) q v p l e h = read-there (f.decodeASN q) v p e h (λ (v p : ℕ). whole a w f s v p 3)
+  turn-whole : (f : File) (s : Pointer) (k q v p : ℕ) → k < 4 → decode_of f k q ≡ record { value = v; pos = p } → v < INVALID
+      → core_turn a w f s k q ≡ whole a w f s v p k
+  turn-whole f s zero q v p l e h = read_there (f.decode_asn q) v p e h (λ (v p : ℕ). Gives v)
+  turn-whole f s (suc zero) q v p l e h = read_there (f.decode_jump q) v p e h (λ (v p : ℕ). whole a w f s v p 1)
+  turn-whole f s (suc (suc zero)) q v p l e h = read_there (f.decode_match q) v p e h (λ (v p : ℕ). whole a w f s v p 2)
+  turn-whole f s (suc (suc (suc zero))) q v p l e h = read_there (f.decode_asn q) v p e h (λ (v p : ℕ). whole a w f s v p 3)
   turn-whole f s (suc (suc (suc (suc k)))) q v p l e h = absurd (omega arith)
 
-  same-compared : (n v u b : ℕ) → u + b ≡ w → n ≤ b → coreCompared a w n v b ≡ equal (compared a n v u)
-  unfolding coreCompared compared
-  same-compared zero v u b e h = refl
-  same-compared (suc n) v u b e h =
+  same_compared : (n v u b : ℕ) → u + b ≡ w → n ≤ b → core_compared a w n v b ≡ equal (compared a n v u)
+  unfolding core_compared compared
+  same_compared zero v u b e h = refl
+  same_compared (suc n) v u b e h =
       let d : w - b ≡ u = omega arith in
       rw (d, eqb_comm (a u) (bit_of v n))
       (elim (eqb (bit_of v n) (a u))
-      as (λ (x : Bool). cond x (coreCompared a w n v (b - 1)) false ≡ equal (cond x (compared a n v (suc u)) (Different (suc u))))
-      [ true ↦ same-compared n v (suc u) (b - 1) (omega arith) (omega arith) | false ↦ refl ])
+      as (λ (x : Bool). cond x (core_compared a w n v (b - 1)) false ≡ equal (cond x (compared a n v (suc u)) (Different (suc u))))
+      [ true ↦ same_compared n v (suc u) (b - 1) (omega arith) (omega arith) | false ↦ refl ])
 
   module _ (m : Map) (f : File) (join : Joined m f) (law : Laws m) where
     core_at : (n k b d : ℕ) {at : ℕ} (i : Instruction) → m.fetch at ≡ Whole i → at < m.bits → i.opcode ≡ k
-        → coreWalk a w f (suc n) (record { pos = at; bits = b; default = d })
-        ≡ coreGoOn (coreWalk a w f n) (whole a w f (record { pos = at; bits = b; default = d }) i.operand (end_of i) k)
-    unfolding coreWalk
+        → core_walk a w f (suc n) (record { pos = at; bits = b; default = d })
+        ≡ core_go_on (core_walk a w f n) (whole a w f (record { pos = at; bits = b; default = d }) i.operand (end_of i) k)
+    unfolding core_walk
     core_at n k b d {at} i g h e =
         let s : Pointer = record { pos = at; bits = b; default = d } in
         let x : Reads f at (Whole i) = subst (Reads f at) g (join.fetched at (omega arith)) in
         let z = join.ends in
         rw (ne_eqb at f.endpos (omega arith))
-        (ap (λ (r : Read). coreGoOn (coreWalk a w f n) (coreTurn a w f s r.value r.pos)) x.1
-        ∙ ap (coreGoOn (coreWalk a w f n)) (turn-whole f s i.opcode x.0 i.operand (end_of i) (law.stands _ _ g).known x.2 x.3)
-        ∙ ap (λ (c : ℕ). coreGoOn (coreWalk a w f n) (whole a w f s i.operand (end_of i) c)) e)
+        (ap (λ (r : Read). core_go_on (core_walk a w f n) (core_turn a w f s r.value r.pos)) x.1
+        ∙ ap (core_go_on (core_walk a w f n)) (turn-whole f s i.opcode x.0 i.operand (end_of i) (law.stands _ _ g).known x.2 x.3)
+        ∙ ap (λ (c : ℕ). core_go_on (core_walk a w f n) (whole a w f s i.operand (end_of i) c)) e)
 
     -- a MATCH goes on in both, or ends both with the default
-    same-matching : (s : Pointer) (t : Walker) (i : Instruction) → s.default ≡ t.default
+    same_matching : (s : Pointer) (t : Walker) (i : Instruction) → s.default ≡ t.default
         → (k : Pointer → CoreAnswer) (k' : Walker → Walked)
         → k (record { pos = end_of i; bits = s.bits - length_of i.operand; default = s.default })
         ≡ Number (k' (record { at = end_of i; used = t.used + length_of i.operand; width = t.width; default = t.default })).number
-        → (c : Compared) → coreGoOn k (coreMatched a w s i.operand (end_of i) (equal c)) ≡ Number (goOn k' (meeting t i c)).number
-    same-matching s t i e k k' h Equal = h
-    same-matching s t i e k k' h (Different x) = ap Number e
+        → (c : Compared) → core_go_on k (core_matched a w s i.operand (end_of i) (equal c)) ≡ Number (go_on k' (meeting t i c)).number
+    same_matching s t i e k k' h Equal = h
+    same_matching s t i e k k' h (Different x) = ap Number e
 
     same_number : {b : Previous} {at left end : ℕ} {is : List Instruction} → Tree m b at left end is
         → (n u d : ℕ) → end ≤ at + n → u + left ≡ w
-        → coreWalk a w f n (record { pos = at; bits = left; default = d })
-        ≡ Number (walkFrom a m n (record { at = at; used = u; width = w; default = d })).number
+        → core_walk a w f n (record { pos = at; bits = left; default = d })
+        ≡ Number (walk_from a m n (record { at = at; used = u; width = w; default = d })).number
     unfolding enough
     same_number t zero u d h k = let a' = forward m law t in absurd (omega arith)
     same_number {left} (return {i} g e q) (suc n) u d h k =
@@ -109,8 +109,8 @@ module _ (a : ℕ → ℕ) (w : ℕ) where
           z,
         )
         (elim (eqb (a u) 1)
-        as (λ (x : Bool). coreWalk a w f n (record { pos = cond x (target_of i) (end_of i); bits = left - 1; default = d })
-        ≡ Number (walkFrom a m n (record { at = cond x (target_of i) (end_of i); used = suc u; width = w; default = d })).number)
+        as (λ (x : Bool). core_walk a w f n (record { pos = cond x (target_of i) (end_of i); bits = left - 1; default = d })
+        ≡ Number (walk_from a m n (record { at = cond x (target_of i) (end_of i); used = suc u; width = w; default = d })).number)
         [ true ↦ same_number t' n (suc u) d (omega arith) (omega arith) | false ↦ same_number t n (suc u) d (omega arith) (omega arith) ])
     same_number {left} (match {i} g e q p t) (suc n) u d h k =
         let s = law.stands _ _ g in
@@ -120,10 +120,10 @@ module _ (a : ℕ → ℕ) (w : ℕ) where
           walk_at a m law w n MATCH u d i g e,
           le-leb (u + length_of i.operand) w (omega arith),
           le-ltb left (length_of i.operand) q,
-          same-compared (length_of i.operand) i.operand u left k q,
+          same_compared (length_of i.operand) i.operand u left k q,
         )
-        (same-matching (record { pos = _; bits = left; default = d }) (record { at = _; used = u; width = w; default = d }) i refl
-        (coreWalk a w f n) (walkFrom a m n)
+        (same_matching (record { pos = _; bits = left; default = d }) (record { at = _; used = u; width = w; default = d }) i refl
+        (core_walk a w f n) (walk_from a m n)
         (same_number t n (u + length_of i.operand) d (omega arith) (omega arith))
         (compared a (length_of i.operand) i.operand u))
     same_number {left} (default {i} g e q t) (suc n) u d h k =
@@ -134,10 +134,10 @@ module _ (a : ℕ → ℕ) (w : ℕ) where
 
 -- demand 2, the number: Core's Interpret answers it, and does not leave its loop
 pub core-number : (m : Map) (f : File) → Joined m f → Laws m → (w c d : ℕ) → check m w ≡ Accepted c d
-    → (a : ℕ → ℕ) → coreInterpret a w f ≡ Number (walk a m w).number
-unfolding coreInterpret walk
+    → (a : ℕ → ℕ) → core_interpret a w f ≡ Number (walk a m w).number
+unfolding core_interpret walk
 core-number m f join law w c d h a =
     let p = program m law w h in
     let a' = forward m law p.tree in
-    ap (λ (n : ℕ). coreWalk a w f n (record { pos = 0; bits = w; default = 0 })) join.ends
+    ap (λ (n : ℕ). core_walk a w f n (record { pos = 0; bits = w; default = 0 })) join.ends
     ∙ same_number a w m f join law p.tree m.bits 0 0 (omega arith) (omega arith)

@@ -13,10 +13,10 @@ use Rattle.asmap_program.specs.declared.Instruction.{Instruction}
 use Rattle.asmap_program.specs.declared.Verdict.{Verdict}
 use Rattle.asmap_program.specs.declared.Verdict.TheVariants.{Accepted}
 use Rattle.asmap_program.specs.Map.{end_of, Fetched, Whole, CutOpcode, CutOperand, Map, Laws, length_of}
-use Rattle.asmap_program.specs.Check.{State, Outcome, Next, Done, Refuse, guard, step, after, run, start, check, stopping, stops, stopOf, listed, reads, unpacked}
+use Rattle.asmap_program.specs.Check.{State, Outcome, Next, Done, Refuse, guard, step, after, run, start, check, stopping, stops, stop_of, listed, reads, unpacked}
 use Rattle.asmap_program.specs.declared.Kind.TheVariants.{OpcodeCut}
 use Rattle.asmap_program.specs.declared.Walker.{Walker}
-use Rattle.asmap_program.specs.Walk.{Walked, Turn, Goes, Stops, Compared, Equal, Different, aborted, enough, meeting, compared, turnWhole, turnOn, push, goOn, walkFrom, walk}
+use Rattle.asmap_program.specs.Walk.{Walked, Turn, Goes, Stops, Compared, Equal, Different, aborted, enough, meeting, compared, turn_whole, turn_on, push, go_on, walk_from, walk}
 use Rattle.asmap_program.proofs.Tree.{Moves, closes, opened, matched, defaulted, View, view, Accepts, last, more, accepts}
 use Rattle.asmap_program.proofs.Depth.{carries}
 
@@ -46,9 +46,9 @@ module _ (m : Map) where
   in_order (more {s} {s'} {i} {is} f v a) = rw f (ap (λ (l : List Instruction). i ∷ l) (rw (moved v) at (in_order a)))
 
   -- what is unpacked of an accepted map is as many instructions as were counted, from place 0 on
-  pub unpacked-list : {c d : ℕ} (w : ℕ) → check m w ≡ Accepted c d → unpacked m w ≡ list_from c 0
+  pub unpacked_list : {c d : ℕ} (w : ℕ) → check m w ≡ Accepted c d → unpacked m w ≡ list_from c 0
   unfolding check unpacked
-  unpacked-list {c} w h =
+  unpacked_list {c} w h =
       let e : c ≡ length (unpacked m w) = (carries m w h).0 in
       rw e (in_order (accepts m m.bits (start w) h))
 
@@ -65,24 +65,24 @@ module _ (m : Map) where
 
   module _ (law : Laws m) where
     -- both go on alike from every state that a step comes to
-    after-alike : (s : State) (f g : ℕ) → m.bits ≤ s.at + suc f → m.bits ≤ s.at + suc g
+    after_alike : (s : State) (f g : ℕ) → m.bits ≤ s.at + suc f → m.bits ≤ s.at + suc g
         → ((s' : State) → m.bits ≤ s'.at + f → m.bits ≤ s'.at + g → Alike f g s')
         → (o : Outcome) → View m s o
         → (after (run m f) o ≡ after (run m g) o) × (stopping s.at (stops m f) o ≡ stopping s.at (stops m g) o) × (listed (reads m f) o ≡ listed (reads m g) o)
-    after-alike s f g h k ih (Next i s') v =
+    after_alike s f g h k ih (Next i s') v =
         let a = law.stands _ _ v.0 in
         let e = moved v.1 in
         let r = ih s' (omega arith) (omega arith) in
         (r.0, r.1, ap (λ (l : List Instruction). i ∷ l) r.2)
-    after-alike s f g h k ih (Done i c d) v = (refl, refl, refl)
-    after-alike s f g h k ih (Refuse n) v = (refl, refl, refl)
+    after_alike s f g h k ih (Done i c d) v = (refl, refl, refl)
+    after_alike s f g h k ih (Refuse n) v = (refl, refl, refl)
 
     run-enough : (f g : ℕ) (s : State) → m.bits ≤ s.at + f → m.bits ≤ s.at + g → Alike f g s
     unfolding run stops reads
     run-enough zero zero s h k = (refl, refl, refl)
     run-enough zero (suc g) s h k = rw (ended s (omega arith)) (refl, refl, refl)
     run-enough (suc f) zero s h k = rw (ended s (omega arith)) (refl, refl, refl)
-    run-enough (suc f) (suc g) s h k = after-alike s f g h k (λ s' p q. run-enough f g s' p q) (step m s) (view m s)
+    run-enough (suc f) (suc g) s h k = after_alike s f g h k (λ s' p q. run-enough f g s' p q) (step m s) (view m s)
 
   -- the answer from a state on, the place at which the check stops from there, and the instructions that it passes
   unfoldable pub result : State → Verdict
@@ -95,23 +95,23 @@ module _ (m : Map) where
   passing s = reads m (m.bits - s.at) s
 
   module _ (law : Laws m) where
-    after-result : (s : State) (o : Outcome) → View m s o
+    after_result : (s : State) (o : Outcome) → View m s o
         → (after (run m (m.bits - s.at)) o ≡ after result o) × (stopping s.at (stops m (m.bits - s.at)) o ≡ stopping s.at stop o) × (listed (reads m (m.bits - s.at)) o ≡ listed passing o)
     unfolding result stop passing
-    after-result s (Next i s') v =
+    after_result s (Next i s') v =
         let a = law.stands _ _ v.0 in
         let e = moved v.1 in
         let r = run-enough law (m.bits - s.at) (m.bits - s'.at) s' (omega arith) (omega arith) in
         (r.0, r.1, ap (λ (l : List Instruction). i ∷ l) r.2)
-    after-result s (Done i c d) v = (refl, refl, refl)
-    after-result s (Refuse n) v = (refl, refl, refl)
+    after_result s (Done i c d) v = (refl, refl, refl)
+    after_result s (Refuse n) v = (refl, refl, refl)
 
     -- the equations of the loop: one step, and on
     all-step : (s : State) → (result s ≡ after result (step m s)) × (stop s ≡ stopping s.at stop (step m s)) × (passing s ≡ listed passing (step m s))
     unfolding result stop passing run stops reads
     all-step s =
         let a = run-enough law (m.bits - s.at) (suc (m.bits - s.at)) s (omega arith) (omega arith) in
-        let b = after-result s (step m s) (view m s) in
+        let b = after_result s (step m s) (view m s) in
         (a.0 ∙ b.0, a.1 ∙ b.1, a.2 ∙ b.2)
 
     pub result-step : (s : State) → result s ≡ after result (step m s)
@@ -124,17 +124,17 @@ module _ (m : Map) where
     passing_step s = (all-step s).2
 
     -- the check is the answer from its start on; its place is the place from there, and what is unpacked is what is passed from there
-    pub result-start : (w : ℕ) → check m w ≡ result (start w)
+    pub result_start : (w : ℕ) → check m w ≡ result (start w)
     unfolding check result
-    result-start w = (run-enough law m.bits (m.bits - 0) (start w) (omega arith) (omega arith)).0
+    result_start w = (run-enough law m.bits (m.bits - 0) (start w) (omega arith) (omega arith)).0
 
-    pub stop-start : (w : ℕ) → stopOf m w ≡ stop (start w)
-    unfolding stopOf stop
-    stop-start w = (run-enough law m.bits (m.bits - 0) (start w) (omega arith) (omega arith)).1
+    pub stop_start : (w : ℕ) → stop_of m w ≡ stop (start w)
+    unfolding stop_of stop
+    stop_start w = (run-enough law m.bits (m.bits - 0) (start w) (omega arith) (omega arith)).1
 
-    pub passing-start : (w : ℕ) → unpacked m w ≡ passing (start w)
+    pub passing_start : (w : ℕ) → unpacked m w ≡ passing (start w)
     unfolding unpacked passing
-    passing-start w = (run-enough law m.bits (m.bits - 0) (start w) (omega arith) (omega arith)).2
+    passing_start w = (run-enough law m.bits (m.bits - 0) (start w) (omega arith) (omega arith)).2
 
 -- ---- the walk's loop
 
@@ -149,11 +149,11 @@ onward-enough true s i t h = h
 onward-enough false s i t h = tt
 
 module _ (address : ℕ → ℕ) (m : Map) (law : Laws m) where
-  onward-meeting : (s : Walker) (i : Instruction) → s.at < end_of i → (c : Compared) → Onward s (meeting s i c)
-  onward-meeting s i h Equal = h
-  onward-meeting s i h (Different x) = tt
+  onward_meeting : (s : Walker) (i : Instruction) → s.at < end_of i → (c : Compared) → Onward s (meeting s i c)
+  onward_meeting s i h Equal = h
+  onward_meeting s i h (Different x) = tt
 
-  onward-whole : (s : Walker) (i : Instruction) → s.at < end_of i → (k : ℕ) → Onward s (turnWhole address m s i k)
+  onward-whole : (s : Walker) (i : Instruction) → s.at < end_of i → (k : ℕ) → Onward s (turn_whole address m s i k)
   onward-whole s i h zero = tt
   onward-whole s i h (suc zero) = onward-enough _ s i _ (either (eqb (address s.used) 1))
     where
@@ -161,45 +161,45 @@ module _ (address : ℕ → ℕ) (m : Map) (law : Laws m) where
       either true = omega arith
       either false = h
   onward-whole s i h (suc (suc zero)) =
-      onward-enough _ s i _ (onward-meeting s i h (compared address (length_of i.operand) i.operand s.used))
+      onward-enough _ s i _ (onward_meeting s i h (compared address (length_of i.operand) i.operand s.used))
   onward-whole s i h (suc (suc (suc n))) = h
 
-  onward : (s : Walker) (r : Fetched) → m.fetch s.at ≡ r → Onward s (turnOn address m s r)
+  onward : (s : Walker) (r : Fetched) → m.fetch s.at ≡ r → Onward s (turn_on address m s r)
   onward s (Whole i) f = let a = law.stands _ _ f in onward-whole s i (omega arith) i.opcode
   onward s CutOpcode f = tt
   onward s (CutOperand op) f = tt
 
   -- a walk that stands at the map's end or past it, also after a JUMP: nothing is read, and the opcode is cut
-  off-end : (s : Walker) → m.bits ≤ s.at → turnOn address m s (m.fetch s.at) ≡ aborted OpcodeCut s []
-  off-end s h = ap (turnOn address m s) (law.ends s.at h)
+  off_end : (s : Walker) → m.bits ≤ s.at → turn_on address m s (m.fetch s.at) ≡ aborted OpcodeCut s []
+  off_end s h = ap (turn_on address m s) (law.ends s.at h)
 
-  go-alike : (s : Walker) (k k' : Walker → Walked) → ((s' : Walker) → s.at < s'.at → k s' ≡ k' s')
-      → (t : Turn) → Onward s t → goOn k t ≡ goOn k' t
-  go-alike s k k' h (Goes i s') v = ap (λ (r : Walked). push i r) (h s' v)
-  go-alike s k k' h (Stops r) v = refl
+  go_alike : (s : Walker) (k k' : Walker → Walked) → ((s' : Walker) → s.at < s'.at → k s' ≡ k' s')
+      → (t : Turn) → Onward s t → go_on k t ≡ go_on k' t
+  go_alike s k k' h (Goes i s') v = ap (λ (r : Walked). push i r) (h s' v)
+  go_alike s k k' h (Stops r) v = refl
 
-  walk-enough : (f g : ℕ) (s : Walker) → m.bits ≤ s.at + f → m.bits ≤ s.at + g → walkFrom address m f s ≡ walkFrom address m g s
-  unfolding walkFrom
+  walk-enough : (f g : ℕ) (s : Walker) → m.bits ≤ s.at + f → m.bits ≤ s.at + g → walk_from address m f s ≡ walk_from address m g s
+  unfolding walk_from
   walk-enough zero zero s h k = refl
-  walk-enough zero (suc g) s h k = rw (off-end s (omega arith))
-  walk-enough (suc f) zero s h k = rw (off-end s (omega arith))
+  walk-enough zero (suc g) s h k = rw (off_end s (omega arith))
+  walk-enough (suc f) zero s h k = rw (off_end s (omega arith))
   walk-enough (suc f) (suc g) s h k =
-      go-alike s _ _ (λ s' p. walk-enough f g s' (omega arith) (omega arith)) (turnOn address m s (m.fetch s.at)) (onward s (m.fetch s.at) refl)
+      go_alike s _ _ (λ s' p. walk-enough f g s' (omega arith) (omega arith)) (turn_on address m s (m.fetch s.at)) (onward s (m.fetch s.at) refl)
 
 module _ (address : ℕ → ℕ) (m : Map) where
   -- the walk from a state on
   unfoldable pub walked : Walker → Walked
-  walked s = walkFrom address m (m.bits - s.at) s
+  walked s = walk_from address m (m.bits - s.at) s
 
 module _ (address : ℕ → ℕ) (m : Map) (law : Laws m) where
   -- the equation of the loop: one turn, and on
-  pub walked_step : (s : Walker) → walked address m s ≡ goOn (walked address m) (turnOn address m s (m.fetch s.at))
-  unfolding walked walkFrom
+  pub walked_step : (s : Walker) → walked address m s ≡ go_on (walked address m) (turn_on address m s (m.fetch s.at))
+  unfolding walked walk_from
   walked_step s =
       walk-enough address m law (m.bits - s.at) (suc (m.bits - s.at)) s (omega arith) (omega arith)
-      ∙ go-alike address m law s _ _
+      ∙ go_alike address m law s _ _
       (λ s' h. walk-enough address m law (m.bits - s.at) (m.bits - s'.at) s' (omega arith) (omega arith))
-      (turnOn address m s (m.fetch s.at)) (onward address m law s (m.fetch s.at) refl)
+      (turn_on address m s (m.fetch s.at)) (onward address m law s (m.fetch s.at) refl)
 
   -- the walk is the walk from its start on
   pub walked_start : (w : ℕ) → walk address m w ≡ walked address m (record { at = 0; used = 0; width = w; default = 0 })
@@ -213,22 +213,22 @@ pub record Ahead (whole rest : Walked) (n : ℕ) : Type 0 where
   pub bits : whole.bits ≡ rest.bits
   pub count : length whole.read ≡ n + length rest.read
 
-ahead-on : {whole : Walked} {n : ℕ} (k : Walker → Walked) (t : Turn) {i : Instruction} {s' : Walker} → t ≡ Goes i s' → Ahead whole (goOn k t) n → Ahead whole (k s') (suc n)
-ahead-on {whole} {n} k t {i} {s'} e a =
-    let b : Ahead whole (push i (k s')) n = subst (λ (x : Turn). Ahead whole (goOn k x) n) e a in
+ahead_on : {whole : Walked} {n : ℕ} (k : Walker → Walked) (t : Turn) {i : Instruction} {s' : Walker} → t ≡ Goes i s' → Ahead whole (go_on k t) n → Ahead whole (k s') (suc n)
+ahead_on {whole} {n} k t {i} {s'} e a =
+    let b : Ahead whole (push i (k s')) n = subst (λ (x : Turn). Ahead whole (go_on k x) n) e a in
     record { kind = b.kind; number = b.number; bits = b.bits; count = omega arith }
 
 module _ (address : ℕ → ℕ) (m : Map) (law : Laws m) where
-  pub ahead-start : (w : ℕ) → Ahead (walk address m w) (walked address m (record { at = 0; used = 0; width = w; default = 0 })) 0
-  ahead-start w = rw (walked_start address m law w) record { kind = refl; number = refl; bits = refl; count = omega arith }
+  pub ahead_start : (w : ℕ) → Ahead (walk address m w) (walked address m (record { at = 0; used = 0; width = w; default = 0 })) 0
+  ahead_start w = rw (walked_start address m law w) record { kind = refl; number = refl; bits = refl; count = omega arith }
 
-  pub ahead-goes : (w : ℕ) {n : ℕ} (s : Walker) {i : Instruction} {s' : Walker} → turnOn address m s (m.fetch s.at) ≡ Goes i s'
+  pub ahead_goes : (w : ℕ) {n : ℕ} (s : Walker) {i : Instruction} {s' : Walker} → turn_on address m s (m.fetch s.at) ≡ Goes i s'
       → Ahead (walk address m w) (walked address m s) n → Ahead (walk address m w) (walked address m s') (suc n)
-  ahead-goes w {n} s e a =
-      ahead-on (walked address m) _ e (subst (λ (r : Walked). Ahead (walk address m w) r n) (walked_step address m law s) a)
+  ahead_goes w {n} s e a =
+      ahead_on (walked address m) _ e (subst (λ (r : Walked). Ahead (walk address m w) r n) (walked_step address m law s) a)
 
-  pub ahead-stops : (w : ℕ) {n : ℕ} (s : Walker) {r : Walked} → turnOn address m s (m.fetch s.at) ≡ Stops r
+  pub ahead_stops : (w : ℕ) {n : ℕ} (s : Walker) {r : Walked} → turn_on address m s (m.fetch s.at) ≡ Stops r
       → Ahead (walk address m w) (walked address m s) n → Ahead (walk address m w) r n
-  ahead-stops w {n} s e a =
-      subst (λ (x : Turn). Ahead (walk address m w) (goOn (walked address m) x) n) e
+  ahead_stops w {n} s e a =
+      subst (λ (x : Turn). Ahead (walk address m w) (go_on (walked address m) x) n) e
       (subst (λ (r : Walked). Ahead (walk address m w) r n) (walked_step address m law s) a)

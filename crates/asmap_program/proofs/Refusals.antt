@@ -1,5 +1,5 @@
 -- Which numbers a step of the check refuses with, and what can be read at its place where the number is that of a cut code: the check hands on what
--- the decoder reports there (`stops-at-a-cut`).
+-- the decoder reports there (`stops_at_a_cut`).
 -- Assumes nothing.
 use Prim.Native.Nat.{ℕ, zero, suc, ◌≤◌}
 use mathlib.Core.Bool.{Bool, true, false, not, ◌&&◌}
@@ -11,24 +11,24 @@ use lib.Dec.{T, leb, eqb, leb→le}
 use borrow.Author.Tests.{eq-eqb}
 use Rattle.asmap_program.specs.declared.Instruction.{Instruction}
 use Rattle.asmap_program.specs.declared.Verdict.TheVariants.{Refused}
-use Rattle.asmap_program.specs.Map.{Opcode, Operand, cutReason, Fetched, Whole, CutOpcode, CutOperand, Map, Laws}
-use Rattle.asmap_program.specs.Check.{Open, State, Outcome, Next, Done, Refuse, guard, closing, stepWhole, stepOn, step, check, stopOf, Gives, StopsAt}
+use Rattle.asmap_program.specs.Map.{Opcode, Operand, cut_reason, Fetched, Whole, CutOpcode, CutOperand, Map, Laws}
+use Rattle.asmap_program.specs.Check.{Open, State, Outcome, Next, Done, Refuse, guard, closing, step_whole, step_on, step, check, stop_of, Gives, StopsAt}
 use Rattle.asmap_program.proofs.Stop.{stops_at}
 
 -- ---- the numbers of the tests: from 2 to 10, and none of them the number of a cut
 
 abbrev pub of_test : ℕ → Bool
-of_test n = leb 2 n && (leb n 10 && not (eqb n (cutReason Opcode)))
+of_test n = leb 2 n && (leb n 10 && not (eqb n (cut_reason Opcode)))
 
 both : (a b : Bool) → T (a && b) → T a × T b
 both true b t = (tt, t)
 both false b t = absurd t
 
-pub test-number : (n : ℕ) → T (of_test n) → (2 ≤ n) × ((n ≤ 10) × (n ≢ cutReason Opcode))
+pub test-number : (n : ℕ) → T (of_test n) → (2 ≤ n) × ((n ≤ 10) × (n ≢ cut_reason Opcode))
 test-number n t =
     let x = both (leb 2 n) _ t in
     let y = both (leb n 10) _ x.1 in
-    (leb→le 2 n x.0, (leb→le n 10 y.0, λ e. absurd (subst (λ (b : Bool). T (not b)) (eq-eqb n (cutReason Opcode) e) y.1)))
+    (leb→le 2 n x.0, (leb→le n 10 y.0, λ e. absurd (subst (λ (b : Bool). T (not b)) (eq-eqb n (cut_reason Opcode) e) y.1)))
 
 -- ---- a step from s. P: what is shown of the number of its refusal
 
@@ -48,41 +48,41 @@ module _ (m : Map) (s : State) (P : ℕ → Type 0) where
     closed i [] = guarded _ 6 _ tt tt
     closed i (o ∷ opens) = guarded _ 7 _ tt tt
 
-    whole : (i : Instruction) (op : ℕ) → Refuses (stepWhole m s i op)
+    whole : (i : Instruction) (op : ℕ) → Refuses (step_whole m s i op)
     whole i zero = guarded _ 5 _ tt (closed i s.opens)
     whole i (suc zero) = guarded _ 8 _ tt (guarded _ 9 _ tt tt)
     whole i (suc (suc zero)) = guarded _ 10 _ tt (guarded _ 8 _ tt tt)
     whole i (suc (suc (suc n))) = guarded _ 5 _ tt tt
 
-    module _ (opcode : m.fetch s.at ≡ CutOpcode → P (cutReason Opcode)) (operand : (op : ℕ) → m.fetch s.at ≡ CutOperand op → P (cutReason Operand)) where
-      read : (f : Fetched) → m.fetch s.at ≡ f → Refuses (stepOn m s f)
+    module _ (opcode : m.fetch s.at ≡ CutOpcode → P (cut_reason Opcode)) (operand : (op : ℕ) → m.fetch s.at ≡ CutOperand op → P (cut_reason Operand)) where
+      read : (f : Fetched) → m.fetch s.at ≡ f → Refuses (step_on m s f)
       read (Whole i) e = whole i i.opcode
       read CutOpcode e = opcode e
       read (CutOperand op) e = guarded _ 5 _ tt (operand op e)
 
-      pub step-refuses : Refuses (step m s)
+      pub step_refuses : Refuses (step m s)
       unfolding step
-      step-refuses = guarded _ 2 _ tt (guarded _ 3 _ tt (read (m.fetch s.at) refl))
+      step_refuses = guarded _ 2 _ tt (guarded _ 3 _ tt (read (m.fetch s.at) refl))
 
 -- ---- the check
 
 -- what can be read at the place p, by the number n of a refusal there
 pub record Shows (m : Map) (p n : ℕ) : Type 0 where
-  pub opcode : n ≡ cutReason Opcode → m.fetch p ≡ CutOpcode
-  pub operand : n ≡ cutReason Operand → (op : ℕ) × (m.fetch p ≡ CutOperand op)
+  pub opcode : n ≡ cut_reason Opcode → m.fetch p ≡ CutOpcode
+  pub operand : n ≡ cut_reason Operand → (op : ℕ) × (m.fetch p ≡ CutOperand op)
 
-step-shows : (m : Map) (s : State) → Refuses m s (Shows m s.at) (step m s)
-step-shows m s =
-    step-refuses m s (Shows m s.at)
+step_shows : (m : Map) (s : State) → Refuses m s (Shows m s.at) (step m s)
+step_shows m s =
+    step_refuses m s (Shows m s.at)
     (λ n t. let k = test-number n t in record { opcode = λ e. absurd (k.1.1 e); operand = λ e. absurd (omega (arith, k.1.0)) })
     (λ e. record { opcode = λ _. e; operand = λ z. absurd (omega arith) })
     (λ op e. record { opcode = λ z. absurd (omega arith); operand = λ _. (op, e) })
 
 -- where the check refuses a map for a cut code, that code is cut at the place where it stops: an opcode, or an operand behind its opcode
-pub stops-at-a-cut : (m : Map) → Laws m → (w n : ℕ) → check m w ≡ Refused n → Shows m (stopOf m w) n
-stops-at-a-cut m law w n e = subst (λ (p : ℕ). Shows m p n) x.here (by (step m x.state) x.gives (step-shows m x.state))
+pub stops_at_a_cut : (m : Map) → Laws m → (w n : ℕ) → check m w ≡ Refused n → Shows m (stop_of m w) n
+stops_at_a_cut m law w n e = subst (λ (p : ℕ). Shows m p n) x.here (by (step m x.state) x.gives (step_shows m x.state))
   where
-    x : StopsAt m w (check m w) (stopOf m w)
+    x : StopsAt m w (check m w) (stop_of m w)
     x = stops_at m law w
 
     by : (o : Outcome) → Gives (check m w) o → Refuses m x.state (Shows m x.state.at) o → Shows m x.state.at n

@@ -19,7 +19,7 @@ use Rattle.asmap_program.specs.declared.Verdict.{Verdict}
 use Rattle.asmap_program.specs.declared.Verdict.TheVariants.{Accepted}
 use Rattle.asmap_program.specs.Map.{RETURN, JUMP, MATCH, end_of, target_of, Fetched, Whole, CutOpcode, CutOperand, Map, Laws, length_of}
 use Rattle.asmap_program.specs.Tree.{Tree, return, jump, match, default, Program, JumpsInside}
-use Rattle.asmap_program.specs.Check.{Open, is_default, isShort, State, Outcome, Next, Done, Refuse, guard, past, closing, stepWhole, stepOn, step, after, run, listed, reads, start, check, unpacked, afterMatch}
+use Rattle.asmap_program.specs.Check.{Open, is_default, is_short, State, Outcome, Next, Done, Refuse, guard, past, closing, step_whole, step_on, step, after, run, listed, reads, start, check, unpacked, after_match}
 
 module _ (m : Map) where
   -- What is left to read in a state: a tree up to each open target, the innermost first, then one up to the padding.
@@ -44,11 +44,11 @@ module _ (m : Map) where
           count = suc s.count;
           deepest = max s.deepest (suc (length s.opens));
         })
-    matched : i.opcode ≡ MATCH → length_of i.operand ≤ s.left → (ltb (length_of i.operand) 8 && isShort s.before) ≡ false
+    matched : i.opcode ≡ MATCH → length_of i.operand ≤ s.left → (ltb (length_of i.operand) 8 && is_short s.before) ≡ false
         → Moves s i (record {
           at = end_of i;
           left = s.left - length_of i.operand;
-          before = afterMatch (length_of i.operand);
+          before = after_match (length_of i.operand);
           opens = s.opens;
           count = suc s.count;
           deepest = s.deepest;
@@ -77,29 +77,29 @@ module _ (m : Map) where
   guarded s true n t o v = leb→le 2 n t
   guarded s false n t o v = v refl
 
-  closing-view : (s : State) (i : Instruction) → m.fetch s.at ≡ Whole i → i.opcode ≡ RETURN → is_default s.before ≡ false
+  closing_view : (s : State) (i : Instruction) → m.fetch s.at ≡ Whole i → i.opcode ≡ RETURN → is_default s.before ≡ false
       → (opens : List Open) → s.opens ≡ opens → View s (closing m s i opens)
-  closing-view s i f e d [] q =
+  closing_view s i f e d [] q =
       guarded s (not (m.padded (end_of i))) 6 tt (Done i (suc s.count) s.deepest)
       λ h. record { fetched = f; code = e; none = q; free = d; good = not-false _ h; counted = refl; deep = refl }
-  closing-view s i f e d (o ∷ opens) q = guarded s _ 7 tt _ λ h. (f, closes q e d (eqb-true _ _ (not-false _ h)))
+  closing_view s i f e d (o ∷ opens) q = guarded s _ 7 tt _ λ h. (f, closes q e d (eqb-true _ _ (not-false _ h)))
 
-  whole-view : (s : State) (i : Instruction) → m.fetch s.at ≡ Whole i → (k : ℕ) → i.opcode ≡ k → View s (stepWhole m s i k)
-  whole-view s i f zero e = guarded s _ 5 tt (closing m s i s.opens) λ h. closing-view s i f e h s.opens refl
-  whole-view s i f (suc zero) e =
+  whole_view : (s : State) (i : Instruction) → m.fetch s.at ≡ Whole i → (k : ℕ) → i.opcode ≡ k → View s (step_whole m s i k)
+  whole_view s i f zero e = guarded s _ 5 tt (closing m s i s.opens) λ h. closing_view s i f e h s.opens refl
+  whole_view s i f (suc zero) e =
       guarded s _ 8 tt _ λ h. guarded s _ 9 tt _ λ k. (f, opened e (omega (arith, eqb-false s.left 0 h)) k)
-  whole-view s i f (suc (suc zero)) e =
+  whole_view s i f (suc (suc zero)) e =
       guarded s _ 10 tt _ λ h. guarded s _ 8 tt _ λ k. (f, matched e (ltb-false _ _ k) h)
-  whole-view s i f (suc (suc (suc n))) e = guarded s _ 5 tt _ λ h. (f, defaulted e h)
+  whole_view s i f (suc (suc (suc n))) e = guarded s _ 5 tt _ λ h. (f, defaulted e h)
 
-  on-view : (s : State) (r : Fetched) → m.fetch s.at ≡ r → View s (stepOn m s r)
-  on-view s (Whole i) f = whole-view s i f i.opcode refl
-  on-view s CutOpcode f = omega arith
-  on-view s (CutOperand op) f = guarded s _ 5 tt _ λ _. omega arith
+  on_view : (s : State) (r : Fetched) → m.fetch s.at ≡ r → View s (step_on m s r)
+  on_view s (Whole i) f = whole_view s i f i.opcode refl
+  on_view s CutOpcode f = omega arith
+  on_view s (CutOperand op) f = guarded s _ 5 tt _ λ _. omega arith
 
   pub view : (s : State) → View s (step m s)
   unfolding step
-  view s = guarded s _ 2 tt _ λ _. guarded s _ 3 tt _ λ _. on-view s (m.fetch s.at) refl
+  view s = guarded s _ 2 tt _ λ _. guarded s _ 3 tt _ λ _. on_view s (m.fetch s.at) refl
 
   -- ---- an accepted run, without fuel
 
@@ -108,20 +108,20 @@ module _ (m : Map) where
     more : {s s' : State} {i : Instruction} {is : List Instruction} {c d : ℕ}
         → m.fetch s.at ≡ Whole i → Moves s i s' → Accepts s' is c d → Accepts s (i ∷ is) c d
 
-  accepts-on : {c d : ℕ} (s : State) (k : State → Verdict) (l : State → List Instruction)
+  accepts_on : {c d : ℕ} (s : State) (k : State → Verdict) (l : State → List Instruction)
       → ((s' : State) → k s' ≡ Accepted c d → Accepts s' (l s') c d)
       → (o : Outcome) → View s o → after k o ≡ Accepted c d → Accepts s (listed l o) c d
-  accepts-on s k l ih (Next i s') v h = more v.0 v.1 (ih s' h)
-  accepts-on {c} {d} s k l ih (Done i c' d') v h =
+  accepts_on s k l ih (Next i s') v h = more v.0 v.1 (ih s' h)
+  accepts_on {c} {d} s k l ih (Done i c' d') v h =
       let e : c' ≡ c = cc in
       let q : d' ≡ d = cc in
       rw (← e, ← q) (last v)
-  accepts-on s k l ih (Refuse n) v h = let z : ◌≡◌ {A = ℕ} 0 1 = cc in absurd (omega arith)
+  accepts_on s k l ih (Refuse n) v h = let z : ◌≡◌ {A = ℕ} 0 1 = cc in absurd (omega arith)
 
   pub accepts : {c d : ℕ} (f : ℕ) (s : State) → run m f s ≡ Accepted c d → Accepts s (reads m f s) c d
   unfolding run reads
   accepts zero s h = let z : ◌≡◌ {A = ℕ} 0 1 = cc in absurd (omega arith)
-  accepts (suc f) s h = accepts-on s _ _ (λ s' q. accepts f s' q) (step m s) (view s) h
+  accepts (suc f) s h = accepts_on s _ _ (λ s' q. accepts f s' q) (step m s) (view s) h
 
   -- ---- from runs to trees
 
@@ -172,8 +172,8 @@ module _ (m : Map) (law : Laws m) where
   forward (match f e h w t) = let s = law.stands _ _ f in let a = forward t in omega arith
   forward (default f e h t) = let s = law.stands _ _ f in let a = forward t in omega arith
 
-  inside-more : {i : Instruction} {is : List Instruction} → (i.opcode ≡ JUMP → target_of i < m.bits) → JumpsInside m is → JumpsInside m (i ∷ is)
-  inside-more {i} {is} h g j p e = go (Memᴰ.cases_cons p)
+  inside_more : {i : Instruction} {is : List Instruction} → (i.opcode ≡ JUMP → target_of i < m.bits) → JumpsInside m is → JumpsInside m (i ∷ is)
+  inside_more {i} {is} h g j p e = go (Memᴰ.cases_cons p)
     where
       go : (j ≡ i) ⊎ Memᴰ j is → target_of j < m.bits
       go (inl q) = subst (λ (x : Instruction). x.opcode ≡ JUMP → target_of x < m.bits) (sym q) h e
@@ -186,13 +186,13 @@ module _ (m : Map) (law : Laws m) where
       go (inl q) = g j q e
       go (inr q) = h j q e
 
-  tree-inside : {b : Previous} {at left end : ℕ} {is : List Instruction} → Tree m b at left end is → JumpsInside m is
-  tree-inside (return f e d) = inside-more (λ q. absurd (omega arith)) λ j p _. absurd (Memᴰ.not-nil p)
-  tree-inside (jump f e h t t') =
-      let a = forward t' in inside-more (λ _. omega arith) (inside_both (tree-inside t) (tree-inside t'))
-  tree-inside (match f e h w t) = inside-more (λ q. absurd (omega arith)) (tree-inside t)
-  tree-inside (default f e h t) = inside-more (λ q. absurd (omega arith)) (tree-inside t)
+  tree_inside : {b : Previous} {at left end : ℕ} {is : List Instruction} → Tree m b at left end is → JumpsInside m is
+  tree_inside (return f e d) = inside_more (λ q. absurd (omega arith)) λ j p _. absurd (Memᴰ.not-nil p)
+  tree_inside (jump f e h t t') =
+      let a = forward t' in inside_more (λ _. omega arith) (inside_both (tree_inside t) (tree_inside t'))
+  tree_inside (match f e h w t) = inside_more (λ q. absurd (omega arith)) (tree_inside t)
+  tree_inside (default f e h t) = inside_more (λ q. absurd (omega arith)) (tree_inside t)
 
   -- document 01, Walk: an accepted map holds no JUMP that reaches the end, at which Core would stop
-  pub accepted-jumps-inside : {c d : ℕ} (w : ℕ) → check m w ≡ Accepted c d → JumpsInside m (unpacked m w)
-  accepted-jumps-inside w h = tree-inside (program w h).tree
+  pub accepted_jumps_inside : {c d : ℕ} (w : ℕ) → check m w ≡ Accepted c d → JumpsInside m (unpacked m w)
+  accepted_jumps_inside w h = tree_inside (program w h).tree

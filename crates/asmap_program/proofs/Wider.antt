@@ -13,7 +13,7 @@ use Rattle.asmap_program.specs.declared.Instruction.{Instruction}
 use Rattle.asmap_program.specs.declared.Verdict.{Verdict}
 use Rattle.asmap_program.specs.declared.Verdict.TheVariants.{Accepted}
 use Rattle.asmap_program.specs.Map.{end_of, target_of, Fetched, Whole, CutOpcode, CutOperand, Map, length_of}
-use Rattle.asmap_program.specs.Check.{Open, is_default, isShort, State, Outcome, Next, Done, Refuse, guard, past, closing, stepWhole, stepOn, step, after, run, listed, reads, start, check, unpacked}
+use Rattle.asmap_program.specs.Check.{Open, is_default, is_short, State, Outcome, Next, Done, Refuse, guard, past, closing, step_whole, step_on, step, after, run, listed, reads, start, check, unpacked}
 
 -- k address bits more, left and saved
 more : ℕ → List Open → List Open
@@ -29,10 +29,10 @@ Same k (Next i s) o = o ≡ Next i (widened k s)
 Same k (Done i c d) o = o ≡ Done i c d
 Same k (Refuse n) o = Unit {0}
 
-same-past : (k : ℕ) (opens : List Open) (p : ℕ) → past (more k opens) p ≡ past opens p
+same_past : (k : ℕ) (opens : List Open) (p : ℕ) → past (more k opens) p ≡ past opens p
 unfolding more
-same-past k [] p = refl
-same-past k (o ∷ opens) p = refl
+same_past k [] p = refl
+same_past k (o ∷ opens) p = refl
 
 same_length : (k : ℕ) (opens : List Open) → length (more k opens) ≡ length opens
 unfolding more
@@ -57,19 +57,19 @@ module _ (m : Map) (k : ℕ) where
   closing_same s i [] = tested k (not (m.padded (end_of i))) (not (m.padded (end_of i))) 6 _ _ (λ e. e) (λ e. refl)
   closing_same s i (o ∷ opens) = tested k (not (eqb (end_of i) o.target)) (not (eqb (end_of i) o.target)) 7 _ _ (λ e. e) (λ e. refl)
 
-  whole_same : (s : State) (i : Instruction) (c : ℕ) → Same k (stepWhole m s i c) (stepWhole m (widened k s) i c)
+  whole_same : (s : State) (i : Instruction) (c : ℕ) → Same k (step_whole m s i c) (step_whole m (widened k s) i c)
   unfolding more
   whole_same s i zero = tested k (is_default s.before) (is_default s.before) 5 _ _ (λ e. e) (λ e. closing_same s i s.opens)
   whole_same s i (suc zero) =
       tested k (eqb s.left 0) (eqb (s.left + k) 0) 8 _ _
       (λ e. let n = eqb-false s.left 0 e in ne_eqb (s.left + k) 0 (λ z. n (omega arith)))
-      (λ e. tested k (past s.opens (target_of i)) (past (more k s.opens) (target_of i)) 9 _ _ (λ h. same-past k s.opens (target_of i) ∙ h)
+      (λ e. tested k (past s.opens (target_of i)) (past (more k s.opens) (target_of i)) 9 _ _ (λ h. same_past k s.opens (target_of i) ∙ h)
       (λ h.
       let n = eqb-false s.left 0 e in
       let l : s.left + k - 1 ≡ s.left - 1 + k = omega (arith, n) in
       rw (l, same_length k s.opens)))
   whole_same s i (suc (suc zero)) =
-      let b = ltb (length_of i.operand) 8 && isShort s.before in
+      let b = ltb (length_of i.operand) 8 && is_short s.before in
       tested k b b 10 _ _ (λ e. e)
       (λ e. tested k (ltb s.left (length_of i.operand)) (ltb (s.left + k) (length_of i.operand)) 8 _ _
       (λ h. let l = ltb-false s.left (length_of i.operand) h in le-ltb (s.left + k) (length_of i.operand) (omega arith))
@@ -79,7 +79,7 @@ module _ (m : Map) (k : ℕ) where
       rw z))
   whole_same s i (suc (suc (suc n))) = tested k (is_default s.before) (is_default s.before) 5 _ _ (λ e. e) (λ e. refl)
 
-  on_same : (s : State) (r : Fetched) → Same k (stepOn m s r) (stepOn m (widened k s) r)
+  on_same : (s : State) (r : Fetched) → Same k (step_on m s r) (step_on m (widened k s) r)
   on_same s (Whole i) = whole_same s i i.opcode
   on_same s CutOpcode = tt
   on_same s (CutOperand op) = refused k _ 5 _ _
@@ -88,7 +88,7 @@ module _ (m : Map) (k : ℕ) where
   unfolding step
   step_same s =
       tested k (leb m.bits s.at) (leb m.bits s.at) 2 _ _ (λ e. e)
-      (λ e. tested k (past s.opens s.at) (past (more k s.opens) s.at) 3 _ _ (λ h. same-past k s.opens s.at ∙ h) (λ h. on_same s (m.fetch s.at)))
+      (λ e. tested k (past s.opens s.at) (past (more k s.opens) s.at) 3 _ _ (λ h. same_past k s.opens s.at ∙ h) (λ h. on_same s (m.fetch s.at)))
 
   -- the answer and the list after a step
   after_same : {c d : ℕ} (f : State → Verdict) (l : State → List Instruction)
@@ -98,14 +98,14 @@ module _ (m : Map) (k : ℕ) where
   after_same f l ih (Done i c' d') o' e h = rw e (h, refl)
   after_same f l ih (Refuse n) o' e h = let z : ◌≡◌ {A = ℕ} 0 1 = cc in absurd (omega arith)
 
-  run-same : {c d : ℕ} (f : ℕ) (s : State) → run m f s ≡ Accepted c d → (run m f (widened k s) ≡ Accepted c d) × (reads m f (widened k s) ≡ reads m f s)
+  run_same : {c d : ℕ} (f : ℕ) (s : State) → run m f s ≡ Accepted c d → (run m f (widened k s) ≡ Accepted c d) × (reads m f (widened k s) ≡ reads m f s)
   unfolding run reads
-  run-same zero s h = let z : ◌≡◌ {A = ℕ} 0 1 = cc in absurd (omega arith)
-  run-same (suc f) s h = after_same _ _ (λ t q. run-same f t q) (step m s) (step m (widened k s)) (step_same s) h
+  run_same zero s h = let z : ◌≡◌ {A = ℕ} 0 1 = cc in absurd (omega arith)
+  run_same (suc f) s h = after_same _ _ (λ t q. run_same f t q) (step m s) (step m (widened k s)) (step_same s) h
 
 -- accepted over w bits is accepted over more, and lists the same instructions
-pub accepted-wider : (m : Map) (w v c d : ℕ) → w ≤ v → check m w ≡ Accepted c d → (check m v ≡ Accepted c d) × (unpacked m v ≡ unpacked m w)
+pub accepted_wider : (m : Map) (w v c d : ℕ) → w ≤ v → check m w ≡ Accepted c d → (check m v ≡ Accepted c d) × (unpacked m v ≡ unpacked m w)
 unfolding check unpacked more
-accepted-wider m w v c d h e =
+accepted_wider m w v c d h e =
     let z : v ≡ w + (v - w) = omega arith in
-    rw z (run-same m (v - w) m.bits (start w) e)
+    rw z (run_same m (v - w) m.bits (start w) e)

@@ -7,7 +7,7 @@ use Rattle.asmap_program.specs.declared.Previous.{Previous}
 use Rattle.asmap_program.specs.declared.Previous.TheVariants.{Other, Short, Default}
 use Rattle.asmap_program.specs.declared.Verdict.{Verdict}
 use Rattle.asmap_program.specs.declared.Verdict.TheVariants.{Accepted, Refused}
-use Rattle.asmap_program.specs.Map.{RETURN, DEFAULT, end_of, target_of, Fetched, Whole, CutOpcode, CutOperand, Opcode, Operand, cutReason, Map, length_of}
+use Rattle.asmap_program.specs.Map.{RETURN, DEFAULT, end_of, target_of, Fetched, Whole, CutOpcode, CutOperand, Opcode, Operand, cut_reason, Map, length_of}
 
 -- Of the opcode before ("previous"), the check asks two things. Was it a DEFAULT?
 abbrev pub is_default : Previous → Bool
@@ -16,14 +16,14 @@ is_default Short = false
 is_default Other = false
 
 -- Was it a MATCH shorter than 8?
-abbrev pub isShort : Previous → Bool
-isShort Short = true
-isShort Default = false
-isShort Other = false
+abbrev pub is_short : Previous → Bool
+is_short Short = true
+is_short Default = false
+is_short Other = false
 
 -- What a MATCH of length n is remembered as. A full one, of 8, is like a JUMP: a short MATCH may follow it.
-abbrev pub afterMatch : ℕ → Previous
-afterMatch n = cond (ltb n 8) Short Other
+abbrev pub after_match : ℕ → Previous
+after_match n = cond (ltb n 8) Short Other
 
 -- An open jump: its target, and the address bits that are left for what stands there ("saved bits").
 pub record Open : Type 0 where
@@ -87,12 +87,12 @@ opening s i =
 -- it uses as many bits as it is long.
 abbrev pub matching : State → Instruction → Outcome
 matching s i =
-    guard (ltb (length_of i.operand) 8 && isShort s.before) 10
+    guard (ltb (length_of i.operand) 8 && is_short s.before) 10
     (guard (ltb s.left (length_of i.operand)) 8
     (Next i (record {
       at = end_of i;
       left = s.left - length_of i.operand;
-      before = afterMatch (length_of i.operand);
+      before = after_match (length_of i.operand);
       opens = s.opens;
       count = suc s.count;
       deepest = s.deepest;
@@ -103,22 +103,22 @@ abbrev pub defaulting : State → Instruction → Outcome
 defaulting s i = Next i (record { at = end_of i; left = s.left; before = Default; opens = s.opens; count = suc s.count; deepest = s.deepest })
 
 -- Check, at an instruction read whole, by its opcode: RETURN, JUMP, MATCH, DEFAULT. RETURN and DEFAULT are 5 after a DEFAULT.
-abbrev pub stepWhole : Map → State → Instruction → ℕ → Outcome
-stepWhole m s i zero = guard (is_default s.before) 5 (closing m s i s.opens)
-stepWhole m s i (suc zero) = opening s i
-stepWhole m s i (suc (suc zero)) = matching s i
-stepWhole m s i (suc (suc (suc n))) = guard (is_default s.before) 5 (defaulting s i)
+abbrev pub step_whole : Map → State → Instruction → ℕ → Outcome
+step_whole m s i zero = guard (is_default s.before) 5 (closing m s i s.opens)
+step_whole m s i (suc zero) = opening s i
+step_whole m s i (suc (suc zero)) = matching s i
+step_whole m s i (suc (suc (suc n))) = guard (is_default s.before) 5 (defaulting s i)
 
 -- Check, by what can be read here. A cut opcode, or a cut operand, is refused with the number of its cut; but where a RETURN or a DEFAULT
 -- stands after a DEFAULT, 5 comes first, since the opcode alone shows it.
-abbrev pub stepOn : Map → State → Fetched → Outcome
-stepOn m s (Whole i) = stepWhole m s i i.opcode
-stepOn m s CutOpcode = Refuse (cutReason Opcode)
-stepOn m s (CutOperand op) = guard (is_default s.before && (eqb op RETURN || eqb op DEFAULT)) 5 (Refuse (cutReason Operand))
+abbrev pub step_on : Map → State → Fetched → Outcome
+step_on m s (Whole i) = step_whole m s i i.opcode
+step_on m s CutOpcode = Refuse (cut_reason Opcode)
+step_on m s (CutOperand op) = guard (is_default s.before && (eqb op RETURN || eqb op DEFAULT)) 5 (Refuse (cut_reason Operand))
 
 -- Check, one step: 2 at the map's end, 3 where the place is not before the innermost open target, else by what can be read here.
 unfoldable pub step : Map → State → Outcome
-step m s = guard (leb m.bits s.at) 2 (guard (past s.opens s.at) 3 (stepOn m s (m.fetch s.at)))
+step m s = guard (leb m.bits s.at) 2 (guard (past s.opens s.at) 3 (step_on m s (m.fetch s.at)))
 
 -- The answer after a step, k being the answer from a state on.
 abbrev pub after : (State → Verdict) → Outcome → Verdict
@@ -149,8 +149,8 @@ stops m zero s = s.at
 stops m (suc f) s = stopping s.at (λ (s' : State). stops m f s') (step m s)
 
 -- The place at which the check of a map over w address bits stops.
-unfoldable pub stopOf : Map → ℕ → ℕ
-stopOf m w = stops m m.bits (start w)
+unfoldable pub stop_of : Map → ℕ → ℕ
+stop_of m w = stops m m.bits (start w)
 
 -- Whether a verdict is an acceptance: all that Core's check answers.
 abbrev pub accepted : Verdict → Bool

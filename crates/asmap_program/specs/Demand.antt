@@ -9,14 +9,14 @@ use Rattle.asmap_program.specs.Map.{RETURN, MATCH, DEFAULT}
 use Rattle.asmap_program.specs.Walk.{Walked, count_of}
 
 -- The operand of the last DEFAULT among the instructions; d where none is among them.
-unfoldable pub defaultAfter : ℕ → List Instruction → ℕ
-defaultAfter d [] = d
-defaultAfter d (i ∷ is) = defaultAfter (cond (eqb i.opcode DEFAULT) i.operand d) is
+unfoldable pub default_after : ℕ → List Instruction → ℕ
+default_after d [] = d
+default_after d (i ∷ is) = default_after (cond (eqb i.opcode DEFAULT) i.operand d) is
 
 -- Document 01, Walk, the default after the instructions read: 0 until a DEFAULT is among them, then the last one's operand. Neither
 -- a JUMP nor a place in the map undoes it: only what was read counts.
-abbrev pub lastDefault : List Instruction → ℕ
-lastDefault is = defaultAfter 0 is
+abbrev pub last_default : List Instruction → ℕ
+last_default is = default_after 0 is
 
 -- No DEFAULT is among the instructions.
 abbrev pub NoDefault : List Instruction → Type 0
@@ -31,7 +31,7 @@ abbrev pub Answers : Kind → Type 0
 Answers k = (k ≡ Returned) ⊎ (k ≡ Differed)
 
 -- The three ends that have none (document 02, CR 5: a cut opcode or a cut operand; document 01, Walk: too few address bits). Every kind is of these
--- or of the two above, and none is of both (`proofs/Default: ends-either-way`, `never_both`).
+-- or of the two above, and none is of both (`proofs/Default: ends_either_way`, `never_both`).
 abbrev pub Aborts : Kind → Type 0
 Aborts k = (k ≡ OpcodeCut) ⊎ ((k ≡ OperandCut) ⊎ (k ≡ TooFewBits))
 
@@ -45,7 +45,7 @@ pub record EndsWith (d : ℕ) (r : Walked) : Type 0 where
 
 -- The same, where that number is the default last read, or 0.
 abbrev pub Finishes : Walked → Type 0
-Finishes r = EndsWith (lastDefault r.read) r
+Finishes r = EndsWith (last_default r.read) r
 
 -- A walk r over the list of an accepted map of width w: it ends as told above and so never aborts, reads at most w address bits, has a
 -- count of at most twice the bits read and one, which is 2 w + 1 at most, and each instruction that it reads is in the list.

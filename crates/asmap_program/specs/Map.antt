@@ -44,9 +44,9 @@ pub data Part : Type 0 where
 -- The number for a code that the map's end cuts, by the part of an instruction that it is (document 02, CR 5: "19 where the operand is cut; 4
 -- keeps the opcode"). This is the only place that says so: the check, an instruction read, a code read alone and a walk's kind of end take it
 -- from here.
-abbrev pub cutReason : Part → ℕ
-cutReason Opcode = 4
-cutReason Operand = 19
+abbrev pub cut_reason : Part → ℕ
+cut_reason Opcode = 4
+cut_reason Operand = 19
 
 -- A map. fetch: what can be read at a place. bits: how many bits the map has. padded: whether the bits from a place to the end may
 -- follow the final RETURN, that is, whether they are at most 7 and all zeros (document 01, Check, RETURN).
@@ -76,14 +76,14 @@ abbrev pub bit_of : ℕ → ℕ → ℕ
 bit_of x k = x / 2 ^ k % 2
 
 -- How often x can be halved before it is below 2; f bounds the halvings.
-unfoldable pub lengthIn : ℕ → ℕ → ℕ
-lengthIn zero x = 0
-lengthIn (suc f) x = cond (leb 2 x) (suc (lengthIn f (x / 2))) 0
+unfoldable pub length_in : ℕ → ℕ → ℕ
+length_in zero x = 0
+length_in (suc f) x = cond (leb 2 x) (suc (length_in f (x / 2))) 0
 
 -- Document 01, Check, MATCH: how many address bits a MATCH compares. Its operand's bits below the leading one, which is its bit width
 -- less one; an operand has at most 32 bits.
 unfoldable pub length_of : ℕ → ℕ
-length_of x = lengthIn 32 x
+length_of x = length_in 32 x
 
 -- Document 01, Forms: what `bit_width` answers for a number of 32 bits. 0 has no bits; any other number has r of them when it lies from
 -- 2 ^ (r - 1) to below 2 ^ r, and a MATCH with that operand is one shorter.
@@ -94,9 +94,9 @@ pub record Width (x r : ℕ) : Type 0 where
   pub length : 0 < x → r ≡ length_of x + 1
 
 -- Document 01, Codes: the address bit number u, each byte from its highest bit down.
-abbrev pub addressBit : List ℕ → ℕ → ℕ
-addressBit bytes u = bit_of (get_or bytes (u / 8) 0) (7 - u % 8)
+abbrev pub address_bit : List ℕ → ℕ → ℕ
+address_bit bytes u = bit_of (get_or bytes (u / 8) 0) (7 - u % 8)
 
 -- Document 01, Walk, the last sentence: the 16 bytes for an IPv4 address of four bytes (the mapped form).
-abbrev pub ipv4Mapped : List ℕ → List ℕ
-ipv4Mapped four = (0 ∷ 0 ∷ 0 ∷ 0 ∷ 0 ∷ 0 ∷ 0 ∷ 0 ∷ 0 ∷ 0 ∷ 255 ∷ 255 ∷ []) ++ four
+abbrev pub ipv4_mapped : List ℕ → List ℕ
+ipv4_mapped four = (0 ∷ 0 ∷ 0 ∷ 0 ∷ 0 ∷ 0 ∷ 0 ∷ 0 ∷ 0 ∷ 0 ∷ 255 ∷ 255 ∷ []) ++ four

@@ -6,7 +6,7 @@ use Rattle.asmap_program.specs.declared.Instruction.{Instruction}
 use Rattle.asmap_program.specs.declared.Previous.{Previous}
 use Rattle.asmap_program.specs.declared.Previous.TheVariants.{Other, Default}
 use Rattle.asmap_program.specs.Map.{RETURN, JUMP, MATCH, DEFAULT, end_of, target_of, Whole, Map, length_of}
-use Rattle.asmap_program.specs.Check.{is_default, isShort, afterMatch}
+use Rattle.asmap_program.specs.Check.{is_default, is_short, after_match}
 
 module _ (m : Map) where
   -- Tree before at left end is: read from `at` with `left` address bits, after `before`, the instructions `is`, in order of place, are a
@@ -24,8 +24,8 @@ module _ (m : Map) where
         → Tree b at left end (i ∷ (is ++ js))
     match : {b : Previous} {at left end : ℕ} {i : Instruction} {is : List Instruction}
         → m.fetch at ≡ Whole i → i.opcode ≡ MATCH → length_of i.operand ≤ left
-        → (ltb (length_of i.operand) 8 && isShort b) ≡ false
-        → Tree (afterMatch (length_of i.operand)) (end_of i) (left - length_of i.operand) end is
+        → (ltb (length_of i.operand) 8 && is_short b) ≡ false
+        → Tree (after_match (length_of i.operand)) (end_of i) (left - length_of i.operand) end is
         → Tree b at left end (i ∷ is)
     default : {b : Previous} {at left end : ℕ} {i : Instruction} {is : List Instruction}
         → m.fetch at ≡ Whole i → i.opcode ≡ DEFAULT → is_default b ≡ false

@@ -22,8 +22,8 @@ count_of r = length r.read
 
 -- Walk, the start with w address bits: map bit 0, none of them used, default 0. The state carries the width (document 02, CR 3), and no turn
 -- changes it.
-abbrev pub walkStart : ℕ → Walker
-walkStart w = record { at = 0; used = 0; width = w; default = 0 }
+abbrev pub walk_start : ℕ → Walker
+walk_start w = record { at = 0; used = 0; width = w; default = 0 }
 
 -- What a turn of the walk comes to: behind an instruction, on; or the end.
 pub data Turn : Type 0 where
@@ -49,9 +49,9 @@ abbrev pub push : Instruction → Walked → Walked
 push i r = record { kind = r.kind; number = r.number; bits = r.bits; read = i ∷ r.read }
 
 -- The result after a turn, k being the result from a state on.
-abbrev pub goOn : (Walker → Walked) → Turn → Walked
-goOn k (Goes i s) = push i (k s)
-goOn k (Stops r) = r
+abbrev pub go_on : (Walker → Walked) → Turn → Walked
+go_on k (Goes i s) = push i (k s)
+go_on k (Stops r) = r
 
 -- a: the address, its bit at each place
 module _ (a : ℕ → ℕ) where
@@ -70,28 +70,28 @@ module _ (a : ℕ → ℕ) (m : Map) where
   -- Walk, at an instruction read whole, by its opcode. RETURN ends the walk with its operand. JUMP uses an address bit, and goes to its
   -- target where that is 1 (though the target be past the map's end), else to its end. MATCH compares its operand's bits below the
   -- leading one. DEFAULT makes its operand the default, until another does; it uses no address bit.
-  abbrev pub turnWhole : Walker → Instruction → ℕ → Turn
-  turnWhole s i zero = Stops (record { kind = Returned; number = i.operand; bits = s.used; read = i ∷ [] })
-  turnWhole s i (suc zero) =
+  abbrev pub turn_whole : Walker → Instruction → ℕ → Turn
+  turn_whole s i zero = Stops (record { kind = Returned; number = i.operand; bits = s.used; read = i ∷ [] })
+  turn_whole s i (suc zero) =
       enough (ltb s.used s.width) s i
       (Goes i (record { at = cond (eqb (a s.used) 1) (target_of i) (end_of i); used = suc s.used; width = s.width; default = s.default }))
-  turnWhole s i (suc (suc zero)) =
+  turn_whole s i (suc (suc zero)) =
       enough (leb (s.used + length_of i.operand) s.width) s i (meeting s i (compared a (length_of i.operand) i.operand s.used))
-  turnWhole s i (suc (suc (suc n))) = Goes i (record { at = end_of i; used = s.used; width = s.width; default = i.operand })
+  turn_whole s i (suc (suc (suc n))) = Goes i (record { at = end_of i; used = s.used; width = s.width; default = i.operand })
 
   -- Walk, by what can be read here: a code cut by the map's end aborts, and its instruction is not read. The kind tells which of the two codes
   -- it was (document 02, CR 5).
-  abbrev pub turnOn : Walker → Fetched → Turn
-  turnOn s (Whole i) = turnWhole s i i.opcode
-  turnOn s CutOpcode = aborted OpcodeCut s []
-  turnOn s (CutOperand op) = aborted OperandCut s []
+  abbrev pub turn_on : Walker → Fetched → Turn
+  turn_on s (Whole i) = turn_whole s i i.opcode
+  turn_on s CutOpcode = aborted OpcodeCut s []
+  turn_on s (CutOperand op) = aborted OperandCut s []
 
   -- Turns until one ends the walk. Each goes forward by a bit of the map at least, so with a turn for each bit none is wanting: when they
   -- are used up the place is the map's end or past it, where an opcode is cut.
-  unfoldable pub walkFrom : ℕ → Walker → Walked
-  walkFrom zero s = record { kind = OpcodeCut; number = 0; bits = s.used; read = [] }
-  walkFrom (suc f) s = goOn (λ (s' : Walker). walkFrom f s') (turnOn s (m.fetch s.at))
+  unfoldable pub walk_from : ℕ → Walker → Walked
+  walk_from zero s = record { kind = OpcodeCut; number = 0; bits = s.used; read = [] }
+  walk_from (suc f) s = go_on (λ (s' : Walker). walk_from f s') (turn_on s (m.fetch s.at))
 
   -- The walk of the address, by its first w bits, through the map.
   unfoldable pub walk : ℕ → Walked
-  walk w = walkFrom m.bits (walkStart w)
+  walk w = walk_from m.bits (walk_start w)

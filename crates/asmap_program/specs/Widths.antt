@@ -3,9 +3,9 @@
 use Rattle.std.specs.Prelude.{ℕ, Bool, ◌||◌, cond, eqb}
 
 -- A map for addresses of four bytes has 32, any other map 128.
-abbrev pub isWidth : ℕ → Bool
-isWidth w = eqb w 32 || eqb w 128
+abbrev pub is_width : ℕ → Bool
+is_width w = eqb w 32 || eqb w 128
 
 -- What a call at the width w comes to. "18, first of all, for a width that is neither"; `refused` makes a number that call's refusal.
-unfoldable pub atWidth : {A : Type 0} → ℕ → (ℕ → A) → A → A
-atWidth w refused answer = cond (isWidth w) answer (refused 18)
+unfoldable pub at_width : {A : Type 0} → ℕ → (ℕ → A) → A → A
+at_width w refused answer = cond (is_width w) answer (refused 18)

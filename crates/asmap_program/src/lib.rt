@@ -3,7 +3,7 @@
 ghost use Rattle.std.specs.Prelude.{◌≡◌, ◌<◌};
 ghost use Rattle.asmap_program.specs.Map.{length_of, Width};
 ghost use Rattle.asmap_program.specs.Map as opcode;
-ghost use Rattle.asmap_program.specs.Widths.{isWidth};
+ghost use Rattle.asmap_program.specs.Widths.{is_width};
 
 // A map has at most so many bytes (document 01, "What a call hands back", 1).
 pub const MAX_MAP_BYTES: usize = 16777216;
@@ -19,7 +19,7 @@ pub const CUT_OPERAND: u8 = 19;
 
 // Whether a call can be made at this width: 32 bits, as addresses of four bytes have, or 128.
 pub fn is_width(width: u32) -> bool
-    ensures { result ≡ isWidth width }
+    ensures { result ≡ is_width width }
 {
     if width == 32 {
         return true;

@@ -45,19 +45,19 @@ abbrev pub machine : BitReader → List Val
 machine d = T'.lowered d ∷ []
 
 -- that a reader has no other
-abbrev pub reader-vals : Lfts 1 → BitReader → List Val
-reader-vals κs = LL.vals (T.the_type (lft κs)) (T'.the_laws (lft κs))
+abbrev pub reader_vals : Lfts 1 → BitReader → List Val
+reader_vals κs = LL.vals (T.the_type (lft κs)) (T'.the_laws (lft κs))
 
-pub reader-tells : (κs : Lfts 1) → Tells (Reader κs) (Is (Reader κs)) (reader-vals κs)
-reader-tells κs = LL.tells (T.the_type (lft κs)) (T'.the_laws (lft κs))
+pub reader_tells : (κs : Lfts 1) → Tells (Reader κs) (Is (Reader κs)) (reader_vals κs)
+reader_tells κs = LL.tells (T.the_type (lft κs)) (T'.the_laws (lft κs))
 
 -- a reader of the same map at n
 pub reader_at : (κs : Lfts 1) (d : BitReader) → Is (Reader κs) d (machine d) → (n : ℕ) → n < 2 ^ 64 → Is (Reader κs) (record { map = d.map; at = n }) (machine (record { map = d.map; at = n }))
 reader_at κs d is n ok = LL.owes (T.the_type (lft κs)) (T'.the_laws (lft κs)) (record { map = d.map; at = n }) ((LL.owed (T.the_type (lft κs)) (T'.the_laws (lft κs)) d _ is).0, ((refl, ok), tt))
 
 module _ {M : Type 1} {𝓤 : Ura M} (𝓛 : Logic 𝓤) where
-  pub reader-typed : (α : NamedLft) (d : BitReader) (vs : List Val) → Is (T.the_row α) d vs → Typed (T.the_row α).mir vs
-  reader-typed α d vs is = (LL.lawful (T.the_type α) (T'.the_laws α) 𝓛).typed d vs is
+  pub reader_typed : (α : NamedLft) (d : BitReader) (vs : List Val) → Is (T.the_row α) d vs → Typed (T.the_row α).mir vs
+  reader_typed α d vs is = (LL.lawful (T.the_type α) (T'.the_laws α) 𝓛).typed d vs is
 
   module _ (κs : Lfts 1) where
     -- what a map owns
@@ -74,8 +74,8 @@ module _ {M : Type 1} {𝓤 : Ura M} (𝓛 : Logic 𝓤) where
         use1 𝓛 (‵ (Map d.map) ⊛ ‵ (rest D.parts L 0 (d.map, (d.at, tt)))) (own_out 𝓛 D.parts L 0 (d.map, (d.at, tt))) $ split ! $ move ! (1 ∷ []) $ drop ! $ done !)
 
     -- from a map to a reader of it
-    pub reader-of : (d : BitReader) → d.at < 2 ^ 64 → ent 𝓤 (sem 𝓛 (Map d.map)) (sem 𝓛 ((Reader κs).own_val d (machine d)))
-    reader-of d ok =
+    pub reader_of : (d : BitReader) → d.at < 2 ^ 64 → ent 𝓤 (sem 𝓛 (Map d.map)) (sem 𝓛 ((Reader κs).own_val d (machine d)))
+    reader_of d ok =
         qed 𝓛 (‵ (Map d.map) ∷ []) ∵
         nothing ! $ owned ! usize (Is usize) (uint_Makes 𝓛 w64) d.at _ (refl, ok) $ fjoin ! $ move ! (1 ∷ 0 ∷ []) $ fjoin ! $ by ! (own_shut 𝓛 (T.the_type (lft κs)) (T'.the_laws (lft κs)) (d.map, (d.at, tt)))
 

@@ -3,7 +3,7 @@
 use Rattle.std.specs.Prelude.{ℕ, List}
 use Rattle.asmap_codes.specs.declared.Decoded.{Decoded}
 use Rattle.asmap_items.specs.declared.Item.{Item}
-use Rattle.asmap_items.specs.Items.{readItem, placeAfter, bitsLeft}
+use Rattle.asmap_items.specs.Items.{read_item, place_after, bits_left}
 use Rattle.asmap_reader.specs.declared.BitReader.{BitReader}
 use Rattle.asmap_reader.specs.declared.Read.{Read}
 use Rattle.asmap_reader.specs.declared.Step.{Step}
@@ -14,16 +14,16 @@ moved_to r at = record { map = r.map; at = at }
 
 -- What a read hands back: what was found, and the reader at the place after it.
 abbrev pub handed : BitReader → Decoded → Read
-handed r got = record { got = got; reader = moved_to r (placeAfter r.at got) }
+handed r got = record { got = got; reader = moved_to r (place_after r.at got) }
 
 -- A read: what is asked for is looked for at the reader's place.
 abbrev pub read_by : BitReader → Item → Read
-read_by r item = handed r (readItem r.map.now r.at item)
+read_by r item = handed r (read_item r.map.now r.at item)
 
 -- The same in plain numbers: what was found, the place after it, and the bits left there.
 abbrev pub told : List ℕ → ℕ → Decoded → Step
-told m at got = record { got = got; place = placeAfter at got; left = bitsLeft m (placeAfter at got) }
+told m at got = record { got = got; place = place_after at got; left = bits_left m (place_after at got) }
 
 -- A read at a place of a map.
-abbrev pub stepAt : List ℕ → ℕ → Item → Step
-stepAt m at item = told m at (readItem m at item)
+abbrev pub step_at : List ℕ → ℕ → Item → Step
+step_at m at item = told m at (read_item m at item)

@@ -2,8 +2,8 @@
 // function over it is proved by hand, so they are few and thin: they take the reader apart and leave the work to `asmap_items`, whose
 // functions take a plain slice and a number. A caller that holds no reader uses `read_at`.
 ghost use Rattle.std.specs.Prelude.{◌≡◌};
-ghost use Rattle.asmap_items.specs.Items.{bitsLeft};
-ghost use Rattle.asmap_reader.specs.Reader.{moved_to, read_by, stepAt};
+ghost use Rattle.asmap_items.specs.Items.{bits_left};
+ghost use Rattle.asmap_reader.specs.Reader.{moved_to, read_by, step_at};
 
 use asmap_codes::Decoded;
 use asmap_items::{Item, bits_left, decode_item, place_after};
@@ -56,7 +56,7 @@ impl<'a> BitReader<'a> {
 
     // How many bits are left to read.
     pub fn left(self) -> usize
-        ensures { result ≡ bitsLeft self.entry.map.now self.entry.at }
+        ensures { result ≡ bits_left self.entry.map.now self.entry.at }
     {
         bits_left(self.map, self.at)
     }
@@ -80,7 +80,7 @@ impl<'a> BitReader<'a> {
 
 // One read at a bit of a map, with a reader that is made and moved there. Refusals 1, then 4 or 19; nothing is asked of the caller.
 pub fn read_at(map: &[u8], at: usize, item: Item) -> Step
-    ensures { result ≡ stepAt map.now at item }
+    ensures { result ≡ step_at map.now at item }
 {
     let read = BitReader::new(map).moved(at).read(item);
     Step {

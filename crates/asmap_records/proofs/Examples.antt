@@ -3,18 +3,18 @@ use Prim.Native.Nat.{ℕ}
 use mathlib.Core.Path.{◌≡◌, refl}
 use mathlib.Core.List.{List, [], ◌∷◌, ◌++◌, map}
 use Rattle.asmap_program.specs.Check.{check, run, reads, step, guard, unpacked}
-use Rattle.asmap_program.specs.Map.{lengthIn, length_of}
-use Rattle.asmap_codes.specs.Encode.{instructionBits}
-use Rattle.asmap_codes.specs.Instruction.{fetchAt, paddedFrom, mapOf}
-use Rattle.asmap_records.specs.Record.{recordOf}
+use Rattle.asmap_program.specs.Map.{length_in, length_of}
+use Rattle.asmap_codes.specs.Encode.{instruction_bits}
+use Rattle.asmap_codes.specs.Instruction.{fetch_at, padded_from, map_of}
+use Rattle.asmap_records.specs.Record.{record_of}
 use Rattle.asmap_bit_writer.specs.Bytes.{bytes_of}
 use Rattle.asmap_records.specs.Output.{Result, Made, No, refuse}
-use Rattle.asmap_records.specs.Pack.{fieldBits, recordBits, packBits, packOf}
-use Rattle.asmap_records.specs.Unpack.{unpackOf}
+use Rattle.asmap_records.specs.Pack.{field_bits, record_bits, pack_bits, pack_of}
+use Rattle.asmap_records.specs.Unpack.{unpack_of}
 
 -- a record from its four fields
 abbrev fields : ℕ → ℕ → ℕ → ℕ → List ℕ
-fields op v place size = recordOf (record { opcode = op; operand = v; place = place; size = size })
+fields op v place size = record_of (record { opcode = op; operand = v; place = place; size = size })
 
 -- JUMP 17 over a RETURN 1 to a RETURN 1: 8, 17 and 17 bits, six bytes
 abbrev jump : List ℕ
@@ -55,18 +55,18 @@ answers =
     ∷ No 16
     ∷ []
 
-pub pack-examples : map packOf lists ≡ answers
-unfolding packOf packBits refuse fieldBits bytes_of instructionBits
+pub pack-examples : map pack_of lists ≡ answers
+unfolding pack_of pack_bits refuse field_bits bytes_of instruction_bits
 pack-examples = refl
 
-pub unpack-examples : map (λ (m : List ℕ). unpackOf m 128) ((0 ∷ 0 ∷ 0 ∷ []) ∷ (1 ∷ 0 ∷ 0 ∷ 0 ∷ 0 ∷ 0 ∷ []) ∷ [] ∷ [])
+pub unpack-examples : map (λ (m : List ℕ). unpack_of m 128) ((0 ∷ 0 ∷ 0 ∷ []) ∷ (1 ∷ 0 ∷ 0 ∷ 0 ∷ 0 ∷ 0 ∷ []) ∷ [] ∷ [])
     ≡ Made (fields 0 1 0 17) ∷ Made jump ∷ No 2 ∷ []
-unfolding unpackOf mapOf check unpacked run reads step guard fetchAt paddedFrom length_of lengthIn
+unfolding unpack_of map_of check unpacked run reads step guard fetch_at padded_from length_of length_in
 unpack-examples = refl
 
 -- a record that ends on the last bit of the greatest map, one that ends past it, and one that does so at a wrong place
-pub end-examples : (recordBits (fields 2 2 134217723 5) 134217723 ≡ Made (1 ∷ 1 ∷ 0 ∷ 0 ∷ 0 ∷ []))
-    × (recordBits (fields 2 2 134217724 5) 134217724 ≡ No 1)
-    × (recordBits (fields 2 2 134217725 5) 134217724 ≡ No 16)
-unfolding refuse fieldBits instructionBits
+pub end-examples : (record_bits (fields 2 2 134217723 5) 134217723 ≡ Made (1 ∷ 1 ∷ 0 ∷ 0 ∷ 0 ∷ []))
+    × (record_bits (fields 2 2 134217724 5) 134217724 ≡ No 1)
+    × (record_bits (fields 2 2 134217725 5) 134217724 ≡ No 16)
+unfolding refuse field_bits instruction_bits
 end-examples = (refl, refl, refl)

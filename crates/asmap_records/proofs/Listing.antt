@@ -25,13 +25,13 @@ module _ (m : Map) where
   whole_same e e' = cc
 
   -- two listings from one place to places where nothing stands are the same
-  pub one-listing : {p q r : ℕ} {is js : List Instruction} → Listing p is q → Listing p js r → Stop q → Stop r → is ≡ js
-  one-listing none none h k = refl
-  one-listing none (then {i} f l) h k = absurd (h i f)
-  one-listing (then {i} f l) none h k = absurd (k i f)
-  one-listing {r} (then {i} {is} f l) (then {i = j} {is = js} g l') h k =
+  pub one_listing : {p q r : ℕ} {is js : List Instruction} → Listing p is q → Listing p js r → Stop q → Stop r → is ≡ js
+  one_listing none none h k = refl
+  one_listing none (then {i} f l) h k = absurd (h i f)
+  one_listing (then {i} f l) none h k = absurd (k i f)
+  one_listing {r} (then {i} {is} f l) (then {i = j} {is = js} g l') h k =
       let e : j ≡ i = whole_same g f in
-      ap₂ ◌∷◌ (sym e) (one-listing {r = r} l (subst (λ (x : Instruction). Listing (end_of x) js r) e l') h k)
+      ap₂ ◌∷◌ (sym e) (one_listing {r = r} l (subst (λ (x : Instruction). Listing (end_of x) js r) e l') h k)
 
   -- an accepted run: its instructions stand one after the other, up to a place from which the padding is right
   pub record Listed (p : ℕ) (is : List Instruction) : Type 0 where
@@ -45,6 +45,6 @@ module _ (m : Map) where
       let r = rw (moved m v) at (listed-run a) in
       record { end = r.end; all = then f r.all; tail = r.tail }
 
-  pub accepted-lists : {c d : ℕ} (w : ℕ) → check m w ≡ Accepted c d → Listed 0 (unpacked m w)
+  pub accepted_lists : {c d : ℕ} (w : ℕ) → check m w ≡ Accepted c d → Listed 0 (unpacked m w)
   unfolding check unpacked
-  accepted-lists w h = listed-run (accepts m m.bits (start w) h)
+  accepted_lists w h = listed-run (accepts m m.bits (start w) h)

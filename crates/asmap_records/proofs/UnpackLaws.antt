@@ -8,37 +8,37 @@ use Rattle.asmap_program.specs.declared.Verdict.{Verdict}
 use Rattle.asmap_program.specs.declared.Verdict.TheVariants.{Accepted, Refused}
 use Rattle.asmap_program.specs.Check.{check, unpacked}
 use Rattle.asmap_program.proofs.Depth.{carries}
-use Rattle.asmap_codes.specs.Instruction.{mapOf}
-use Rattle.asmap_check.specs.Check.{checkOf}
-use Rattle.asmap_check.proofs.Limit.{accepted-within}
-use Rattle.asmap_records.specs.Record.{recordsOf}
+use Rattle.asmap_codes.specs.Instruction.{map_of}
+use Rattle.asmap_check.specs.Check.{check_of}
+use Rattle.asmap_check.proofs.Limit.{accepted_within}
+use Rattle.asmap_records.specs.Record.{records_of}
 use Rattle.asmap_records.specs.Output.{Made}
-use Rattle.asmap_records.specs.Unpack.{unpackAs, unpackOf}
-use Rattle.asmap_records.proofs.RecordLaws.{length-records}
+use Rattle.asmap_records.specs.Unpack.{unpack_as, unpack_of}
+use Rattle.asmap_records.proofs.RecordLaws.{length_records}
 
 module _ (m : List ℕ) (w : ℕ) where
-  pub unpack-as : (v : Verdict) → v ≡ checkOf m w → unpackOf m w ≡ unpackAs m w v
-  unfolding unpackOf
-  unpack-as v e = ap (unpackAs m w) (sym e)
+  pub unpack_as_lem : (v : Verdict) → v ≡ check_of m w → unpack_of m w ≡ unpack_as m w v
+  unfolding unpack_of
+  unpack_as_lem v e = ap (unpack_as m w) (sym e)
 
   -- sixteen bytes for each instruction counted
-  pub unpack-length : (c d : ℕ) → check (mapOf m) w ≡ Accepted c d → length (recordsOf (unpacked (mapOf m) w)) ≡ 16 * c
-  unpack-length c d e = length-records (unpacked (mapOf m) w) ∙ ap (λ (n : ℕ). 16 * n) (sym (carries (mapOf m) w e).0)
+  pub unpack-length : (c d : ℕ) → check (map_of m) w ≡ Accepted c d → length (records_of (unpacked (map_of m) w)) ≡ 16 * c
+  unpack-length c d e = length_records (unpacked (map_of m) w) ∙ ap (λ (n : ℕ). 16 * n) (sym (carries (map_of m) w e).0)
 
   -- what an unpacked map is
   pub record Unpacks (rs : List ℕ) : Type 0 where
     pub count : ℕ
     pub depth : ℕ
     pub short : length m ≤ 16777216
-    pub accepted : check (mapOf m) w ≡ Accepted count depth
-    pub records : rs ≡ recordsOf (unpacked (mapOf m) w)
+    pub accepted : check (map_of m) w ≡ Accepted count depth
+    pub records : rs ≡ records_of (unpacked (map_of m) w)
 
-  pub unpacks : (rs : List ℕ) → unpackOf m w ≡ Made rs → Unpacks rs
-  unfolding unpackOf
-  unpacks rs h = go (checkOf m w) refl h
+  pub unpacks : (rs : List ℕ) → unpack_of m w ≡ Made rs → Unpacks rs
+  unfolding unpack_of
+  unpacks rs h = go (check_of m w) refl h
     where
-      go : (a : Verdict) → checkOf m w ≡ a → unpackAs m w a ≡ Made rs → Unpacks rs
+      go : (a : Verdict) → check_of m w ≡ a → unpack_as m w a ≡ Made rs → Unpacks rs
       go (Accepted c d) e q =
-          let s = accepted-within m w c d e in
+          let s = accepted_within m w c d e in
           record { count = c; depth = d; short = s.0; accepted = s.1; records = cc }
       go (Refused n) e q = let z : ◌≡◌ {A = ℕ} 0 1 = cc in absurd (omega arith)

@@ -8,10 +8,10 @@ abbrev pub zeros3 : List ℕ → Bool
 zeros3 l = eqb (get_or l 1 0) 0 && eqb (get_or l 2 0) 0 && eqb (get_or l 3 0) 0
 
 -- The record of an instruction: its opcode in one byte, three zeros, its operand, its place and its length in bits.
-abbrev pub recordOf : Instruction → List ℕ
-recordOf i = (i.opcode ∷ 0 ∷ 0 ∷ 0 ∷ []) ++ bytes4 i.operand ++ bytes4 i.place ++ bytes4 i.size
+abbrev pub record_of : Instruction → List ℕ
+record_of i = (i.opcode ∷ 0 ∷ 0 ∷ 0 ∷ []) ++ bytes4 i.operand ++ bytes4 i.place ++ bytes4 i.size
 
 -- The records of instructions, one after the other.
-abbrev pub recordsOf : List Instruction → List ℕ
-recordsOf [] = []
-recordsOf (i ∷ is) = recordOf i ++ recordsOf is
+abbrev pub records_of : List Instruction → List ℕ
+records_of [] = []
+records_of (i ∷ is) = record_of i ++ records_of is

@@ -1,13 +1,13 @@
 // The one decoder over the four rows of sizes (document 01, Codes): a code read from a window, a number that holds the map's bits
 // from a place on. Check, walk and the calls that read a code all stand on it.
 ghost use Rattle.std.specs.Prelude.{◌≡◌, true, ◌+◌, ◌^◌, ◌≤◌, ◌<◌, leb, length, drop};
-ghost use Rattle.asmap_codes.specs.Bits.{mapBits, number, low};
-ghost use Rattle.asmap_codes.specs.Row.{typeRow, asnRow, matchRow, jump_row, operand_row, span};
+ghost use Rattle.asmap_codes.specs.Bits.{map_bits, number, low};
+ghost use Rattle.asmap_codes.specs.Row.{type_row, asn_row, match_row, jump_row, operand_row, span};
 ghost use Rattle.asmap_codes.specs.models.Grown.{slow, grown};
 ghost use Rattle.asmap_codes.specs.Code.{pick, code_at};
 ghost use Rattle.asmap_codes.specs.declared.Code.TheVariants.{Value, Cut};
 ghost use Rattle.asmap_window.specs.models.Window.{Window};
-ghost use Rattle.asmap_row_decoder.specs.models.InWindow.{Holds, code_in, row_in, Stopped, onesOf};
+ghost use Rattle.asmap_row_decoder.specs.models.InWindow.{Holds, code_in, row_in, Stopped, ones_of};
 
 use asmap_codes::{ASN_BIT_SIZES, Code, JUMP_BIT_SIZES, MATCH_BIT_SIZES, TYPE_BIT_SIZES};
 
@@ -94,7 +94,7 @@ fn decode_each(w: u64, at: usize, end: usize, least: u32, sizes: &[u8]) -> Code
 // How many ones a window starts with, `most` at most: the zeros that it would start with if each bit were the other.
 fn starting_ones(w: u64, most: usize) -> usize
     requires { most ≤ 64 }
-    ensures { result ≡ onesOf most w }
+    ensures { result ≡ ones_of most w }
 {
     let ones = u64::trailing_zeros(18446744073709551615 - w) as usize;
     if most < ones {
@@ -137,7 +137,7 @@ pub fn decode_bits(w: u64, at: usize, end: usize, least: u32, sizes: &[u8]) -> C
 // An opcode.
 pub fn type_in(w: u64, at: usize, end: usize) -> Code
     requires { at < 2 ^ 34 }
-    ensures { result ≡ row_in typeRow at end w }
+    ensures { result ≡ row_in type_row at end w }
 {
     decode_bits(w, at, end, 0, &TYPE_BIT_SIZES)
 }
@@ -145,7 +145,7 @@ pub fn type_in(w: u64, at: usize, end: usize) -> Code
 // The window of an operand: that of its instruction without the opcode, which was read from bit `pos` to bit `at`. The answer's bits
 // past the longest code of the operand's row are left open: no caller can see them, since the row's code ends before them.
 pub fn operand_window(map: &[u8], w: u64, pos: usize, opcode: u32, at: usize) -> u64
-    requires { Window 57 w (drop pos (mapBits map.now)) × (code_at map.now pos typeRow ≡ Value opcode at) }
+    requires { Window 57 w (drop pos (map_bits map.now)) × (code_at map.now pos type_row ≡ Value opcode at) }
     ensures { Holds (operand_row opcode) map.now at result }
 {
     w >> (at - pos)
@@ -154,7 +154,7 @@ pub fn operand_window(map: &[u8], w: u64, pos: usize, opcode: u32, at: usize) ->
 // An AS number.
 pub fn asn_in(w: u64, at: usize, end: usize) -> Code
     requires { at < 2 ^ 34 }
-    ensures { result ≡ row_in asnRow at end w }
+    ensures { result ≡ row_in asn_row at end w }
 {
     decode_bits(w, at, end, 1, &ASN_BIT_SIZES)
 }
@@ -162,7 +162,7 @@ pub fn asn_in(w: u64, at: usize, end: usize) -> Code
 // A MATCH operand.
 pub fn match_in(w: u64, at: usize, end: usize) -> Code
     requires { at < 2 ^ 34 }
-    ensures { result ≡ row_in matchRow at end w }
+    ensures { result ≡ row_in match_row at end w }
 {
     decode_bits(w, at, end, 2, &MATCH_BIT_SIZES)
 }

@@ -32,11 +32,11 @@ half a k = let e : k + 1 ≡ suc k = omega arith in halved a k ∙ ap (λ (i : �
 
 -- ---- two halves put together
 
-pub leaf-same : {a b : ℕ} → Leaf a ≡ Leaf b → a ≡ b
-leaf-same {a} {b} e = cc
+pub leaf_same : {a b : ℕ} → Leaf a ≡ Leaf b → a ≡ b
+leaf_same {a} {b} e = cc
 
-leaf-fork : {a : ℕ} {t u : Shape} {A : Type 0} → Fork t u ≡ Leaf a → A
-leaf-fork e = let z : ◌≡◌ {A = ℕ} 0 1 = cc in absurd (omega arith)
+leaf_fork : {a : ℕ} {t u : Shape} {A : Type 0} → Fork t u ≡ Leaf a → A
+leaf_fork e = let z : ◌≡◌ {A = ℕ} 0 1 = cc in absurd (omega arith)
 
 -- what is one number had two halves of that number
 pub join-leaf : (t u : Shape) (n : ℕ) → join t u ≡ Leaf n → (t ≡ Leaf n) × (u ≡ Leaf n)
@@ -45,25 +45,25 @@ join-leaf (Leaf a) (Leaf b) n e = go (eqb a b) refl e
   where
     go : (x : Bool) → eqb a b ≡ x → pick x (Leaf a) (Fork (Leaf a) (Leaf b)) ≡ Leaf n → (Leaf a ≡ Leaf n) × (Leaf b ≡ Leaf n)
     go true q e = (e, ap Leaf (sym (eqb-true a b q)) ∙ e)
-    go false q e = leaf-fork e
-join-leaf (Leaf a) (Fork t u) n e = leaf-fork e
-join-leaf (Fork t u) v n e = leaf-fork e
+    go false q e = leaf_fork e
+join-leaf (Leaf a) (Fork t u) n e = leaf_fork e
+join-leaf (Fork t u) v n e = leaf_fork e
 
 -- two halves of one number are that number
-pub join-same : (n : ℕ) → join (Leaf n) (Leaf n) ≡ Leaf n
+pub join_same : (n : ℕ) → join (Leaf n) (Leaf n) ≡ Leaf n
 unfolding pick
-join-same n = rw (eq-eqb n n refl)
+join_same n = rw (eq-eqb n n refl)
 
 -- any law of a Fork and of two equal numbers is one of the halves put together
-pub join-law : (P : Shape → Type 0) (t u : Shape) → P (Fork t u) → ((n : ℕ) → t ≡ Leaf n → u ≡ Leaf n → P (Leaf n)) → P (join t u)
+pub join_law : (P : Shape → Type 0) (t u : Shape) → P (Fork t u) → ((n : ℕ) → t ≡ Leaf n → u ≡ Leaf n → P (Leaf n)) → P (join t u)
 unfolding pick
-join-law P (Leaf a) (Leaf b) h k = go (eqb a b) refl
+join_law P (Leaf a) (Leaf b) h k = go (eqb a b) refl
   where
     go : (x : Bool) → eqb a b ≡ x → P (pick x (Leaf a) (Fork (Leaf a) (Leaf b)))
     go true q = k a refl (ap Leaf (sym (eqb-true a b q)))
     go false q = h
-join-law P (Leaf a) (Fork t u) h k = h
-join-law P (Fork t u) v h k = h
+join_law P (Leaf a) (Fork t u) h k = h
+join_law P (Fork t u) v h k = h
 
 module _ (f : ℕ → ℕ) where
   -- where all addresses of the subtree have one number, RETURN
@@ -73,16 +73,16 @@ module _ (f : ℕ → ℕ) where
   all-leaf (suc k) p n h =
       let low = all-leaf k (2 * p) n (λ a e. h a (sym (half a k) ∙ omega arith)) in
       let high = all-leaf k (2 * p + 1) n (λ a e. h a (sym (half a k) ∙ omega arith)) in
-      rw (low, high) (join-same n)
+      rw (low, high) (join_same n)
 
   -- where RETURN, all addresses of the subtree have its number
-  pub leaf-all : (k p n : ℕ) → shape f k p ≡ Leaf n → (a : ℕ) → a / 2 ^ k ≡ p → f a ≡ n
+  pub leaf_all : (k p n : ℕ) → shape f k p ≡ Leaf n → (a : ℕ) → a / 2 ^ k ≡ p → f a ≡ n
   unfolding shape
-  leaf-all zero p n e a h = let q : a ≡ p = omega arith in ap f q ∙ leaf-same e
-  leaf-all (suc k) p n e a h =
+  leaf_all zero p n e a h = let q : a ≡ p = omega arith in ap f q ∙ leaf_same e
+  leaf_all (suc k) p n e a h =
       let both = join-leaf (shape f k (2 * p)) (shape f k (2 * p + 1)) n e in
       let c : a / 2 ^ k / 2 ≡ p = half a k ∙ h in
-      side (eqb (a / 2 ^ k) (2 * p)) refl (λ q. leaf-all k (2 * p) n both.0 a q) (λ q. leaf-all k (2 * p + 1) n both.1 a q) c
+      side (eqb (a / 2 ^ k) (2 * p)) refl (λ q. leaf_all k (2 * p) n both.0 a q) (λ q. leaf_all k (2 * p + 1) n both.1 a q) c
     where
       side : (x : Bool) → eqb (a / 2 ^ k) (2 * p) ≡ x → (a / 2 ^ k ≡ 2 * p → f a ≡ n) → (a / 2 ^ k ≡ 2 * p + 1 → f a ≡ n) → a / 2 ^ k / 2 ≡ p → f a ≡ n
       side true q l r c = l (eqb-true _ _ q)
@@ -95,7 +95,7 @@ module _ (f : ℕ → ℕ) where
   depth-shape (suc k) p =
       let a = depth-shape k (2 * p) in
       let b = depth-shape k (2 * p + 1) in
-      join-law (λ (t : Shape). depth t ≤ suc k) (shape f k (2 * p)) (shape f k (2 * p + 1)) (omega arith) (λ n e q. omega arith)
+      join_law (λ (t : Shape). depth t ≤ suc k) (shape f k (2 * p)) (shape f k (2 * p + 1)) (omega arith) (λ n e q. omega arith)
 
   -- its numbers are numbers of addresses
   pub each-shape : (P : ℕ → Type 0) → ((a : ℕ) → P (f a)) → (k p : ℕ) → Each P (shape f k p)
@@ -103,14 +103,14 @@ module _ (f : ℕ → ℕ) where
   each-shape P h zero p = h p
   each-shape P h (suc k) p =
       let a = each-shape P h k (2 * p) in
-      join-law (Each P) (shape f k (2 * p)) (shape f k (2 * p + 1)) (a, each-shape P h k (2 * p + 1))
+      join_law (Each P) (shape f k (2 * p)) (shape f k (2 * p + 1)) (a, each-shape P h k (2 * p + 1))
       (λ n e q. rw e at a)
 
   module _ (a : ℕ → ℕ) (bits : Bits a) where
     found-join : (t v : Shape) (u : ℕ) → found a (join t v) u ≡ found a (Fork t v) u
     unfolding found
     found-join t v u =
-        join-law (λ (x : Shape). found a x u ≡ found a (Fork t v) u) t v refl
+        join_law (λ (x : Shape). found a x u ≡ found a (Fork t v) u) t v refl
         λ n e q. rw (e, q) (same (eqb (a u) 1) n)
       where
         same : (x : Bool) (n : ℕ) → n ≡ cond x n n
@@ -151,7 +151,7 @@ shape_same f g h zero p = ap Leaf (h p)
 shape_same f g h (suc k) p = ap₂ join (shape_same f g h k (2 * p)) (shape_same f g h k (2 * p + 1))
 
 -- address bits that do not matter make no difference
-pub shape-scaled : (f : ℕ → ℕ) (j k p : ℕ) → shape (λ (a : ℕ). f (a / 2 ^ j)) (k + j) p ≡ shape f k p
+pub shape_scaled : (f : ℕ → ℕ) (j k p : ℕ) → shape (λ (a : ℕ). f (a / 2 ^ j)) (k + j) p ≡ shape f k p
 unfolding shape
-shape-scaled f j zero p = let e : 0 + j ≡ j = omega arith in rw e (all-leaf (λ (a : ℕ). f (a / 2 ^ j)) j p (f p) (λ a q. ap f q))
-shape-scaled f j (suc k) p = let e : suc k + j ≡ suc (k + j) = omega arith in rw e (ap₂ join (shape-scaled f j k (2 * p)) (shape-scaled f j k (2 * p + 1)))
+shape_scaled f j zero p = let e : 0 + j ≡ j = omega arith in rw e (all-leaf (λ (a : ℕ). f (a / 2 ^ j)) j p (f p) (λ a q. ap f q))
+shape_scaled f j (suc k) p = let e : suc k + j ≡ suc (k + j) = omega arith in rw e (ap₂ join (shape_scaled f j k (2 * p)) (shape_scaled f j k (2 * p + 1)))

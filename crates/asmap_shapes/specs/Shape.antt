@@ -3,7 +3,7 @@
 -- Assumes nothing.
 use Rattle.std.specs.Prelude.{ℕ, zero, suc, ◌+◌, ◌*◌, Bool, true, false, List, ◌++◌, eqb, length}
 use Rattle.asmap_program.specs.Map.{RETURN, JUMP}
-use Rattle.asmap_codes.specs.Encode.{instructionBits}
+use Rattle.asmap_codes.specs.Encode.{instruction_bits}
 
 -- A program of RETURN and JUMP alone: a number, or two halves.
 pub data Shape : Type 0 where
@@ -22,12 +22,12 @@ join (Leaf a) (Fork t u) = Fork (Leaf a) (Fork t u)
 join (Fork t u) v = Fork (Fork t u) v
 
 -- The subtree of the prefix p with k address bits left, f being the number of each address. That it is one number exactly "where all addresses of a
--- subtree have one number" is a law (`all-leaf`, `leaf-all`).
+-- subtree have one number" is a law (`all-leaf`, `leaf_all`).
 unfoldable pub shape : (ℕ → ℕ) → ℕ → ℕ → Shape
 shape f zero p = Leaf (f p)
 shape f (suc k) p = join (shape f k (2 * p)) (shape f k (2 * p + 1))
 
 -- What is written: RETURN and its number; or JUMP over the half with bit 0, that half, and the half with bit 1.
 unfoldable pub bits_of : Shape → List ℕ
-bits_of (Leaf n) = instructionBits RETURN n
-bits_of (Fork t u) = instructionBits JUMP (length (bits_of t)) ++ (bits_of t ++ bits_of u)
+bits_of (Leaf n) = instruction_bits RETURN n
+bits_of (Fork t u) = instruction_bits JUMP (length (bits_of t)) ++ (bits_of t ++ bits_of u)

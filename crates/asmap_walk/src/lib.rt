@@ -1,6 +1,6 @@
 // The calls that walk a map by an address (document 01, Walk): which number an address is sent to, and how that was found out.
 ghost use Rattle.std.specs.Prelude.{◌≡◌, ◌*◌, ◌/◌};
-ghost use Rattle.asmap_walk.specs.Interpret.{interpretOver, interpretOf, interpretAt};
+ghost use Rattle.asmap_walk.specs.Interpret.{interpret_over, interpret_of, interpret_at};
 ghost use Rattle.asmap_walk.specs.Promise.{Demand3, Demand3At, CoreNumber, CoreNumberAt};
 
 use asmap_program::{ADDRESS_BITS, MAX_MAP_BYTES};
@@ -16,7 +16,7 @@ pub enum Interpreted {
 // The walk by an address of just so many bits, which are whole bytes. Refusals 11 and 1.
 fn walk_over(map: &[u8], address: &[u8], bits: u8) -> Interpreted
     requires { 8 * (bits / 8) ≡ bits }
-    ensures { result ≡ interpretOver map.now address.now bits }
+    ensures { result ≡ interpret_over map.now address.now bits }
 {
     if address.len() != bits as usize / 8 {
         return Interpreted::Refused(11);
@@ -31,7 +31,7 @@ fn walk_over(map: &[u8], address: &[u8], bits: u8) -> Interpreted
 // What is promised for every address, `demand3` and `core`, is promised of maps that `asmap_check::sanity_check` accepts. Of another
 // map some addresses may come out as they should; that says nothing of the rest.
 pub fn interpret(map: &[u8], address: &[u8]) -> Interpreted
-    ensures walked { result ≡ interpretOf map.now address.now }
+    ensures walked { result ≡ interpret_of map.now address.now }
     ensures demand3 { Demand3 map.now address.now result }
     ensures core { CoreNumber map.now address.now result }
 {
@@ -42,7 +42,7 @@ pub fn interpret(map: &[u8], address: &[u8]) -> Interpreted
 // is to be walked at the width at which it was checked: `demand3` and `core` say of a map that the check accepts at this width what those
 // above say at 128.
 pub fn interpret_bits(map: &[u8], address: &[u8], width: u32) -> Interpreted
-    ensures walked { result ≡ interpretAt map.now address.now width }
+    ensures walked { result ≡ interpret_at map.now address.now width }
     ensures demand3 { Demand3At map.now address.now width result }
     ensures core { CoreNumberAt map.now address.now width result }
 {

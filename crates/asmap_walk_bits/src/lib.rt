@@ -1,7 +1,7 @@
 // The walk of a map by the first bits of an address (document 01, Walk), turn by turn: how it ends, of every map within the limit.
 ghost use Rattle.std.specs.Prelude.{◌≡◌, ◌*◌, ◌≤◌, length};
 ghost use Rattle.asmap_program.specs.Map.{limit};
-ghost use Rattle.asmap_program.specs.Walk.{walkStart};
+ghost use Rattle.asmap_program.specs.Walk.{walk_start};
 ghost use Rattle.asmap_walk_bits.specs.Walk.{walk_of, summary};
 
 use asmap_codes::Code;
@@ -38,7 +38,7 @@ fn abort(kind: Kind, count: u32, bits: u8) -> Ending
 
 // A walk before its first turn, as `asmap_program/specs/Walk` has it.
 fn walk_start(width: u8) -> Walker
-    ensures { result ≡ walkStart width }
+    ensures { result ≡ walk_start width }
 {
     Walker {
         at: 0,

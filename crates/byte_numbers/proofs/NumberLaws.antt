@@ -25,8 +25,8 @@ small_bytes x h =
     rw (a, b, c, d)
 
 -- four bytes of a number below 2 ^ 32
-pub number-of-bytes : (x : ℕ) → x < 4294967296 → x % 256 + 256 * (x / 256 % 256) + 65536 * (x / 65536 % 256) + 16777216 * (x / 16777216 % 256) ≡ x
-number-of-bytes x h =
+pub number_of-bytes : (x : ℕ) → x < 4294967296 → x % 256 + 256 * (x / 256 % 256) + 65536 * (x / 65536 % 256) + 16777216 * (x / 16777216 % 256) ≡ x
+number_of-bytes x h =
     let a : x ≡ 256 * (x / 256) + x % 256 = omega arith in
     let e : x / 65536 ≡ x / 256 / 256 = omega arith in
     let b : x / 256 ≡ 256 * (x / 65536) + x / 256 % 256 = rw e (omega arith) in
@@ -39,8 +39,8 @@ number-of-bytes x h =
     by_parts x₀ y y₀ z z₀ t t₀ a b c d = omega arith
 
 -- four bytes are those of their number
-bytes-of-number : (a b c d : ℕ) → a < 256 → b < 256 → c < 256 → d < 256 → bytes4 (a + 256 * b + 65536 * c + 16777216 * d) ≡ a ∷ b ∷ c ∷ d ∷ []
-bytes-of-number a b c d h i j k =
+bytes_of-number : (a b c d : ℕ) → a < 256 → b < 256 → c < 256 → d < 256 → bytes4 (a + 256 * b + 65536 * c + 16777216 * d) ≡ a ∷ b ∷ c ∷ d ∷ []
+bytes_of-number a b c d h i j k =
     let n = a + 256 * b + 65536 * c + 16777216 * d in
     let p : n % 256 ≡ a = omega arith in
     let q : n / 256 ≡ b + 256 * c + 65536 * d = omega arith in
@@ -56,7 +56,7 @@ pub four : (l : List ℕ) (k : ℕ) → AllBytes l → k + 4 ≤ length l → dr
 four l k h s =
     sym (take-append-drop 4 (drop k l))
     ∙ ap₂ ◌++◌
-    (half-bytes l k s ∙ sym (bytes-of-number (get_or l k 0) (get_or l (k + 1) 0) (get_or l (k + 2) 0) (get_or l (k + 3) 0) (h k) (h (k + 1)) (h (k + 2)) (h (k + 3))))
+    (half-bytes l k s ∙ sym (bytes_of-number (get_or l k 0) (get_or l (k + 1) 0) (get_or l (k + 2) 0) (get_or l (k + 3) 0) (h k) (h (k + 1)) (h (k + 2)) (h (k + 3))))
     (drop-drop 4 k l)
 
 -- a number read from a list's later bytes

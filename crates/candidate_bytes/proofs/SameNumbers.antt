@@ -29,9 +29,9 @@ same_word w v xs ys e p q =
     same_number xs ys e p.small q.small ∙ sym (ap (λ (n : ℕ). eqb n v) p.value ∙ ap (λ (n : ℕ). eqb (number xs) n) q.value)
 
 -- n bytes of each, compared as words
-pub same-words : (n : ℕ) (a b : List ℕ) (j w v : ℕ) → j + n ≤ length a → j + n ≤ length b → Word w (take n (drop j a)) → Word v (take n (drop j b))
+pub same_words : (n : ℕ) (a b : List ℕ) (j w v : ℕ) → j + n ≤ length a → j + n ≤ length b → Word w (take n (drop j a)) → Word v (take n (drop j b))
     → same (take n (drop j a)) (take n (drop j b)) ≡ eqb w v
-same-words n a b j w v h k p q =
+same_words n a b j w v h k p q =
     let e : length (take n (drop j a)) ≡ length (take n (drop j b)) =
     length-take-le n (drop j a) (omega (arith, length-drop j a)) ∙ sym (length-take-le n (drop j b) (omega (arith, length-drop j b))) in
     same_word w v (take n (drop j a)) (take n (drop j b)) e p q

@@ -15,11 +15,11 @@ pub both : (a b : Bool) → (a && b) ≡ true → (a ≡ true) × (b ≡ true)
 both true b e = (refl, e)
 both false b e = let z : ◌≡◌ {A = ℕ} 0 1 = cc in absurd (omega arith)
 
-pub same-equal : (xs ys : List ℕ) → same xs ys ≡ true → xs ≡ ys
-same-equal [] [] e = refl
-same-equal [] (y ∷ ys) e = let z : ◌≡◌ {A = ℕ} 0 1 = cc in absurd (omega arith)
-same-equal (x ∷ xs) [] e = let z : ◌≡◌ {A = ℕ} 0 1 = cc in absurd (omega arith)
-same-equal (x ∷ xs) (y ∷ ys) e = let p = both (eqb x y) (same xs ys) e in ap₂ ◌∷◌ (eqb-true x y p.0) (same-equal xs ys p.1)
+pub same_equal : (xs ys : List ℕ) → same xs ys ≡ true → xs ≡ ys
+same_equal [] [] e = refl
+same_equal [] (y ∷ ys) e = let z : ◌≡◌ {A = ℕ} 0 1 = cc in absurd (omega arith)
+same_equal (x ∷ xs) [] e = let z : ◌≡◌ {A = ℕ} 0 1 = cc in absurd (omega arith)
+same_equal (x ∷ xs) (y ∷ ys) e = let p = both (eqb x y) (same xs ys) e in ap₂ ◌∷◌ (eqb-true x y p.0) (same_equal xs ys p.1)
 
 -- the first bytes, and k after them
 pub parted : (j k : ℕ) (a b : List ℕ) → j ≤ length a → j ≤ length b
@@ -36,8 +36,8 @@ module _ (a b : List ℕ) (i j k : ℕ) (e : i ≡ j + k) (p : j ≤ length a) (
   split = rw e (parted j k a b p q)
 
   -- where the k bytes are equal those before them decide
-  pub same-on : same (take k (drop j a)) (take k (drop j b)) ≡ true → same (take i a) (take i b) ≡ same (take j a) (take j b)
-  same-on h = split ∙ rw h (and-true (same (take j a) (take j b)))
+  pub same_on : same (take k (drop j a)) (take k (drop j b)) ≡ true → same (take i a) (take i b) ≡ same (take j a) (take j b)
+  same_on h = split ∙ rw h (and-true (same (take j a) (take j b)))
 
   pub same_differs : same (take k (drop j a)) (take k (drop j b)) ≡ false → same (take i a) (take i b) ≡ false
   same_differs h = split ∙ rw h (and-false (same (take j a) (take j b)))
@@ -50,8 +50,8 @@ same_byte (x ∷ a) (y ∷ b) zero p q = and-true (eqb x y)
 same_byte (x ∷ a) (y ∷ b) (suc i) p q = same_byte a b i (omega arith) (omega arith)
 
 -- rows of different length
-pub same-unequal : (xs ys : List ℕ) → (length xs ≡ length ys → ⊥) → same xs ys ≡ false
-same-unequal [] [] h = absurd (h refl)
-same-unequal [] (y ∷ ys) h = refl
-same-unequal (x ∷ xs) [] h = refl
-same-unequal (x ∷ xs) (y ∷ ys) h = rw (same-unequal xs ys (λ e. h (ap suc e))) (and-false (eqb x y))
+pub same_unequal : (xs ys : List ℕ) → (length xs ≡ length ys → ⊥) → same xs ys ≡ false
+same_unequal [] [] h = absurd (h refl)
+same_unequal [] (y ∷ ys) h = refl
+same_unequal (x ∷ xs) [] h = refl
+same_unequal (x ∷ xs) (y ∷ ys) h = rw (same_unequal xs ys (λ e. h (ap suc e))) (and-false (eqb x y))

@@ -10,7 +10,7 @@ use borrow.Author.Tests.{eq-eqb, ne_eqb, eqb-true}
 use lib.Dec.{eqb}
 use lib.ListN.{length, take, drop, get_or, length-drop}
 use lib.Seq.{drop-drop, length-take-le}
-use Rattle.candidate_bytes.specs.Candidate.{same, mapped, valid, mappedFront}
+use Rattle.candidate_bytes.specs.Candidate.{same, mapped, valid, mapped_front}
 use Rattle.byte_numbers.specs.models.Word.{number, Word}
 use Rattle.candidate_bytes.proofs.Sames.{both, parted}
 use Rattle.byte_numbers.proofs.Words.{next, half-bytes, word_bytes}
@@ -38,13 +38,13 @@ module _ (c : List ℕ) (h : length c ≡ 20) where
   )
 
   -- the mapped form by its first four bytes and the word after them; by its first six bytes and those after them
-  by-four : mapped c ≡ (same (take 4 (drop 2 c)) (0 ∷ 0 ∷ 0 ∷ 0 ∷ []) && same (take 8 (drop 6 c)) (0 ∷ 0 ∷ 0 ∷ 0 ∷ 0 ∷ 0 ∷ 255 ∷ 255 ∷ []))
+  by_four : mapped c ≡ (same (take 4 (drop 2 c)) (0 ∷ 0 ∷ 0 ∷ 0 ∷ []) && same (take 8 (drop 6 c)) (0 ∷ 0 ∷ 0 ∷ 0 ∷ 0 ∷ 0 ∷ 255 ∷ 255 ∷ []))
   unfolding mapped
-  by-four = rw (← drop-drop 4 2 c) (parted 4 8 (drop 2 c) mappedFront (omega (arith, length-drop 2 c)) (omega arith))
+  by_four = rw (← drop-drop 4 2 c) (parted 4 8 (drop 2 c) mapped_front (omega (arith, length-drop 2 c)) (omega arith))
 
-  by-six : mapped c ≡ (same (take 6 (drop 2 c)) (0 ∷ 0 ∷ 0 ∷ 0 ∷ 0 ∷ 0 ∷ []) && same (take 6 (drop 8 c)) (0 ∷ 0 ∷ 0 ∷ 0 ∷ 255 ∷ 255 ∷ []))
+  by_six : mapped c ≡ (same (take 6 (drop 2 c)) (0 ∷ 0 ∷ 0 ∷ 0 ∷ 0 ∷ 0 ∷ []) && same (take 6 (drop 8 c)) (0 ∷ 0 ∷ 0 ∷ 0 ∷ 255 ∷ 255 ∷ []))
   unfolding mapped
-  by-six = rw (← drop-drop 6 2 c) (parted 6 6 (drop 2 c) mappedFront (omega (arith, length-drop 2 c)) (omega arith))
+  by_six = rw (← drop-drop 6 2 c) (parted 6 6 (drop 2 c) mapped_front (omega (arith, length-drop 2 c)) (omega arith))
 
   last_word : (v : ℕ) → Word v (take 8 (drop 6 c)) → same (take 8 (drop 6 c)) (0 ∷ 0 ∷ 0 ∷ 0 ∷ 0 ∷ 0 ∷ 255 ∷ 255 ∷ []) ≡ eqb v 18446462598732840960
   last_word v q =
@@ -52,18 +52,18 @@ module _ (c : List ℕ) (h : length c ≡ 20) where
       record { value = refl; small = (omega arith, (omega arith, (omega arith, (omega arith, (omega arith, (omega arith, (omega arith, (omega arith, tt)))))))) } in
       same_word v 18446462598732840960 (take 8 (drop 6 c)) (0 ∷ 0 ∷ 0 ∷ 0 ∷ 0 ∷ 0 ∷ 255 ∷ 255 ∷ []) (length-take-le 8 (drop 6 c) (omega (arith, length-drop 6 c))) q k
 
-  first-half : (u : ℕ) → Word u (take 4 (drop 2 c)) → same (take 4 (drop 2 c)) (0 ∷ 0 ∷ 0 ∷ 0 ∷ []) ≡ eqb u 0
-  first-half u p =
+  first_half : (u : ℕ) → Word u (take 4 (drop 2 c)) → same (take 4 (drop 2 c)) (0 ∷ 0 ∷ 0 ∷ 0 ∷ []) ≡ eqb u 0
+  first_half u p =
       let k : Word 0 (0 ∷ 0 ∷ 0 ∷ 0 ∷ []) = record { value = refl; small = (omega arith, (omega arith, (omega arith, (omega arith, tt)))) } in
       same_word u 0 (take 4 (drop 2 c)) (0 ∷ 0 ∷ 0 ∷ 0 ∷ []) (length-take-le 4 (drop 2 c) (omega (arith, length-drop 2 c))) p k
 
   -- the first four bytes decide, or the word after them does
   module _ (u : ℕ) (p : Word u (take 4 (drop 2 c))) where
     pub other_half : (u ≡ 0 → ⊥) → mapped c ≡ false
-    other_half d = by-four ∙ rw (first-half u p, ne_eqb u 0 d)
+    other_half d = by_four ∙ rw (first_half u p, ne_eqb u 0 d)
 
-    pub zero-half : u ≡ 0 → (v : ℕ) → Word v (take 8 (drop 6 c)) → mapped c ≡ eqb v 18446462598732840960
-    zero-half e v q = by-four ∙ rw (first-half u p, eq-eqb u 0 e, last_word v q)
+    pub zero_half_lem : u ≡ 0 → (v : ℕ) → Word v (take 8 (drop 6 c)) → mapped c ≡ eqb v 18446462598732840960
+    zero_half_lem e v q = by_four ∙ rw (first_half u p, eq-eqb u 0 e, last_word v q)
 
   module _ (w : ℕ) (p : Word w (take 8 (drop 0 c))) where
     word : Word w front
@@ -82,7 +82,7 @@ module _ (c : List ℕ) (h : length c ≡ 20) where
         let z4 : get_or c 4 0 ≡ 0 = omega (arith, n) in
         let z5 : get_or c 5 0 ≡ 0 = omega (arith, n) in
         let zeros : same (take 4 (drop 2 c)) (0 ∷ 0 ∷ 0 ∷ 0 ∷ []) ≡ true = rw (half-bytes c 2 (omega arith), z2, z3, z4, z5) in
-        rw (eq-eqb (length c) 20 h, z1, z0) (by-four ∙ rw zeros (last_word v q))
+        rw (eq-eqb (length c) 20 h, z1, z0) (by_four ∙ rw zeros (last_word v q))
 
     -- else family 4 has not the mapped form
     not-mapped : (w ≡ 4 → ⊥) → get_or c 1 0 ≡ 0 → get_or c 0 0 ≡ 4 → mapped c ≡ false
@@ -90,7 +90,7 @@ module _ (c : List ℕ) (h : length c ≡ 20) where
     not-mapped d z1 z0 =
         let s : same six (0 ∷ 0 ∷ 0 ∷ 0 ∷ 0 ∷ 0 ∷ []) ≡ eqb (number six) 0 =
         same_number six (0 ∷ 0 ∷ 0 ∷ 0 ∷ 0 ∷ 0 ∷ []) refl word.small.1.1 (omega arith, (omega arith, (omega arith, (omega arith, (omega arith, (omega arith, tt)))))) in
-        by-six ∙ rw (six-bytes, s, ne_eqb (number six) 0 (λ x. d (omega (arith, word.value))))
+        by_six ∙ rw (six-bytes, s, ne_eqb (number six) 0 (λ x. d (omega (arith, word.value))))
 
     pub other-valid : (w ≡ 4 → ⊥) → get_or c 1 0 ≡ 0 → valid c ≡ eqb (get_or c 0 0) 6
     unfolding valid

@@ -18,12 +18,12 @@ abbrev pub address : List ℕ → List ℕ
 address c = take 16 (drop 2 c)
 
 -- ten zero bytes, ff ff
-abbrev pub mappedFront : List ℕ
-mappedFront = 0 ∷ 0 ∷ 0 ∷ 0 ∷ 0 ∷ 0 ∷ 0 ∷ 0 ∷ 0 ∷ 0 ∷ 255 ∷ 255 ∷ []
+abbrev pub mapped_front : List ℕ
+mapped_front = 0 ∷ 0 ∷ 0 ∷ 0 ∷ 0 ∷ 0 ∷ 0 ∷ 0 ∷ 0 ∷ 0 ∷ 255 ∷ 255 ∷ []
 
 -- an IPv4 address in its mapped form: that front, then its four bytes
 unfoldable pub mapped : List ℕ → Bool
-mapped c = same (take 12 (drop 2 c)) mappedFront
+mapped c = same (take 12 (drop 2 c)) mapped_front
 
 -- what 13 leaves: 20 bytes, the second of them zero, of family 6, or of family 4 in the mapped form
 unfoldable pub valid : List ℕ → Bool

@@ -1,6 +1,6 @@
 // A map built from prefixes (document 02, CR 8), so that an operator puts single prefixes of a listing back and has a map again.
 ghost use Rattle.std.specs.Prelude.{◌≡◌, ◌∷◌, [], take};
-ghost use Rattle.asmap_build.specs.Build.{buildAt};
+ghost use Rattle.asmap_build.specs.Build.{build_at};
 ghost use Rattle.asmap_build.specs.Promise.{Builds};
 ghost use Rattle.answer_bytes.specs.Bytes.{Writes};
 
@@ -16,7 +16,7 @@ pub extern "C" fn corbastrigo_build(
     out: &mut [u8],
     written: &mut usize,
 ) -> u8
-    ensures writes { Writes (buildAt records.now given width) out.old out.new result (written.old ∷ []) (written.new ∷ []) }
+    ensures writes { Writes (build_at records.now given width) out.old out.new result (written.old ∷ []) (written.new ∷ []) }
     ensures builds { result ≡ 0 → Builds records.now given width (take written.new out.new) }
 {
     hand_bytes(asmap_build::build(records, given, width, out), written)

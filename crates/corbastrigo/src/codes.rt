@@ -1,12 +1,12 @@
 // Reading and writing codes and instructions (document 01, Codes).
 ghost use Rattle.std.specs.Prelude.{◌∷◌, []};
-ghost use Rattle.asmap_codes.specs.Row.{typeRow, asnRow, matchRow, jump_row};
+ghost use Rattle.asmap_codes.specs.Row.{type_row, asn_row, match_row, jump_row};
 ghost use Rattle.asmap_codes.specs.Code.{read_code};
-ghost use Rattle.asmap_codes.specs.Instruction.{readInstruction};
-ghost use Rattle.asmap_encode.specs.Write.{writeCode, writeInstruction};
+ghost use Rattle.asmap_codes.specs.Instruction.{read_instruction};
+ghost use Rattle.asmap_encode.specs.Write.{write_code, write_instruction};
 ghost use Rattle.answer_outcome.specs.Outcome.{Hands};
-ghost use Rattle.asmap_codes.specs.Core.{fileOf};
-ghost use Rattle.answer_codes.specs.Codes.{codeRead, instructionRead, bitsWritten};
+ghost use Rattle.asmap_codes.specs.Core.{file_of};
+ghost use Rattle.answer_codes.specs.Codes.{code_read, instruction_read, bits_written};
 ghost use Rattle.answers.specs.Promise.{CoreCode};
 
 use answer_codes::{hand_bits, hand_code, hand_instruction};
@@ -22,8 +22,8 @@ pub extern "C" fn corbastrigo_decode_type(
     value: &mut u32,
     next: &mut usize,
 ) -> u8
-    ensures hands { Hands (codeRead (read_code map.now at typeRow)) result (value.old ∷ next.old ∷ []) (value.new ∷ next.new ∷ []) }
-    ensures core { CoreCode map.now at result value.new next.new ((fileOf map.now).decodeType at) }
+    ensures hands { Hands (code_read (read_code map.now at type_row)) result (value.old ∷ next.old ∷ []) (value.new ∷ next.new ∷ []) }
+    ensures core { CoreCode map.now at result value.new next.new ((file_of map.now).decode_type at) }
 {
     hand_code(asmap_decode::decode_type(map, at), value, next)
 }
@@ -36,8 +36,8 @@ pub extern "C" fn corbastrigo_decode_asn(
     value: &mut u32,
     next: &mut usize,
 ) -> u8
-    ensures hands { Hands (codeRead (read_code map.now at asnRow)) result (value.old ∷ next.old ∷ []) (value.new ∷ next.new ∷ []) }
-    ensures core { CoreCode map.now at result value.new next.new ((fileOf map.now).decodeASN at) }
+    ensures hands { Hands (code_read (read_code map.now at asn_row)) result (value.old ∷ next.old ∷ []) (value.new ∷ next.new ∷ []) }
+    ensures core { CoreCode map.now at result value.new next.new ((file_of map.now).decode_asn at) }
 {
     hand_code(asmap_decode::decode_asn(map, at), value, next)
 }
@@ -50,8 +50,8 @@ pub extern "C" fn corbastrigo_decode_match(
     value: &mut u32,
     next: &mut usize,
 ) -> u8
-    ensures hands { Hands (codeRead (read_code map.now at matchRow)) result (value.old ∷ next.old ∷ []) (value.new ∷ next.new ∷ []) }
-    ensures core { CoreCode map.now at result value.new next.new ((fileOf map.now).decodeMatch at) }
+    ensures hands { Hands (code_read (read_code map.now at match_row)) result (value.old ∷ next.old ∷ []) (value.new ∷ next.new ∷ []) }
+    ensures core { CoreCode map.now at result value.new next.new ((file_of map.now).decode_match at) }
 {
     hand_code(asmap_decode::decode_match(map, at), value, next)
 }
@@ -64,8 +64,8 @@ pub extern "C" fn corbastrigo_decode_jump(
     value: &mut u32,
     next: &mut usize,
 ) -> u8
-    ensures hands { Hands (codeRead (read_code map.now at jump_row)) result (value.old ∷ next.old ∷ []) (value.new ∷ next.new ∷ []) }
-    ensures core { CoreCode map.now at result value.new next.new ((fileOf map.now).decodeJump at) }
+    ensures hands { Hands (code_read (read_code map.now at jump_row)) result (value.old ∷ next.old ∷ []) (value.new ∷ next.new ∷ []) }
+    ensures core { CoreCode map.now at result value.new next.new ((file_of map.now).decode_jump at) }
 {
     hand_code(asmap_decode::decode_jump(map, at), value, next)
 }
@@ -79,7 +79,7 @@ pub extern "C" fn corbastrigo_decode_instruction(
     operand: &mut u32,
     size: &mut usize,
 ) -> u8
-    ensures { Hands (instructionRead (readInstruction map.now at)) result (opcode.old ∷ operand.old ∷ size.old ∷ []) (opcode.new ∷ operand.new ∷ size.new ∷ []) }
+    ensures { Hands (instruction_read (read_instruction map.now at)) result (opcode.old ∷ operand.old ∷ size.old ∷ []) (opcode.new ∷ operand.new ∷ size.new ∷ []) }
 {
     hand_instruction(
         asmap_decode::decode_instruction(map, at),
@@ -94,7 +94,7 @@ pub extern "C" fn corbastrigo_decode_instruction(
 // An opcode.
 #[unsafe(no_mangle)]
 pub extern "C" fn corbastrigo_encode_type(value: u32, bits: &mut u64, len: &mut usize) -> u8
-    ensures { Hands (bitsWritten (writeCode typeRow value)) result (bits.old ∷ len.old ∷ []) (bits.new ∷ len.new ∷ []) }
+    ensures { Hands (bits_written (write_code type_row value)) result (bits.old ∷ len.old ∷ []) (bits.new ∷ len.new ∷ []) }
 {
     hand_bits(asmap_encode::encode_type(value), bits, len)
 }
@@ -102,7 +102,7 @@ pub extern "C" fn corbastrigo_encode_type(value: u32, bits: &mut u64, len: &mut 
 // An AS number.
 #[unsafe(no_mangle)]
 pub extern "C" fn corbastrigo_encode_asn(value: u32, bits: &mut u64, len: &mut usize) -> u8
-    ensures { Hands (bitsWritten (writeCode asnRow value)) result (bits.old ∷ len.old ∷ []) (bits.new ∷ len.new ∷ []) }
+    ensures { Hands (bits_written (write_code asn_row value)) result (bits.old ∷ len.old ∷ []) (bits.new ∷ len.new ∷ []) }
 {
     hand_bits(asmap_encode::encode_asn(value), bits, len)
 }
@@ -110,7 +110,7 @@ pub extern "C" fn corbastrigo_encode_asn(value: u32, bits: &mut u64, len: &mut u
 // A MATCH operand.
 #[unsafe(no_mangle)]
 pub extern "C" fn corbastrigo_encode_match(value: u32, bits: &mut u64, len: &mut usize) -> u8
-    ensures { Hands (bitsWritten (writeCode matchRow value)) result (bits.old ∷ len.old ∷ []) (bits.new ∷ len.new ∷ []) }
+    ensures { Hands (bits_written (write_code match_row value)) result (bits.old ∷ len.old ∷ []) (bits.new ∷ len.new ∷ []) }
 {
     hand_bits(asmap_encode::encode_match(value), bits, len)
 }
@@ -118,7 +118,7 @@ pub extern "C" fn corbastrigo_encode_match(value: u32, bits: &mut u64, len: &mut
 // A JUMP operand.
 #[unsafe(no_mangle)]
 pub extern "C" fn corbastrigo_encode_jump(value: u32, bits: &mut u64, len: &mut usize) -> u8
-    ensures { Hands (bitsWritten (writeCode jump_row value)) result (bits.old ∷ len.old ∷ []) (bits.new ∷ len.new ∷ []) }
+    ensures { Hands (bits_written (write_code jump_row value)) result (bits.old ∷ len.old ∷ []) (bits.new ∷ len.new ∷ []) }
 {
     hand_bits(asmap_encode::encode_jump(value), bits, len)
 }
@@ -131,7 +131,7 @@ pub extern "C" fn corbastrigo_encode_instruction(
     bits: &mut u64,
     len: &mut usize,
 ) -> u8
-    ensures { Hands (bitsWritten (writeInstruction opcode operand)) result (bits.old ∷ len.old ∷ []) (bits.new ∷ len.new ∷ []) }
+    ensures { Hands (bits_written (write_instruction opcode operand)) result (bits.old ∷ len.old ∷ []) (bits.new ∷ len.new ∷ []) }
 {
     hand_bits(asmap_encode::encode_instruction(opcode, operand), bits, len)
 }

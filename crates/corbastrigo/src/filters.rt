@@ -1,7 +1,7 @@
 // The filters (document 01, Filters): 1 for yes, 0 for no.
 ghost use Rattle.std.specs.Prelude.{◌∷◌, []};
-ghost use Rattle.netaddr.specs.Filter.{filterOf};
-ghost use Rattle.netaddr.specs.Relay.{relayOf};
+ghost use Rattle.netaddr.specs.Filter.{filter_of};
+ghost use Rattle.netaddr.specs.Relay.{relay_of};
 ghost use Rattle.answer_outcome.specs.Outcome.{Hands};
 ghost use Rattle.answer_filters.specs.Filters.{said};
 
@@ -10,7 +10,7 @@ use answer_filters::{hand_filtered, hand_relay};
 // Whether an address of 16 bytes, IPv4 in its mapped form, is unroutable. Refusal 11.
 #[unsafe(no_mangle)]
 pub extern "C" fn corbastrigo_clearnet_unroutable(address: &[u8], unroutable: &mut u8) -> u8
-    ensures { Hands (said (filterOf address.now)) result (unroutable.old ∷ []) (unroutable.new ∷ []) }
+    ensures { Hands (said (filter_of address.now)) result (unroutable.old ∷ []) (unroutable.new ∷ []) }
 {
     hand_filtered(netaddr::clearnet_unroutable(address), unroutable)
 }
@@ -23,7 +23,7 @@ pub extern "C" fn corbastrigo_addrv2_skip_relay(
     port: u16,
     skips: &mut u8,
 ) -> u8
-    ensures { Hands (said (relayOf id address.now port)) result (skips.old ∷ []) (skips.new ∷ []) }
+    ensures { Hands (said (relay_of id address.now port)) result (skips.old ∷ []) (skips.new ∷ []) }
 {
     hand_relay(netaddr::addrv2_skip_relay(id, address, port), skips)
 }

@@ -2,15 +2,15 @@
 // of IPv4 in a number range to themselves (document 02, CR 7), and the map is not looked at. Any other number is with it. Two calls, which take no map, keep the old numbers of
 // prefixes: the group by its prefix and the pick by old prefixes.
 ghost use Rattle.std.specs.Prelude.{◌≡◌, ◌∷◌, []};
-ghost use Rattle.peer_lists.specs.Candidates.{candidatesOf};
-ghost use Rattle.group_lists.specs.Scan.{scanOf};
-ghost use Rattle.netgroup.specs.Group.{byOldPrefixes, numbering};
-ghost use Rattle.netgroup.specs.Netgroup.{prefixGroupCall, netgroupOf, netgroupUnchecked, Whole};
-ghost use Rattle.netgroup.specs.Refusal.{checkRefusal};
-ghost use Rattle.netgroup_pick.specs.Pick.{selectDiverse, selectUnchecked, oldPrefixPick};
+ghost use Rattle.peer_lists.specs.Candidates.{candidates_of};
+ghost use Rattle.group_lists.specs.Scan.{scan_of};
+ghost use Rattle.netgroup.specs.Group.{by_old_prefixes, numbering};
+ghost use Rattle.netgroup.specs.Netgroup.{prefix_group_call, netgroup_of, netgroup_unchecked, Whole};
+ghost use Rattle.netgroup.specs.Refusal.{check_refusal};
+ghost use Rattle.netgroup_pick.specs.Pick.{select_diverse, select_unchecked, old_prefix_pick};
 ghost use Rattle.netgroup_pick.specs.Demand.{Demand3, Unaborted};
 ghost use Rattle.answer_outcome.specs.Outcome.{Hands};
-ghost use Rattle.answer_groups.specs.Groups.{groupingOf, groupFound, scanMade, totalsOf, Picks};
+ghost use Rattle.answer_groups.specs.Groups.{grouping_of, group_found, scan_made, totals_of, Picks};
 
 use answer_groups::{grouping_of, hand_group, hand_pick, hand_scan};
 use netgroup::GroupAnswer;
@@ -20,7 +20,7 @@ use peer_lists::Refusal;
 // The group of a candidate of 20 bytes by its prefix, in the old numbering. Refusal 13.
 #[unsafe(no_mangle)]
 pub extern "C" fn corbastrigo_prefix_group(candidate: &[u8], group: &mut u64) -> u8
-    ensures { Hands (groupFound (prefixGroupCall candidate.now)) result (group.old ∷ []) (group.new ∷ []) }
+    ensures { Hands (group_found (prefix_group_call candidate.now)) result (group.old ∷ []) (group.new ∷ []) }
 {
     hand_group(netgroup::prefix_group(candidate), group)
 }
@@ -33,8 +33,8 @@ pub extern "C" fn corbastrigo_netgroup(
     map: &[u8],
     group: &mut u64,
 ) -> u8
-    ensures hands { Hands (groupFound (netgroupOf (numbering (groupingOf has_map) map.now) candidate.now)) result (group.old ∷ []) (group.new ∷ []) }
-    ensures unaborted { result ≡ 0 → Whole (numbering (groupingOf has_map) map.now) candidate.now (GroupAnswer.Group group.new) }
+    ensures hands { Hands (group_found (netgroup_of (numbering (grouping_of has_map) map.now) candidate.now)) result (group.old ∷ []) (group.new ∷ []) }
+    ensures unaborted { result ≡ 0 → Whole (numbering (grouping_of has_map) map.now) candidate.now (GroupAnswer.Group group.new) }
 {
     hand_group(
         netgroup::netgroup(candidate, grouping_of(has_map), map),
@@ -50,8 +50,8 @@ pub extern "C" fn corbastrigo_netgroup_unchecked(
     map: &[u8],
     group: &mut u64,
 ) -> u8
-    ensures hands { Hands (groupFound (netgroupUnchecked (numbering (groupingOf has_map) map.now) candidate.now)) result (group.old ∷ []) (group.new ∷ []) }
-    ensures unaborted { checkRefusal (numbering (groupingOf has_map) map.now) ≡ Refusal.None → result ≡ 0 → Whole (numbering (groupingOf has_map) map.now) candidate.now (GroupAnswer.Group group.new) }
+    ensures hands { Hands (group_found (netgroup_unchecked (numbering (grouping_of has_map) map.now) candidate.now)) result (group.old ∷ []) (group.new ∷ []) }
+    ensures unaborted { check_refusal (numbering (grouping_of has_map) map.now) ≡ Refusal.None → result ≡ 0 → Whole (numbering (grouping_of has_map) map.now) candidate.now (GroupAnswer.Group group.new) }
 {
     hand_group(
         netgroup::netgroup_unchecked(candidate, grouping_of(has_map), map),
@@ -69,7 +69,7 @@ pub extern "C" fn corbastrigo_scan_occupied(
     place: &mut usize,
     groups_read: &mut usize,
 ) -> u8
-    ensures { Hands (scanMade (scanOf group occupied.now)) result (found.old ∷ place.old ∷ groups_read.old ∷ []) (found.new ∷ place.new ∷ groups_read.new ∷ []) }
+    ensures { Hands (scan_made (scan_of group occupied.now)) result (found.old ∷ place.old ∷ groups_read.old ∷ []) (found.new ∷ place.new ∷ groups_read.new ∷ []) }
 {
     hand_scan(
         group_lists::scan_occupied(group, occupied),
@@ -94,9 +94,9 @@ pub extern "C" fn corbastrigo_select_diverse(
     examined: &mut usize,
     instructions: &mut u64,
 ) -> u8
-    ensures picks { Picks (selectDiverse (numbering (groupingOf has_map) map.now) candidates.now occupied.now max picks.old groups.old) result (total.old ∷ first.old ∷ examined.old ∷ instructions.old ∷ []) (total.new ∷ first.new ∷ examined.new ∷ instructions.new ∷ []) picks.new groups.new }
-    ensures demand3 { result ≡ 0 → Demand3 (numbering (groupingOf has_map) map.now) (candidatesOf candidates.now) occupied.now max (PickAnswer.Picked (totalsOf total.new first.new examined.new instructions.new)) picks.new groups.new }
-    ensures unaborted { result ≡ 0 → Unaborted (numbering (groupingOf has_map) map.now) (candidatesOf candidates.now) (PickAnswer.Picked (totalsOf total.new first.new examined.new instructions.new)) }
+    ensures picks { Picks (select_diverse (numbering (grouping_of has_map) map.now) candidates.now occupied.now max picks.old groups.old) result (total.old ∷ first.old ∷ examined.old ∷ instructions.old ∷ []) (total.new ∷ first.new ∷ examined.new ∷ instructions.new ∷ []) picks.new groups.new }
+    ensures demand3 { result ≡ 0 → Demand3 (numbering (grouping_of has_map) map.now) (candidates_of candidates.now) occupied.now max (PickAnswer.Picked (totals_of total.new first.new examined.new instructions.new)) picks.new groups.new }
+    ensures unaborted { result ≡ 0 → Unaborted (numbering (grouping_of has_map) map.now) (candidates_of candidates.now) (PickAnswer.Picked (totals_of total.new first.new examined.new instructions.new)) }
 {
     let grouping = grouping_of(has_map);
     let got = netgroup_pick::select_diverse(
@@ -120,9 +120,9 @@ pub extern "C" fn corbastrigo_select_diverse_unchecked(
     examined: &mut usize,
     instructions: &mut u64,
 ) -> u8
-    ensures picks { Picks (selectUnchecked (numbering (groupingOf has_map) map.now) candidates.now occupied.now max picks.old groups.old) result (total.old ∷ first.old ∷ examined.old ∷ instructions.old ∷ []) (total.new ∷ first.new ∷ examined.new ∷ instructions.new ∷ []) picks.new groups.new }
-    ensures demand3 { result ≡ 0 → Demand3 (numbering (groupingOf has_map) map.now) (candidatesOf candidates.now) occupied.now max (PickAnswer.Picked (totalsOf total.new first.new examined.new instructions.new)) picks.new groups.new }
-    ensures unaborted { checkRefusal (numbering (groupingOf has_map) map.now) ≡ Refusal.None → result ≡ 0 → Unaborted (numbering (groupingOf has_map) map.now) (candidatesOf candidates.now) (PickAnswer.Picked (totalsOf total.new first.new examined.new instructions.new)) }
+    ensures picks { Picks (select_unchecked (numbering (grouping_of has_map) map.now) candidates.now occupied.now max picks.old groups.old) result (total.old ∷ first.old ∷ examined.old ∷ instructions.old ∷ []) (total.new ∷ first.new ∷ examined.new ∷ instructions.new ∷ []) picks.new groups.new }
+    ensures demand3 { result ≡ 0 → Demand3 (numbering (grouping_of has_map) map.now) (candidates_of candidates.now) occupied.now max (PickAnswer.Picked (totals_of total.new first.new examined.new instructions.new)) picks.new groups.new }
+    ensures unaborted { check_refusal (numbering (grouping_of has_map) map.now) ≡ Refusal.None → result ≡ 0 → Unaborted (numbering (grouping_of has_map) map.now) (candidates_of candidates.now) (PickAnswer.Picked (totals_of total.new first.new examined.new instructions.new)) }
 {
     let grouping = grouping_of(has_map);
     let got = netgroup_pick::select_diverse_unchecked(
@@ -144,8 +144,8 @@ pub extern "C" fn corbastrigo_old_prefix_pick(
     examined: &mut usize,
     instructions: &mut u64,
 ) -> u8
-    ensures picks { Picks (oldPrefixPick candidates.now occupied.now max picks.old groups.old) result (total.old ∷ first.old ∷ examined.old ∷ instructions.old ∷ []) (total.new ∷ first.new ∷ examined.new ∷ instructions.new ∷ []) picks.new groups.new }
-    ensures demand3 { result ≡ 0 → Demand3 byOldPrefixes (candidatesOf candidates.now) occupied.now max (PickAnswer.Picked (totalsOf total.new first.new examined.new instructions.new)) picks.new groups.new }
+    ensures picks { Picks (old_prefix_pick candidates.now occupied.now max picks.old groups.old) result (total.old ∷ first.old ∷ examined.old ∷ instructions.old ∷ []) (total.new ∷ first.new ∷ examined.new ∷ instructions.new ∷ []) picks.new groups.new }
+    ensures demand3 { result ≡ 0 → Demand3 by_old_prefixes (candidates_of candidates.now) occupied.now max (PickAnswer.Picked (totals_of total.new first.new examined.new instructions.new)) picks.new groups.new }
 {
     let got = netgroup_pick::old_prefix_pick(candidates, occupied, max, picks, groups);
     hand_pick(got, total, first, examined, instructions)

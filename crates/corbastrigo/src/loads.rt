@@ -1,10 +1,10 @@
 // Loads, and the draws that they are made of (document 02, CR 6), so that a team in C or Rust makes the same maps again, and others of its own.
 ghost use Rattle.std.specs.Prelude.{◌≡◌, ◌≢◌, ◌∷◌, [], take};
-ghost use Rattle.load_draws.specs.Draw.{drawnAfter};
+ghost use Rattle.load_draws.specs.Draw.{drawn_after};
 ghost use Rattle.asmap_load.specs.Load.{load_of};
 ghost use Rattle.asmap_load.specs.Promise.{Passes};
 ghost use Rattle.answer_outcome.specs.Outcome.{Hands};
-ghost use Rattle.answer_draws.specs.Draws.{numberDrawn};
+ghost use Rattle.answer_draws.specs.Draws.{number_drawn};
 ghost use Rattle.answer_bytes.specs.Bytes.{Writes};
 
 use answer_bytes::hand_bytes;
@@ -13,7 +13,7 @@ use answer_draws::hand_draw;
 // The draw after s, which is the seed at first and then what was drawn. Refusal 20 for 0, which no draw is.
 #[unsafe(no_mangle)]
 pub extern "C" fn corbastrigo_next_draw(s: u64, draw: &mut u64) -> u8
-    ensures hands { Hands (numberDrawn (drawnAfter s)) result (draw.old ∷ []) (draw.new ∷ []) }
+    ensures hands { Hands (number_drawn (drawn_after s)) result (draw.old ∷ []) (draw.new ∷ []) }
     ensures some { result ≡ 0 → draw.new ≢ 0 }
 {
     hand_draw(load_draws::next_draw(s), draw)

@@ -1,16 +1,16 @@
 // Check, walk, unpack and pack (document 01, Check, Walk, Unpack and pack); the listing (document 02, CR 1); two maps compared.
 ghost use Rattle.std.specs.Prelude.{◌∷◌, []};
-ghost use Rattle.asmap_check.specs.Check.{checkOf, stoppedOf};
-ghost use Rattle.asmap_walk.specs.Interpret.{interpretOf};
-ghost use Rattle.asmap_records.specs.Unpack.{unpackOf};
-ghost use Rattle.asmap_records.specs.Pack.{packOf};
-ghost use Rattle.asmap_list.specs.List.{list_of, neededOf};
+ghost use Rattle.asmap_check.specs.Check.{check_of, stopped_of};
+ghost use Rattle.asmap_walk.specs.Interpret.{interpret_of};
+ghost use Rattle.asmap_records.specs.Unpack.{unpack_of};
+ghost use Rattle.asmap_records.specs.Pack.{pack_of};
+ghost use Rattle.asmap_list.specs.List.{list_of, needed_of};
 ghost use Rattle.asmap_list.specs.Promise.{Covers};
-ghost use Rattle.asmap_compare.specs.Compare.{comparison, compareOf};
+ghost use Rattle.asmap_compare.specs.Compare.{comparison, compare_of};
 ghost use Rattle.asmap_compare.specs.Promise.{Compares};
 ghost use Rattle.answer_outcome.specs.Outcome.{Hands};
-ghost use Rattle.answer_maps.specs.Maps.{mapChecked, checkStopped, walkMade};
-ghost use Rattle.answer_bytes.specs.Bytes.{bytesNeeded, Writes, Finds};
+ghost use Rattle.answer_maps.specs.Maps.{map_checked, check_stopped, walk_made};
+ghost use Rattle.answer_bytes.specs.Bytes.{bytes_needed, Writes, Finds};
 ghost use Rattle.answers.specs.Promise.{Demand3, CoreVerdict, CoreNumber};
 
 use answer_bytes::{hand_bytes, hand_needed};
@@ -19,7 +19,7 @@ use answer_maps::{hand_stop, hand_verdict, hand_walk};
 // Checks a map. 0 says that it is accepted, with its instructions counted and the most jumps open at once. Refusals 1 to 10 and 19.
 #[unsafe(no_mangle)]
 pub extern "C" fn corbastrigo_sanity_check(map: &[u8], count: &mut u32, depth: &mut u8) -> u8
-    ensures hands { Hands (mapChecked (checkOf map.now 128)) result (count.old ∷ depth.old ∷ []) (count.new ∷ depth.new ∷ []) }
+    ensures hands { Hands (map_checked (check_of map.now 128)) result (count.old ∷ depth.old ∷ []) (count.new ∷ depth.new ∷ []) }
     ensures core { CoreVerdict map.now result }
 {
     hand_verdict(asmap_check::sanity_check(map), count, depth)
@@ -33,7 +33,7 @@ pub extern "C" fn corbastrigo_sanity_check_stop(
     reason: &mut u8,
     place: &mut usize,
 ) -> u8
-    ensures { Hands (checkStopped (stoppedOf map.now 128)) result (reason.old ∷ place.old ∷ []) (reason.new ∷ place.new ∷ []) }
+    ensures { Hands (check_stopped (stopped_of map.now 128)) result (reason.old ∷ place.old ∷ []) (reason.new ∷ place.new ∷ []) }
 {
     hand_stop(asmap_check::sanity_check_stop(map), reason, place)
 }
@@ -50,7 +50,7 @@ pub extern "C" fn corbastrigo_interpret(
     count: &mut u32,
     bits: &mut u8,
 ) -> u8
-    ensures hands { Hands (walkMade (interpretOf map.now address.now)) result (kind.old ∷ number.old ∷ count.old ∷ bits.old ∷ []) (kind.new ∷ number.new ∷ count.new ∷ bits.new ∷ []) }
+    ensures hands { Hands (walk_made (interpret_of map.now address.now)) result (kind.old ∷ number.old ∷ count.old ∷ bits.old ∷ []) (kind.new ∷ number.new ∷ count.new ∷ bits.new ∷ []) }
     ensures demand3 { Demand3 map.now address.now result kind.new number.new count.new bits.new }
     ensures core { CoreNumber map.now address.now number.new }
 {
@@ -66,7 +66,7 @@ pub extern "C" fn corbastrigo_interpret(
 // Unpacks a map that the check accepts into records of 16 bytes. Refusals: the check's, 1 to 10 and 19, then 14.
 #[unsafe(no_mangle)]
 pub extern "C" fn corbastrigo_unpack(map: &[u8], out: &mut [u8], written: &mut usize) -> u8
-    ensures { Writes (unpackOf map.now 128) out.old out.new result (written.old ∷ []) (written.new ∷ []) }
+    ensures { Writes (unpack_of map.now 128) out.old out.new result (written.old ∷ []) (written.new ∷ []) }
 {
     hand_bytes(asmap_unpack::unpack(map, out), written)
 }
@@ -74,7 +74,7 @@ pub extern "C" fn corbastrigo_unpack(map: &[u8], out: &mut [u8], written: &mut u
 // Packs records into a map's bytes, and checks nothing of the map. Refusals 16, 15, 1, 14.
 #[unsafe(no_mangle)]
 pub extern "C" fn corbastrigo_pack(records: &[u8], out: &mut [u8], written: &mut usize) -> u8
-    ensures { Writes (packOf records.now) out.old out.new result (written.old ∷ []) (written.new ∷ []) }
+    ensures { Writes (pack_of records.now) out.old out.new result (written.old ∷ []) (written.new ∷ []) }
 {
     hand_bytes(asmap_pack::pack(records, out), written)
 }
@@ -92,7 +92,7 @@ pub extern "C" fn corbastrigo_list(map: &[u8], out: &mut [u8], written: &mut usi
 // Says how many bytes the listing of a map needs. Refusals: the check's, 1 to 10 and 19.
 #[unsafe(no_mangle)]
 pub extern "C" fn corbastrigo_list_bytes(map: &[u8], bytes: &mut usize) -> u8
-    ensures { Hands (bytesNeeded (neededOf map.now 128)) result (bytes.old ∷ []) (bytes.new ∷ []) }
+    ensures { Hands (bytes_needed (needed_of map.now 128)) result (bytes.old ∷ []) (bytes.new ∷ []) }
 {
     hand_needed(asmap_list::list_bytes(map), bytes)
 }
@@ -107,7 +107,7 @@ pub extern "C" fn corbastrigo_compare(
     out: &mut [u8],
     written: &mut usize,
 ) -> u8
-    ensures writes { Writes (compareOf old_map.now new_map.now 128) out.old out.new result (written.old ∷ []) (written.new ∷ []) }
+    ensures writes { Writes (compare_of old_map.now new_map.now 128) out.old out.new result (written.old ∷ []) (written.new ∷ []) }
     ensures compares { Compares old_map.now new_map.now 128 }
 {
     hand_bytes(asmap_compare::compare(old_map, new_map, out), written)

@@ -1,11 +1,11 @@
 // The spread of a list of candidates on a printed page (document 02, CR 4): a line of 25 bytes for each group, groups rising. `has_map` is that
 // of the group calls and of the pick.
 ghost use Rattle.std.specs.Prelude.{◌≡◌, ◌∷◌, []};
-ghost use Rattle.netgroup.specs.Group.{byOldPrefixes, numbering};
-ghost use Rattle.netgroup.specs.Refusal.{checkRefusal};
-ghost use Rattle.spread_page.specs.Page.{spreadPage, spreadUnchecked, oldPrefixPage};
+ghost use Rattle.netgroup.specs.Group.{by_old_prefixes, numbering};
+ghost use Rattle.netgroup.specs.Refusal.{check_refusal};
+ghost use Rattle.spread_page.specs.Page.{spread_page, spread_unchecked, old_prefix_page};
 ghost use Rattle.spread_page.specs.Promise.{Told, Unaborted};
-ghost use Rattle.answer_groups.specs.Groups.{groupingOf};
+ghost use Rattle.answer_groups.specs.Groups.{grouping_of};
 ghost use Rattle.answer_bytes.specs.Bytes.{Writes};
 
 use answer_bytes::hand_bytes;
@@ -22,9 +22,9 @@ pub extern "C" fn corbastrigo_page(
     out: &mut [u8],
     written: &mut usize,
 ) -> u8
-    ensures writes { Writes (spreadPage (numbering (groupingOf has_map) map.now) candidates.now) out.old out.new result (written.old ∷ []) (written.new ∷ []) }
-    ensures told { result ≡ 0 → Told (numbering (groupingOf has_map) map.now) candidates.now (Answer.Wrote written.new) }
-    ensures unaborted { result ≡ 0 → Unaborted (numbering (groupingOf has_map) map.now) candidates.now (Answer.Wrote written.new) }
+    ensures writes { Writes (spread_page (numbering (grouping_of has_map) map.now) candidates.now) out.old out.new result (written.old ∷ []) (written.new ∷ []) }
+    ensures told { result ≡ 0 → Told (numbering (grouping_of has_map) map.now) candidates.now (Answer.Wrote written.new) }
+    ensures unaborted { result ≡ 0 → Unaborted (numbering (grouping_of has_map) map.now) candidates.now (Answer.Wrote written.new) }
 {
     let grouping = grouping_of(has_map);
     let got = spread_page::page(candidates, grouping, map, out);
@@ -40,9 +40,9 @@ pub extern "C" fn corbastrigo_page_unchecked(
     out: &mut [u8],
     written: &mut usize,
 ) -> u8
-    ensures writes { Writes (spreadUnchecked (numbering (groupingOf has_map) map.now) candidates.now) out.old out.new result (written.old ∷ []) (written.new ∷ []) }
-    ensures told { result ≡ 0 → Told (numbering (groupingOf has_map) map.now) candidates.now (Answer.Wrote written.new) }
-    ensures unaborted { checkRefusal (numbering (groupingOf has_map) map.now) ≡ Refusal.None → result ≡ 0 → Unaborted (numbering (groupingOf has_map) map.now) candidates.now (Answer.Wrote written.new) }
+    ensures writes { Writes (spread_unchecked (numbering (grouping_of has_map) map.now) candidates.now) out.old out.new result (written.old ∷ []) (written.new ∷ []) }
+    ensures told { result ≡ 0 → Told (numbering (grouping_of has_map) map.now) candidates.now (Answer.Wrote written.new) }
+    ensures unaborted { check_refusal (numbering (grouping_of has_map) map.now) ≡ Refusal.None → result ≡ 0 → Unaborted (numbering (grouping_of has_map) map.now) candidates.now (Answer.Wrote written.new) }
 {
     let grouping = grouping_of(has_map);
     let got = spread_page::page_unchecked(candidates, grouping, map, out);
@@ -56,8 +56,8 @@ pub extern "C" fn corbastrigo_old_prefix_page(
     out: &mut [u8],
     written: &mut usize,
 ) -> u8
-    ensures writes { Writes (oldPrefixPage candidates.now) out.old out.new result (written.old ∷ []) (written.new ∷ []) }
-    ensures told { result ≡ 0 → Told byOldPrefixes candidates.now (Answer.Wrote written.new) }
+    ensures writes { Writes (old_prefix_page candidates.now) out.old out.new result (written.old ∷ []) (written.new ∷ []) }
+    ensures told { result ≡ 0 → Told by_old_prefixes candidates.now (Answer.Wrote written.new) }
 {
     let got = spread_page::old_prefix_page(candidates, out);
     hand_bytes(got, written)

@@ -2,16 +2,16 @@
 // have, or over 128. Each is its namesake in `maps` with a width, which it refuses with 18, before all else, where it is neither; at 128 both
 // answer alike. The width has four bytes: one byte would cut 288 to 32.
 ghost use Rattle.std.specs.Prelude.{◌∷◌, []};
-ghost use Rattle.asmap_check.specs.Check.{checkAt, stoppedAt};
-ghost use Rattle.asmap_walk.specs.Interpret.{interpretAt};
-ghost use Rattle.asmap_records.specs.Unpack.{unpackAt};
-ghost use Rattle.asmap_list.specs.List.{listAt, needed_at};
+ghost use Rattle.asmap_check.specs.Check.{check_at, stopped_at};
+ghost use Rattle.asmap_walk.specs.Interpret.{interpret_at};
+ghost use Rattle.asmap_records.specs.Unpack.{unpack_at};
+ghost use Rattle.asmap_list.specs.List.{list_at, needed_at};
 ghost use Rattle.asmap_list.specs.Promise.{Covers};
-ghost use Rattle.asmap_compare.specs.Compare.{comparisonAt, compareAt};
+ghost use Rattle.asmap_compare.specs.Compare.{comparison_at, compare_at};
 ghost use Rattle.asmap_compare.specs.Promise.{Compares};
 ghost use Rattle.answer_outcome.specs.Outcome.{Hands};
-ghost use Rattle.answer_maps.specs.Maps.{mapChecked, checkStopped, walkMade};
-ghost use Rattle.answer_bytes.specs.Bytes.{bytesNeeded, Writes, Finds};
+ghost use Rattle.answer_maps.specs.Maps.{map_checked, check_stopped, walk_made};
+ghost use Rattle.answer_bytes.specs.Bytes.{bytes_needed, Writes, Finds};
 ghost use Rattle.answers.specs.Promise.{Demand3At, CoreVerdictAt, CoreNumberAt};
 
 use answer_bytes::{hand_bytes, hand_needed};
@@ -25,7 +25,7 @@ pub extern "C" fn corbastrigo_sanity_check_bits(
     count: &mut u32,
     depth: &mut u8,
 ) -> u8
-    ensures hands { Hands (mapChecked (checkAt map.now width)) result (count.old ∷ depth.old ∷ []) (count.new ∷ depth.new ∷ []) }
+    ensures hands { Hands (map_checked (check_at map.now width)) result (count.old ∷ depth.old ∷ []) (count.new ∷ depth.new ∷ []) }
     ensures core { CoreVerdictAt map.now width result }
 {
     hand_verdict(asmap_check::sanity_check_bits(map, width), count, depth)
@@ -39,7 +39,7 @@ pub extern "C" fn corbastrigo_sanity_check_stop_bits(
     reason: &mut u8,
     place: &mut usize,
 ) -> u8
-    ensures { Hands (checkStopped (stoppedAt map.now width)) result (reason.old ∷ place.old ∷ []) (reason.new ∷ place.new ∷ []) }
+    ensures { Hands (check_stopped (stopped_at map.now width)) result (reason.old ∷ place.old ∷ []) (reason.new ∷ place.new ∷ []) }
 {
     hand_stop(
         asmap_check::sanity_check_stop_bits(map, width),
@@ -60,7 +60,7 @@ pub extern "C" fn corbastrigo_interpret_bits(
     count: &mut u32,
     bits: &mut u8,
 ) -> u8
-    ensures hands { Hands (walkMade (interpretAt map.now address.now width)) result (kind.old ∷ number.old ∷ count.old ∷ bits.old ∷ []) (kind.new ∷ number.new ∷ count.new ∷ bits.new ∷ []) }
+    ensures hands { Hands (walk_made (interpret_at map.now address.now width)) result (kind.old ∷ number.old ∷ count.old ∷ bits.old ∷ []) (kind.new ∷ number.new ∷ count.new ∷ bits.new ∷ []) }
     ensures demand3 { Demand3At map.now address.now width result kind.new number.new count.new bits.new }
     ensures core { CoreNumberAt map.now address.now width number.new }
 {
@@ -81,7 +81,7 @@ pub extern "C" fn corbastrigo_unpack_bits(
     out: &mut [u8],
     written: &mut usize,
 ) -> u8
-    ensures { Writes (unpackAt map.now width) out.old out.new result (written.old ∷ []) (written.new ∷ []) }
+    ensures { Writes (unpack_at map.now width) out.old out.new result (written.old ∷ []) (written.new ∷ []) }
 {
     hand_bytes(asmap_unpack::unpack_bits(map, width, out), written)
 }
@@ -95,7 +95,7 @@ pub extern "C" fn corbastrigo_list_bits(
     out: &mut [u8],
     written: &mut usize,
 ) -> u8
-    ensures writes { Writes (listAt map.now width) out.old out.new result (written.old ∷ []) (written.new ∷ []) }
+    ensures writes { Writes (list_at map.now width) out.old out.new result (written.old ∷ []) (written.new ∷ []) }
     ensures covers { Covers map.now width }
 {
     hand_bytes(asmap_list::list_bits(map, width, out), written)
@@ -104,7 +104,7 @@ pub extern "C" fn corbastrigo_list_bits(
 // Says how many bytes that listing needs. Refusals 18, the check's.
 #[unsafe(no_mangle)]
 pub extern "C" fn corbastrigo_list_bytes_bits(map: &[u8], width: u32, bytes: &mut usize) -> u8
-    ensures { Hands (bytesNeeded (needed_at map.now width)) result (bytes.old ∷ []) (bytes.new ∷ []) }
+    ensures { Hands (bytes_needed (needed_at map.now width)) result (bytes.old ∷ []) (bytes.new ∷ []) }
 {
     hand_needed(asmap_list::list_bytes_bits(map, width), bytes)
 }
@@ -119,7 +119,7 @@ pub extern "C" fn corbastrigo_compare_bits(
     out: &mut [u8],
     written: &mut usize,
 ) -> u8
-    ensures writes { Writes (compareAt old_map.now new_map.now width) out.old out.new result (written.old ∷ []) (written.new ∷ []) }
+    ensures writes { Writes (compare_at old_map.now new_map.now width) out.old out.new result (written.old ∷ []) (written.new ∷ []) }
     ensures compares { Compares old_map.now new_map.now width }
 {
     hand_bytes(
@@ -137,7 +137,7 @@ pub extern "C" fn corbastrigo_compare_bytes_bits(
     first: &mut [u8],
     bytes: &mut usize,
 ) -> u8
-    ensures finds { Finds (comparisonAt old_map.now new_map.now width) first.old first.new result (bytes.old ∷ []) (bytes.new ∷ []) }
+    ensures finds { Finds (comparison_at old_map.now new_map.now width) first.old first.new result (bytes.old ∷ []) (bytes.new ∷ []) }
     ensures compares { Compares old_map.now new_map.now width }
 {
     hand_needed(

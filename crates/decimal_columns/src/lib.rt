@@ -1,19 +1,19 @@
 // Numbers in decimal, set flush right in columns (document 02, CR 4).
 ghost use Rattle.std.specs.Prelude.{◌≡◌, ◌+◌, ◌≤◌, ◌<◌, length};
 ghost use Rattle.std.proofs.lemmas.List.Edits.{sets};
-ghost use Rattle.decimal_columns.specs.Columns.{digitByte, flushRight};
-ghost use Rattle.decimal_columns.specs.models.Rest.{restByte};
+ghost use Rattle.decimal_columns.specs.Columns.{digit_byte, flush_right};
+ghost use Rattle.decimal_columns.specs.models.Rest.{rest_byte};
 
 // The byte of a number's last digit.
 pub fn last_digit(n: u64) -> u8
-    ensures { result ≡ digitByte n 0 }
+    ensures { result ≡ digit_byte n 0 }
 {
     48 + (n % 10) as u8
 }
 
 // The byte of a column, by what is left of the number there: a space where nothing is.
 fn rest_byte(rest: u64) -> u8
-    ensures { result ≡ restByte rest }
+    ensures { result ≡ rest_byte rest }
 {
     if rest == 0 {
         return 32;
@@ -24,7 +24,7 @@ fn rest_byte(rest: u64) -> u8
 // A number put into columns from a place on, from the last column to the first. The last has a digit always.
 pub fn put_columns(out: &mut [u8], at: usize, columns: usize, n: u64)
     requires { at + columns ≤ length out.old }
-    ensures { out.new ≡ sets out.old at (flushRight columns n) }
+    ensures { out.new ≡ sets out.old at (flush_right columns n) }
 {
     let mut left = columns;
     let mut byte = last_digit(n);

@@ -7,7 +7,7 @@ use mathlib.Core.List.{List, [], ◌∷◌}
 use Rattle.asmap_program.specs.declared.Verdict.{Verdict}
 use Rattle.asmap_program.specs.declared.Verdict.TheVariants.{Accepted, Refused}
 use Rattle.answer_outcome.specs.Outcome.{Outcome, Done, No, handed, IsDone, Hands}
-use Rattle.answer_maps.specs.Maps.{mapChecked}
+use Rattle.answer_maps.specs.Maps.{map_checked}
 use Rattle.answers.proofs.Handing.{Refuses}
 
 -- ---- any call
@@ -29,29 +29,29 @@ pub refused_as : (o : Outcome) {r k : ℕ} {lent left : List ℕ} → o ≡ No k
 unfolding handed
 refused_as o e h = let n = rw e at h.numbers in cc
 
-pub done-as : (o : Outcome) {r : ℕ} {ns lent left : List ℕ} → o ≡ Done ns → Hands o r lent left → r ≡ 0
+pub done_as : (o : Outcome) {r : ℕ} {ns lent left : List ℕ} → o ≡ Done ns → Hands o r lent left → r ≡ 0
 unfolding handed
-done-as o e h = let n = rw e at h.numbers in cc
+done_as o e h = let n = rw e at h.numbers in cc
 
 -- ---- the check
 
 -- 0: accepted
-pub accepted : (v : Verdict) {r c d : ℕ} {lent : List ℕ} → Hands (mapChecked v) r lent (c ∷ d ∷ []) → r ≡ 0 → v ≡ Accepted c d
-unfolding handed IsDone mapChecked
+pub accepted : (v : Verdict) {r c d : ℕ} {lent : List ℕ} → Hands (map_checked v) r lent (c ∷ d ∷ []) → r ≡ 0 → v ≡ Accepted c d
+unfolding handed IsDone map_checked
 accepted (Accepted c' d') h z = let e = h.numbers in cc
-accepted (Refused n) h z = absurd (h.zero-is-done z)
+accepted (Refused n) h z = absurd (h.zero_is_done z)
 
 -- and an accepted map is answered by 0
-pub answered : (v : Verdict) {r c d : ℕ} {lent left : List ℕ} → v ≡ Accepted c d → Hands (mapChecked v) r lent left → r ≡ 0
-unfolding mapChecked
-answered v e h = done-as (mapChecked v) (ap mapChecked e) h
+pub answered : (v : Verdict) {r c d : ℕ} {lent left : List ℕ} → v ≡ Accepted c d → Hands (map_checked v) r lent left → r ≡ 0
+unfolding map_checked
+answered v e h = done_as (map_checked v) (ap map_checked e) h
 
 -- with its count and its depth
-pub handed_out : (v : Verdict) {r c d : ℕ} {lent left : List ℕ} → v ≡ Accepted c d → Hands (mapChecked v) r lent left → (r ≡ 0) × (left ≡ c ∷ d ∷ [])
-unfolding handed mapChecked
+pub handed_out : (v : Verdict) {r c d : ℕ} {lent left : List ℕ} → v ≡ Accepted c d → Hands (map_checked v) r lent left → (r ≡ 0) × (left ≡ c ∷ d ∷ [])
+unfolding handed map_checked
 handed_out v e h = let k = rw e at h.numbers in (cc, cc)
 
 -- a refusal's number is the answer
-pub refused-by : (v : Verdict) {r n : ℕ} {lent left : List ℕ} → v ≡ Refused n → Hands (mapChecked v) r lent left → r ≡ n
-unfolding mapChecked
-refused-by v e h = refused_as (mapChecked v) (ap mapChecked e) h
+pub refused_by : (v : Verdict) {r n : ℕ} {lent left : List ℕ} → v ≡ Refused n → Hands (map_checked v) r lent left → r ≡ n
+unfolding map_checked
+refused_by v e h = refused_as (map_checked v) (ap map_checked e) h

@@ -11,14 +11,14 @@ use lib.Dec.{eqb, ltb}
 use lib.ListN.{length, take, drop, get_or, length-drop}
 use lib.Seq.{length-take-le, take-take, drop-drop, get_or-take, get_or-drop}
 use Rattle.peer_lists.specs.declared.Refusal.TheVariants.{None}
-use Rattle.candidate_bytes.specs.Candidate.{address, mappedFront, mapped, valid}
-use Rattle.peer_lists.specs.Refusal.{candidateRefusal}
-use Rattle.netgroup.specs.Group.{prefix4, oldPrefixGroup, ipv4, prefixGroup}
-use Rattle.peer_lists.specs.Candidates.{cut, candidatesOf, allValid}
-use Rattle.pick_passes.specs.First.{Pass, examine, passFrom}
-use Rattle.pick_passes.proofs.Passes.{examine-count}
+use Rattle.candidate_bytes.specs.Candidate.{address, mapped_front, mapped, valid}
+use Rattle.peer_lists.specs.Refusal.{candidate_refusal}
+use Rattle.netgroup.specs.Group.{prefix4, old_prefix_group, ipv4, prefix_group}
+use Rattle.peer_lists.specs.Candidates.{cut, candidates_of, all_valid}
+use Rattle.pick_passes.specs.First.{Pass, examine, pass_from}
+use Rattle.pick_passes.proofs.Passes.{examine_count}
 use Rattle.demand_statements.specs.AnyInput.{Candidate}
-use Rattle.demand_statements.specs.Picked.{each, ipv4At, prefixAt, oldPrefixAt}
+use Rattle.demand_statements.specs.Picked.{each, ipv4_at, prefix_at, old_prefix_at}
 
 -- ---- one candidate
 
@@ -27,47 +27,47 @@ front [] = refl
 front (x ∷ []) = refl
 front (x ∷ y ∷ l) = take-take 16 18 l (omega arith)
 
-pub address-at : (bytes : List ℕ) (i : ℕ) → address (take 20 (drop (20 * i) bytes)) ≡ take 16 (drop (20 * i + 2) bytes)
-address-at bytes i = front (drop (20 * i) bytes) ∙ ap (take 16) (drop-drop 2 (20 * i) bytes)
+pub address_at_lem : (bytes : List ℕ) (i : ℕ) → address (take 20 (drop (20 * i) bytes)) ≡ take 16 (drop (20 * i + 2) bytes)
+address_at_lem bytes i = front (drop (20 * i) bytes) ∙ ap (take 16) (drop-drop 2 (20 * i) bytes)
 
 -- four bytes as a number, as the two definitions write it
 four_bytes : (a b c d : ℕ) → 256 * (256 * (256 * a + b) + c) + d ≡ 16777216 * a + 65536 * b + 256 * c + d
 four_bytes a b c d = omega arith
 
-pub ipv4-of : (c : List ℕ) → ipv4 c ≡ ipv4At c 0
-unfolding ipv4 mapped ipv4At
-ipv4-of c = refl
+pub ipv4_of : (c : List ℕ) → ipv4 c ≡ ipv4_at c 0
+unfolding ipv4 mapped ipv4_at
+ipv4_of c = refl
 
-pub prefix-of : (c : List ℕ) → prefixGroup c ≡ prefixAt c 0
-unfolding prefixGroup prefixAt
-prefix-of c =
-    ap₂ (λ (t : Bool) (x : ℕ). cond t (4294967296 + prefix4 c) x) (ipv4-of c) (four_bytes (get_or c 2 0) (get_or c 3 0) (get_or c 4 0) (get_or c 5 0))
+pub prefix_of : (c : List ℕ) → prefix_group c ≡ prefix_at c 0
+unfolding prefix_group prefix_at
+prefix_of c =
+    ap₂ (λ (t : Bool) (x : ℕ). cond t (4294967296 + prefix4 c) x) (ipv4_of c) (four_bytes (get_or c 2 0) (get_or c 3 0) (get_or c 4 0) (get_or c 5 0))
 
-pub old-prefix-of : (c : List ℕ) → oldPrefixGroup c ≡ oldPrefixAt c 0
-unfolding oldPrefixGroup oldPrefixAt
-old-prefix-of c = ap (cond (eqb (get_or c 0 0) 4) (prefix4 c)) (four_bytes (get_or c 2 0) (get_or c 3 0) (get_or c 4 0) (get_or c 5 0))
+pub old-prefix_of : (c : List ℕ) → old_prefix_group c ≡ old_prefix_at c 0
+unfolding old_prefix_group old_prefix_at
+old-prefix_of c = ap (cond (eqb (get_or c 0 0) 4) (prefix4 c)) (four_bytes (get_or c 2 0) (get_or c 3 0) (get_or c 4 0) (get_or c 5 0))
 
 byte : (bytes : List ℕ) (i k : ℕ) → k < 20 → get_or (take 20 (drop (20 * i) bytes)) k 0 ≡ get_or bytes (20 * i + k) 0
 byte bytes i k h = get_or-take 20 (drop (20 * i) bytes) k 0 h ∙ get_or-drop (20 * i) bytes k 0
 
-mapped-front : (l : List ℕ) → take 12 (drop 2 (take 20 l)) ≡ take 12 (drop 2 l)
-mapped-front [] = refl
-mapped-front (x ∷ []) = refl
-mapped-front (x ∷ y ∷ l) = take-take 12 18 l (omega arith)
+mapped_front_lem : (l : List ℕ) → take 12 (drop 2 (take 20 l)) ≡ take 12 (drop 2 l)
+mapped_front_lem [] = refl
+mapped_front_lem (x ∷ []) = refl
+mapped_front_lem (x ∷ y ∷ l) = take-take 12 18 l (omega arith)
 
 front_at : (bytes : List ℕ) (i : ℕ) → take 12 (drop 2 (take 20 (drop (20 * i) bytes))) ≡ take 12 (drop (20 * i + 2) bytes)
-front_at bytes i = mapped-front (drop (20 * i) bytes) ∙ ap (take 12) (drop-drop 2 (20 * i) bytes)
+front_at bytes i = mapped_front_lem (drop (20 * i) bytes) ∙ ap (take 12) (drop-drop 2 (20 * i) bytes)
 
-ipv4-at : (bytes : List ℕ) (i : ℕ) → ipv4At (take 20 (drop (20 * i) bytes)) 0 ≡ ipv4At bytes i
-unfolding ipv4At
-ipv4-at bytes i = rw (byte bytes i 0 (omega arith), front_at bytes i)
+ipv4_at_lem : (bytes : List ℕ) (i : ℕ) → ipv4_at (take 20 (drop (20 * i) bytes)) 0 ≡ ipv4_at bytes i
+unfolding ipv4_at
+ipv4_at_lem bytes i = rw (byte bytes i 0 (omega arith), front_at bytes i)
 
-pub prefix-at : (bytes : List ℕ) (i : ℕ) → prefixGroup (take 20 (drop (20 * i) bytes)) ≡ prefixAt bytes i
-unfolding prefixAt
-prefix-at bytes i =
-    prefix-of (take 20 (drop (20 * i) bytes))
+pub prefix_at_lem : (bytes : List ℕ) (i : ℕ) → prefix_group (take 20 (drop (20 * i) bytes)) ≡ prefix_at bytes i
+unfolding prefix_at
+prefix_at_lem bytes i =
+    prefix_of (take 20 (drop (20 * i) bytes))
     ∙ rw (
-      ipv4-at bytes i,
+      ipv4_at_lem bytes i,
       byte bytes i 2 (omega arith),
       byte bytes i 3 (omega arith),
       byte bytes i 4 (omega arith),
@@ -76,10 +76,10 @@ prefix-at bytes i =
       byte bytes i 15 (omega arith),
     )
 
-pub old-prefix-at : (bytes : List ℕ) (i : ℕ) → oldPrefixGroup (take 20 (drop (20 * i) bytes)) ≡ oldPrefixAt bytes i
-unfolding oldPrefixAt
-old-prefix-at bytes i =
-    old-prefix-of (take 20 (drop (20 * i) bytes))
+pub old-prefix_at : (bytes : List ℕ) (i : ℕ) → old_prefix_group (take 20 (drop (20 * i) bytes)) ≡ old_prefix_at bytes i
+unfolding old_prefix_at
+old-prefix_at bytes i =
+    old-prefix_of (take 20 (drop (20 * i) bytes))
     ∙ rw (
       byte bytes i 0 (omega arith),
       byte bytes i 2 (omega arith),
@@ -92,17 +92,17 @@ old-prefix-at bytes i =
 
 -- ---- what a candidate has to be
 
-valid-of : (c : List ℕ) → length c ≡ 20 → Candidate c 0 → valid c ≡ true
+valid_of : (c : List ℕ) → length c ≡ 20 → Candidate c 0 → valid c ≡ true
 unfolding valid mapped
-valid-of c l k = by k.family
+valid_of c l k = by k.family
   where
-    by : (get_or c 0 0 ≡ 6) ⊎ ((get_or c 0 0 ≡ 4) × (take 12 (drop 2 c) ≡ mappedFront)) → valid c ≡ true
+    by : (get_or c 0 0 ≡ 6) ⊎ ((get_or c 0 0 ≡ 4) × (take 12 (drop 2 c) ≡ mapped_front)) → valid c ≡ true
     by (inl f) = rw (eq-eqb (length c) 20 l, eq-eqb (get_or c 1 0) 0 k.blank, eq-eqb (get_or c 0 0) 6 f)
     by (inr f) =
         rw (eq-eqb (length c) 20 l, eq-eqb (get_or c 1 0) 0 k.blank, ne_eqb (get_or c 0 0) 6 (λ z. omega (arith, f.0)), eq-eqb (get_or c 0 0) 4 f.0, f.1)
 
-pub candidate-passes : (c : List ℕ) → length c ≡ 20 → Candidate c 0 → candidateRefusal c ≡ None
-candidate-passes c l k = rw (valid-of c l k)
+pub candidate_passes : (c : List ℕ) → length c ≡ 20 → Candidate c 0 → candidate_refusal c ≡ None
+candidate_passes c l k = rw (valid_of c l k)
 
 -- the one at a place, by itself
 alone : (bytes : List ℕ) (i : ℕ) → Candidate bytes i → Candidate (take 20 (drop (20 * i) bytes)) 0
@@ -111,19 +111,19 @@ alone bytes i k =
     let f : get_or (take 20 (drop (20 * i) bytes)) 0 0 ≡ get_or bytes (20 * i) 0 = byte bytes i 0 (omega arith) ∙ ap (λ (n : ℕ). get_or bytes n 0) z in
     record { blank = byte bytes i 1 (omega arith) ∙ k.blank; family = ⊎_elim (λ e. inl (f ∙ e)) (λ e. inr (f ∙ e.0, front_at bytes i ∙ e.1)) k.family }
 
-all_valid : (n : ℕ) (bytes : List ℕ) → ((i : ℕ) → i < n → valid (take 20 (drop (20 * i) bytes)) ≡ true) → allValid (cut n bytes) ≡ true
-all_valid zero bytes h = refl
-all_valid (suc n) bytes h =
+all_valid_lem : (n : ℕ) (bytes : List ℕ) → ((i : ℕ) → i < n → valid (take 20 (drop (20 * i) bytes)) ≡ true) → all_valid (cut n bytes) ≡ true
+all_valid_lem zero bytes h = refl
+all_valid_lem (suc n) bytes h =
     let e : (i : ℕ) → drop (20 * suc i) bytes ≡ drop (20 * i) (drop 20 bytes)
     = λ i. let q : 20 * suc i ≡ 20 + 20 * i = omega arith in ap (λ (k : ℕ). drop k bytes) q ∙ sym (drop-drop (20 * i) 20 bytes) in
     let a = h 0 (omega arith) in
-    let t = all_valid n (drop 20 bytes) (λ i k. subst (λ (l : List ℕ). valid (take 20 l) ≡ true) (e i) (h (suc i) (omega arith))) in
+    let t = all_valid_lem n (drop 20 bytes) (λ i k. subst (λ (l : List ℕ). valid (take 20 l) ≡ true) (e i) (h (suc i) (omega arith))) in
     rw (a, t)
 
-pub candidates-valid : (bytes : List ℕ) → ((i : ℕ) → i < length bytes / 20 → Candidate bytes i) → allValid (candidatesOf bytes) ≡ true
+pub candidates-valid : (bytes : List ℕ) → ((i : ℕ) → i < length bytes / 20 → Candidate bytes i) → all_valid (candidates_of bytes) ≡ true
 candidates-valid bytes h =
-    all_valid (length bytes / 20) bytes
-    (λ i k. valid-of (take 20 (drop (20 * i) bytes)) (length-take-le 20 (drop (20 * i) bytes) (omega (arith, length-drop (20 * i) bytes))) (alone bytes i (h i k)))
+    all_valid_lem (length bytes / 20) bytes
+    (λ i k. valid_of (take 20 (drop (20 * i) bytes)) (length-take-le 20 (drop (20 * i) bytes) (omega (arith, length-drop (20 * i) bytes))) (alone bytes i (h i k)))
 
 -- ---- all of them
 
@@ -141,15 +141,15 @@ each-cut f (suc n) bytes =
     ∙ each_same n _ _ (λ i. let e : 20 + 20 * i ≡ 20 * suc i = omega arith in ap (λ (l : List ℕ). f (take 20 l)) (drop-drop (20 * i) 20 bytes ∙ ap (λ (k : ℕ). drop k bytes) e)))
 
 -- f: what a candidate has; g: the same by its place
-pub each-candidate : (f : List ℕ → ℕ) (g : ℕ → ℕ) (n : ℕ) (bytes : List ℕ) → ((i : ℕ) → f (take 20 (drop (20 * i) bytes)) ≡ g i) → map f (cut n bytes) ≡ each n g
-each-candidate f g n bytes h = each-cut f n bytes ∙ each_same n _ g h
+pub each_candidate : (f : List ℕ → ℕ) (g : ℕ → ℕ) (n : ℕ) (bytes : List ℕ) → ((i : ℕ) → f (take 20 (drop (20 * i) bytes)) ≡ g i) → map f (cut n bytes) ≡ each n g
+each_candidate f g n bytes h = each-cut f n bytes ∙ each_same n _ g h
 
 -- the first pass examines no more than there are
-pub pass-examined : (occupied : List ℕ) (max : ℕ) (s : Pass) (gs : List ℕ) → (passFrom occupied max s gs).examined ≤ s.examined + length gs
-pass-examined occupied max s [] = omega arith
-pass-examined occupied max s (g ∷ gs) = go (ltb (length s.groups) max) (pass-examined occupied max (examine occupied g s) gs)
+pub pass_examined : (occupied : List ℕ) (max : ℕ) (s : Pass) (gs : List ℕ) → (pass_from occupied max s gs).examined ≤ s.examined + length gs
+pass_examined occupied max s [] = omega arith
+pass_examined occupied max s (g ∷ gs) = go (ltb (length s.groups) max) (pass_examined occupied max (examine occupied g s) gs)
   where
-    go : (b : Bool) → (passFrom occupied max (examine occupied g s) gs).examined ≤ (examine occupied g s).examined + length gs
-        → (cond b (passFrom occupied max (examine occupied g s) gs) s).examined ≤ s.examined + suc (length gs)
-    go true h = omega (arith, examine-count occupied g s)
+    go : (b : Bool) → (pass_from occupied max (examine occupied g s) gs).examined ≤ (examine occupied g s).examined + length gs
+        → (cond b (pass_from occupied max (examine occupied g s) gs) s).examined ≤ s.examined + suc (length gs)
+    go true h = omega (arith, examine_count occupied g s)
     go false h = omega arith

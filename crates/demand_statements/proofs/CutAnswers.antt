@@ -13,48 +13,48 @@ use Rattle.asmap_program.specs.declared.Verdict.{Verdict}
 use Rattle.asmap_program.specs.declared.Verdict.TheVariants.{Accepted, Refused}
 use Rattle.asmap_program.specs.Map.{limit, Opcode, Fetched, CutOpcode, CutOperand}
 use Rattle.asmap_program.specs.Check.{check}
-use Rattle.asmap_program.proofs.Refusals.{Shows, stops-at-a-cut}
+use Rattle.asmap_program.proofs.Refusals.{Shows, stops_at_a_cut}
 use Rattle.asmap_codes.specs.declared.Code.{Code}
 use Rattle.asmap_codes.specs.declared.Code.TheVariants.{Value, Cut}
-use Rattle.asmap_codes.specs.Row.{typeRow, operand_row}
+use Rattle.asmap_codes.specs.Row.{type_row, operand_row}
 use Rattle.asmap_codes.specs.Code.{code_at, answered, read_code}
-use Rattle.asmap_codes.specs.Instruction.{mapOf, withOperand, withOpcode, fetchAt, answeredWhole, readInstruction}
-use Rattle.asmap_codes.proofs.MapLaws.{laws, instruction-at}
-use Rattle.asmap_check.specs.Check.{checkOf}
+use Rattle.asmap_codes.specs.Instruction.{map_of, with_operand, with_opcode, fetch_at, answered_whole, read_instruction}
+use Rattle.asmap_codes.proofs.MapLaws.{laws, instruction_at_lem}
+use Rattle.asmap_check.specs.Check.{check_of}
 use Rattle.asmap_check.proofs.Limit.{checked}
 use Rattle.answer_outcome.specs.Outcome.{No, Hands}
-use Rattle.answer_codes.specs.Codes.{codeRead, instructionRead}
+use Rattle.answer_codes.specs.Codes.{code_read, instruction_read}
 use Rattle.demand_statements.specs.AnyInput.{Stops}
 use Rattle.demand_statements.specs.Cut.{WhichIsCut, HandedOn}
-use Rattle.demand_statements.proofs.AnswerLaws.{refused_as, done-as}
+use Rattle.demand_statements.proofs.AnswerLaws.{refused_as, done_as}
 
 -- ---- an opcode read, and the instruction at the same bit
 
 -- an instruction behind an opcode: done, or its operand is cut
-behind : (at op : ℕ) (c : Code) {r : ℕ} {entry exit : List ℕ} → Hands (instructionRead (answeredWhole false (withOperand at op c))) r entry exit → r ≢ 0 → r ≡ 19
-unfolding instructionRead
-behind at op (Value v n) h z = absurd (z (done-as _ refl h))
+behind : (at op : ℕ) (c : Code) {r : ℕ} {entry exit : List ℕ} → Hands (instruction_read (answered_whole false (with_operand at op c))) r entry exit → r ≢ 0 → r ≡ 19
+unfolding instruction_read
+behind at op (Value v n) h z = absurd (z (done_as _ refl h))
 behind at op Cut h z = refused_as _ refl h
 
 -- long: whether the map is too long; c: the opcode as it was read
-which : (m : List ℕ) (at : ℕ) (long : Bool) (c : Code) {q r : ℕ} {lent left entry exit : List ℕ} → Hands (codeRead (answered Opcode long c)) q lent left
-    → Hands (instructionRead (answeredWhole long (withOpcode m at c))) r entry exit → WhichIsCut q r
-unfolding codeRead instructionRead
+which : (m : List ℕ) (at : ℕ) (long : Bool) (c : Code) {q r : ℕ} {lent left entry exit : List ℕ} → Hands (code_read (answered Opcode long c)) q lent left
+    → Hands (instruction_read (answered_whole long (with_opcode m at c))) r entry exit → WhichIsCut q r
+unfolding code_read instruction_read
 which m at true c k h = let one = refused_as _ refl k in record { opcode = λ z. absurd (omega arith); operand = λ z. absurd (omega arith) }
 which m at false Cut k h = let four = refused_as _ refl k in record { opcode = λ z. refused_as _ refl h; operand = λ z. absurd (omega arith) }
 which m at false (Value op n) k h =
-    let done = done-as _ refl k in
+    let done = done_as _ refl k in
     record { opcode = λ z. absurd (omega arith); operand = λ z. behind at op (code_at m n (operand_row op)) h }
 
-pub which-is-cut : (m : List ℕ) (at : ℕ) {q r : ℕ} {lent left entry exit : List ℕ} → Hands (codeRead (read_code m at typeRow)) q lent left
-    → Hands (instructionRead (readInstruction m at)) r entry exit → WhichIsCut q r
-unfolding readInstruction fetchAt
-which-is-cut m at k h = which m at (ltb limit (length m)) (code_at m at typeRow) k h
+pub which_is-cut : (m : List ℕ) (at : ℕ) {q r : ℕ} {lent left entry exit : List ℕ} → Hands (code_read (read_code m at type_row)) q lent left
+    → Hands (instruction_read (read_instruction m at)) r entry exit → WhichIsCut q r
+unfolding read_instruction fetch_at
+which_is-cut m at k h = which m at (ltb limit (length m)) (code_at m at type_row) k h
 
 -- ---- where the check stops, and the instruction there
 
 module _ (m : List ℕ) (w : ℕ) {a reason place r : ℕ} {lent entry exit : List ℕ} (s : Stops m w a lent reason place) (z : a ≡ 0)
-    (h : Hands (instructionRead (readInstruction m place)) r entry exit) where
+    (h : Hands (instruction_read (read_instruction m place)) r entry exit) where
   short : length m ≤ 16777216
   short = by (dec_le (length m) 16777216)
     where
@@ -62,29 +62,29 @@ module _ (m : List ℕ) (w : ℕ) {a reason place r : ℕ} {lent entry exit : Li
       by (yes l) = l
       by (no l) = let one = s.too_long (omega arith) in absurd (omega arith)
 
-  refused : reason ≢ 0 → check (mapOf m) w ≡ Refused reason
-  refused n = checked m w short ∙ by (checkOf m w) refl
+  refused : reason ≢ 0 → check (map_of m) w ≡ Refused reason
+  refused n = checked m w short ∙ by (check_of m w) refl
     where
-      by : (v : Verdict) → checkOf m w ≡ v → checkOf m w ≡ Refused reason
+      by : (v : Verdict) → check_of m w ≡ v → check_of m w ≡ Refused reason
       by (Accepted c d) e = absurd (n (s.accepted c d z e))
       by (Refused k) e = e ∙ ap Refused (sym (s.refused k z e))
 
-  shows : reason ≢ 0 → Shows (mapOf m) place reason
-  shows n = subst (λ (p : ℕ). Shows (mapOf m) p reason) (sym (s.exact z)) (stops-at-a-cut (mapOf m) (laws m) w reason (refused n))
+  shows : reason ≢ 0 → Shows (map_of m) place reason
+  shows n = subst (λ (p : ℕ). Shows (map_of m) p reason) (sym (s.exact z)) (stops_at_a_cut (map_of m) (laws m) w reason (refused n))
 
-  read_as : (f : Fetched) → (mapOf m).fetch place ≡ f → {k : ℕ} → instructionRead (answeredWhole false f) ≡ No k → r ≡ k
-  read_as f e q = refused_as _ (ap instructionRead (instruction-at m place short f e) ∙ q) h
+  read_as : (f : Fetched) → (map_of m).fetch place ≡ f → {k : ℕ} → instruction_read (answered_whole false f) ≡ No k → r ≡ k
+  read_as f e q = refused_as _ (ap instruction_read (instruction_at_lem m place short f e) ∙ q) h
 
-  pub handed-on : HandedOn reason r
-  unfolding instructionRead
-  handed-on = record {
+  pub handed_on : HandedOn reason r
+  unfolding instruction_read
+  handed_on = record {
     opcode = λ _ e. read_as CutOpcode ((shows (λ n. omega arith)).opcode e) refl;
     operand = λ _ e. let x = (shows (λ n. omega arith)).operand e in read_as (CutOperand x.0) x.1 refl;
   }
 
 -- a map that is too long has no place
-pub not-handed-on : (m : List ℕ) (w : ℕ) {a reason place : ℕ} {lent : List ℕ} → Stops m w a lent reason place → a ≢ 0 → HandedOn reason a
-not-handed-on m w {a} s n = record { opcode = λ k e. absurd (k one); operand = λ k e. absurd (k one) }
+pub not_handed_on : (m : List ℕ) (w : ℕ) {a reason place : ℕ} {lent : List ℕ} → Stops m w a lent reason place → a ≢ 0 → HandedOn reason a
+not_handed_on m w {a} s n = record { opcode = λ k e. absurd (k one); operand = λ k e. absurd (k one) }
   where
     one : a ≡ 1
     one = by (dec_le (length m) 16777216)

@@ -9,10 +9,10 @@ use native.Mathlib.Omega.{arith}
 use borrow.Author.Tests.{eq-eqb, ne_eqb, eqb-true, le-leb, leb-true}
 use lib.Dec.{eqb, leb}
 use lib.ListN.{length}
-use Rattle.netaddr.specs.Answer.{unlessRefused}
+use Rattle.netaddr.specs.Answer.{unless_refused}
 use Rattle.netaddr_ranges.specs.Unroutable.{unroutable16}
-use Rattle.netaddr.specs.Filter.{filterOf}
-use Rattle.netaddr.specs.Relay.{lengthFits, skips, relayOf}
+use Rattle.netaddr.specs.Filter.{filter_of}
+use Rattle.netaddr.specs.Relay.{length_fits, skips, relay_of}
 use Rattle.answer_outcome.specs.Outcome.{handed, IsDone, Hands}
 use Rattle.answer_filters.specs.Filters.{said}
 use Rattle.demand_statements.specs.AnyInput.{Filters, Sized, Relays}
@@ -25,7 +25,7 @@ record Said (right : Bool) (k r entry exit : ℕ) : Type 0 where
   bit : r ≡ 0 → (exit ≡ 0) ⊎ (exit ≡ 1)
   untouched : (r ≡ 0 → ⊥) → exit ≡ entry
 
-says : (right b : Bool) (k : ℕ) {r entry exit : ℕ} → Hands (said (unlessRefused (not right) k b)) r (entry ∷ []) (exit ∷ []) → Said right k r entry exit
+says : (right b : Bool) (k : ℕ) {r entry exit : ℕ} → Hands (said (unless_refused (not right) k b)) r (entry ∷ []) (exit ∷ []) → Said right k r entry exit
 unfolding handed IsDone said
 says true true k {r} h =
     let e = h.numbers in let z : r ≡ 0 = cc in
@@ -41,12 +41,12 @@ says true false k {r} h =
     wrong q = cc
 says false b k h =
     let e = h.numbers in
-    record { yes = λ q. absurd (omega (arith, wrong q)); no = λ q. cc; only = λ z. absurd (h.zero-is-done z); bit = λ z. absurd (h.zero-is-done z); untouched = λ n. cc }
+    record { yes = λ q. absurd (omega (arith, wrong q)); no = λ q. cc; only = λ z. absurd (h.zero_is_done z); bit = λ z. absurd (h.zero_is_done z); untouched = λ n. cc }
   where
     wrong : false ≡ true → ◌≡◌ {A = ℕ} 0 1
     wrong q = cc
 
-pub filters : (a : List ℕ) {r entry exit : ℕ} → Hands (said (filterOf a)) r (entry ∷ []) (exit ∷ []) → Filters a r entry exit
+pub filters : (a : List ℕ) {r entry exit : ℕ} → Hands (said (filter_of a)) r (entry ∷ []) (exit ∷ []) → Filters a r entry exit
 filters a h =
     let s = says (eqb (length a) 16) (unroutable16 a) 11 h in
     record { no_address = λ n. s.no (ne_eqb (length a) 16 n); answered = λ l. s.yes (eq-eqb (length a) 16 l); yes_or_no = s.bit; untouched = s.untouched }
@@ -58,13 +58,13 @@ neither l h (inl z) = omega arith
 neither l h (inr k) = omega arith
 
 -- an id past 6
-other : (id n : ℕ) → 6 < id → lengthFits id n ≡ leb n 512
-unfolding lengthFits
+other : (id n : ℕ) → 6 < id → length_fits id n ≡ leb n 512
+unfolding length_fits
 other id n h =
     rw (ne_eqb id 1 (λ z. omega arith), ne_eqb id 2 (λ z. omega arith), ne_eqb id 3 (λ z. omega arith), ne_eqb id 4 (λ z. omega arith), ne_eqb id 5 (λ z. omega arith), ne_eqb id 6 (λ z. omega arith))
 
-sized : (id n : ℕ) → lengthFits id n ≡ true → Sized id n
-unfolding lengthFits
+sized : (id n : ℕ) → length_fits id n ≡ true → Sized id n
+unfolding length_fits
 sized zero n e = record { known = λ l h. absurd (omega arith); others = λ q. leb-true n 512 e }
 sized (suc zero) n e = record { known = λ l h. eqb-true n 4 e; others = λ q. absurd (neither (omega arith) (omega arith) q) }
 sized (suc (suc zero)) n e = record { known = λ l h. eqb-true n 16 e; others = λ q. absurd (neither (omega arith) (omega arith) q) }
@@ -74,8 +74,8 @@ sized (suc (suc (suc (suc (suc zero))))) n e = record { known = λ l h. eqb-true
 sized (suc (suc (suc (suc (suc (suc zero)))))) n e = record { known = λ l h. eqb-true n 16 e; others = λ q. absurd (neither (omega arith) (omega arith) q) }
 sized (suc (suc (suc (suc (suc (suc (suc k))))))) n e = record { known = λ l h. absurd (omega arith); others = λ q. leb-true n 512 (sym (other (suc (suc (suc (suc (suc (suc (suc k))))))) n (omega arith)) ∙ e) }
 
-fits : (id n : ℕ) → Sized id n → lengthFits id n ≡ true
-unfolding lengthFits
+fits : (id n : ℕ) → Sized id n → length_fits id n ≡ true
+unfolding length_fits
 fits zero n s = le-leb n 512 (s.others (inl refl))
 fits (suc zero) n s = eq-eqb n 4 (s.known (omega arith) (omega arith))
 fits (suc (suc zero)) n s = eq-eqb n 16 (s.known (omega arith) (omega arith))
@@ -89,11 +89,11 @@ either_way : (right : Bool) {k r entry exit : ℕ} → Said right k r entry exit
 either_way true s = inl (s.yes refl)
 either_way false s = inr (s.no refl)
 
-pub relays : (id : ℕ) (a : List ℕ) (port : ℕ) {r entry exit : ℕ} → Hands (said (relayOf id a port)) r (entry ∷ []) (exit ∷ []) → Relays id a r entry exit
+pub relays : (id : ℕ) (a : List ℕ) (port : ℕ) {r entry exit : ℕ} → Hands (said (relay_of id a port)) r (entry ∷ []) (exit ∷ []) → Relays id a r entry exit
 relays id a port h =
-    let s = says (lengthFits id (length a)) (skips id a port) 17 h in
+    let s = says (length_fits id (length a)) (skips id a port) 17 h in
     record {
-      numbers = either_way (lengthFits id (length a)) s;
+      numbers = either_way (length_fits id (length a)) s;
       answered = λ f. s.yes (fits id (length a) f);
       only_then = λ z. sized id (length a) (s.only z);
       yes_or_no = s.bit;

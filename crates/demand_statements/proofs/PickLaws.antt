@@ -6,76 +6,76 @@ use mathlib.Core.List.{List, [], ◌∷◌}
 use native.Mathlib.Omega.{arith}
 use lib.ListN.{length, take, drop}
 use lib.Seq.{take-nil}
-use Rattle.asmap_check.specs.Check.{checkOf}
+use Rattle.asmap_check.specs.Check.{check_of}
 use Rattle.asmap_walk_bits.specs.Walk.{walk_of}
 use Rattle.peer_lists.specs.declared.Refusal.{Refusal}
 use Rattle.peer_lists.specs.declared.Refusal.TheVariants.{None, Number}
 use Rattle.netgroup.specs.declared.GroupAnswer.TheVariants as group
-use Rattle.netgroup.specs.Group.{Numbering, byMap, byPrefixes, byOldPrefixes, numbering, group_of, walkFor}
-use Rattle.netgroup.specs.Refusal.{verdictRefusal, checkRefusal}
-use Rattle.peer_lists.specs.Refusal.{or_else, candidateRefusal}
-use Rattle.netgroup.specs.Netgroup.{groupUnless, groupCall, prefixGroupCall, Whole}
+use Rattle.netgroup.specs.Group.{Numbering, by_map, by_prefixes, by_old_prefixes, numbering, group_of, walk_for}
+use Rattle.netgroup.specs.Refusal.{verdict_refusal, check_refusal}
+use Rattle.peer_lists.specs.Refusal.{or_else, candidate_refusal}
+use Rattle.netgroup.specs.Netgroup.{group_unless, group_call, prefix_group_call, Whole}
 use Rattle.netgroup.specs.Ended.{Finished}
 use Rattle.netgroup_pick.specs.declared.PickAnswer.{PickAnswer}
 use Rattle.netgroup_pick.specs.declared.PickAnswer.TheVariants as pick
-use Rattle.peer_lists.specs.Candidates.{candidatesOf}
-use Rattle.pick_passes.specs.First.{begin, firstPass}
-use Rattle.netgroup_pick.specs.Pick.{pickUnless, pickCall}
+use Rattle.peer_lists.specs.Candidates.{candidates_of}
+use Rattle.pick_passes.specs.First.{begin, first_pass}
+use Rattle.netgroup_pick.specs.Pick.{pick_unless, pick_call}
 use Rattle.pick_passes.specs.Ranked.{first, groups_of, sum}
-use Rattle.netgroup_pick.specs.PickRefusal.{pickRefusal}
-use Rattle.netgroup_pick.specs.Demand.{walkCounts, Demand3, Unaborted}
-use Rattle.peer_lists.proofs.Lists.{candidate-at, length-candidates}
+use Rattle.netgroup_pick.specs.PickRefusal.{pick_refusal}
+use Rattle.netgroup_pick.specs.Demand.{walk_counts, Demand3, Unaborted}
+use Rattle.peer_lists.proofs.Lists.{candidate_at_lem, length_candidates}
 use Rattle.pick_passes.proofs.Lists.{length-groups}
 use Rattle.answer_outcome.specs.Outcome.{Hands}
-use Rattle.answer_maps.specs.Maps.{mapChecked}
-use Rattle.answer_groups.specs.Groups.{groupingOf, groupFound, totalsOf, Picks}
+use Rattle.answer_maps.specs.Maps.{map_checked}
+use Rattle.answer_groups.specs.Groups.{grouping_of, group_found, totals_of, Picks}
 use Rattle.answers.proofs.Promised.{found, picked}
-use Rattle.demand_statements.specs.Picked.{walkAt, prefixAt, oldPrefixAt, Ends, Grouped, Passed, ByMap, ByPrefixes, Picked}
+use Rattle.demand_statements.specs.Picked.{walk_at, prefix_at, old_prefix_at, Ends, Grouped, Passed, ByMap, ByPrefixes, Picked}
 use Rattle.demand_statements.proofs.AnswerLaws.{accepted}
-use Rattle.demand_statements.proofs.CandidateLaws.{address-at, prefix-of, prefix-at, old-prefix-of, old-prefix-at, each-candidate, pass-examined}
+use Rattle.demand_statements.proofs.CandidateLaws.{address_at_lem, prefix_of, prefix_at_lem, old-prefix_of, old-prefix_at, each_candidate, pass_examined}
 
 -- ---- the walk behind a group
 
 -- what is known of the walk behind a group
-ends : (m c : List ℕ) → Finished m c → Ends (walkFor m c)
+ends : (m c : List ℕ) → Finished m c → Ends (walk_for m c)
 ends m c f = record { ended = f.ended; zero = f.zero }
 
 -- of the candidate at a place
-pub ends_at : (m bytes : List ℕ) (i : ℕ) → Finished m (take 20 (drop (20 * i) bytes)) → Ends (walkAt m bytes i)
-ends_at m bytes i f = subst (λ (a : List ℕ). Ends (walk_of m a 128)) (address-at bytes i) (ends m (take 20 (drop (20 * i) bytes)) f)
+pub ends_at : (m bytes : List ℕ) (i : ℕ) → Finished m (take 20 (drop (20 * i) bytes)) → Ends (walk_at m bytes i)
+ends_at m bytes i f = subst (λ (a : List ℕ). Ends (walk_of m a 128)) (address_at_lem bytes i) (ends m (take 20 (drop (20 * i) bytes)) f)
 
 -- a map whose check answered 0 is not refused
-pub unrefused : (m : List ℕ) {q c d : ℕ} {lent : List ℕ} → Hands (mapChecked (checkOf m 128)) q lent (c ∷ d ∷ []) → q ≡ 0 → checkRefusal (byMap m) ≡ None
-unrefused m h z = ap verdictRefusal (accepted (checkOf m 128) h z)
+pub unrefused : (m : List ℕ) {q c d : ℕ} {lent : List ℕ} → Hands (map_checked (check_of m 128)) q lent (c ∷ d ∷ []) → q ≡ 0 → check_refusal (by_map m) ≡ None
+unrefused m h z = ap verdict_refusal (accepted (check_of m 128) h z)
 
 -- ---- a group
 
-same-group : (why : Refusal) (n : Numbering) (c : List ℕ) (g : ℕ) → groupUnless why n c ≡ group.Group g → g ≡ group_of n c
-same-group None n c g e = cc
-same-group (Number k) n c g e = let z : ◌≡◌ {A = ℕ} 0 1 = cc in absurd (omega arith)
+same_group : (why : Refusal) (n : Numbering) (c : List ℕ) (g : ℕ) → group_unless why n c ≡ group.Group g → g ≡ group_of n c
+same_group None n c g e = cc
+same_group (Number k) n c g e = let z : ◌≡◌ {A = ℕ} 0 1 = cc in absurd (omega arith)
 
--- ofMap: what is wrong with the map; has: whether there is one
-pub grouped : (has : ℕ) (ofMap : Refusal) (m c : List ℕ) {r g : ℕ} {lent : List ℕ}
-    → Hands (groupFound (groupCall ofMap (numbering (groupingOf has) m) c)) r lent (g ∷ [])
-    → (r ≡ 0 → Whole (numbering (groupingOf has) m) c (group.Group g)) → r ≡ 0 → Grouped has m c g
-unfolding groupingOf
-grouped zero ofMap m c {r} {g} h w z =
-    let e = same-group (or_else (candidateRefusal c) ofMap) byPrefixes c g (found (groupCall ofMap byPrefixes c) h z) in
-    record { by_map = λ n. absurd (n refl); by-prefix = λ y. e ∙ prefix-of c }
-grouped (suc k) ofMap m c {r} {g} h w z =
-    let e = same-group (or_else (candidateRefusal c) ofMap) (byMap m) c g (found (groupCall ofMap (byMap m) c) h z) in
-    record { by_map = λ n. (e, ends m c (w z)); by-prefix = λ y. absurd (omega arith) }
+-- of_map: what is wrong with the map; has: whether there is one
+pub grouped : (has : ℕ) (of_map : Refusal) (m c : List ℕ) {r g : ℕ} {lent : List ℕ}
+    → Hands (group_found (group_call of_map (numbering (grouping_of has) m) c)) r lent (g ∷ [])
+    → (r ≡ 0 → Whole (numbering (grouping_of has) m) c (group.Group g)) → r ≡ 0 → Grouped has m c g
+unfolding grouping_of
+grouped zero of_map m c {r} {g} h w z =
+    let e = same_group (or_else (candidate_refusal c) of_map) by_prefixes c g (found (group_call of_map by_prefixes c) h z) in
+    record { by_map = λ n. absurd (n refl); by_prefix = λ y. e ∙ prefix_of c }
+grouped (suc k) of_map m c {r} {g} h w z =
+    let e = same_group (or_else (candidate_refusal c) of_map) (by_map m) c g (found (group_call of_map (by_map m) c) h z) in
+    record { by_map = λ n. (e, ends m c (w z)); by_prefix = λ y. absurd (omega arith) }
 
 -- in the old numbering
-pub grouped-old : (c : List ℕ) {r g : ℕ} {lent : List ℕ} → Hands (groupFound (prefixGroupCall c)) r lent (g ∷ []) → r ≡ 0 → g ≡ oldPrefixAt c 0
-grouped-old c {r} {g} h z = same-group (or_else (candidateRefusal c) None) byOldPrefixes c g (found (prefixGroupCall c) h z) ∙ old-prefix-of c
+pub grouped_old : (c : List ℕ) {r g : ℕ} {lent : List ℕ} → Hands (group_found (prefix_group_call c)) r lent (g ∷ []) → r ≡ 0 → g ≡ old_prefix_at c 0
+grouped_old c {r} {g} h z = same_group (or_else (candidate_refusal c) None) by_old_prefixes c g (found (prefix_group_call c) h z) ∙ old-prefix_of c
 
 -- by a map that was checked before
-pub grouped-loaded : (ofMap : Refusal) (m c : List ℕ) {r g : ℕ} {lent : List ℕ} → checkRefusal (byMap m) ≡ None
-    → Hands (groupFound (groupCall ofMap (numbering (groupingOf 1) m) c)) r lent (g ∷ [])
-    → (checkRefusal (numbering (groupingOf 1) m) ≡ None → r ≡ 0 → Whole (numbering (groupingOf 1) m) c (group.Group g)) → r ≡ 0 → Grouped 1 m c g
-unfolding groupingOf
-grouped-loaded ofMap m c q h w z = grouped 1 ofMap m c h (w q) z
+pub grouped_loaded : (of_map : Refusal) (m c : List ℕ) {r g : ℕ} {lent : List ℕ} → check_refusal (by_map m) ≡ None
+    → Hands (group_found (group_call of_map (numbering (grouping_of 1) m) c)) r lent (g ∷ [])
+    → (check_refusal (numbering (grouping_of 1) m) ≡ None → r ≡ 0 → Whole (numbering (grouping_of 1) m) c (group.Group g)) → r ≡ 0 → Grouped 1 m c g
+unfolding grouping_of
+grouped_loaded of_map m c q h w z = grouped 1 of_map m c h (w q) z
 
 -- ---- a pick
 
@@ -84,73 +84,73 @@ abbrev taken_of : PickAnswer → ℕ
 taken_of (pick.Picked t) = t.first
 taken_of (pick.Refused k) = 0
 
-taken-by : (why : Refusal) (n : Numbering) (bytes occupied : List ℕ) (max : ℕ) (picks₀ groups₀ : List ℕ) (total taken examined instructions : ℕ)
-    → (pickUnless why n (candidatesOf bytes) occupied max picks₀ groups₀).answer ≡ pick.Picked (totalsOf total taken examined instructions)
-    → taken ≡ length (first n (candidatesOf bytes) occupied max).places
-taken-by None n bytes occupied max picks₀ groups₀ total taken examined instructions e = sym (ap taken_of e)
-taken-by (Number k) n bytes occupied max picks₀ groups₀ total taken examined instructions e = let z : ◌≡◌ {A = ℕ} 0 1 = cc in absurd (omega arith)
+taken_by : (why : Refusal) (n : Numbering) (bytes occupied : List ℕ) (max : ℕ) (picks₀ groups₀ : List ℕ) (total taken examined instructions : ℕ)
+    → (pick_unless why n (candidates_of bytes) occupied max picks₀ groups₀).answer ≡ pick.Picked (totals_of total taken examined instructions)
+    → taken ≡ length (first n (candidates_of bytes) occupied max).places
+taken_by None n bytes occupied max picks₀ groups₀ total taken examined instructions e = sym (ap taken_of e)
+taken_by (Number k) n bytes occupied max picks₀ groups₀ total taken examined instructions e = let z : ◌≡◌ {A = ℕ} 0 1 = cc in absurd (omega arith)
 
-module _ (ofMap : Refusal) (m bytes occupied : List ℕ) (max : ℕ) (picks₀ groups₀ : List ℕ)
+module _ (of_map : Refusal) (m bytes occupied : List ℕ) (max : ℕ) (picks₀ groups₀ : List ℕ)
     {r total taken examined instructions : ℕ} {lent picks groups : List ℕ} where
-  module _ (n : Numbering) (p : Picks (pickCall ofMap n bytes occupied max picks₀ groups₀) r lent (total ∷ taken ∷ examined ∷ instructions ∷ []) picks groups)
-      (d : r ≡ 0 → Demand3 n (candidatesOf bytes) occupied max (pick.Picked (totalsOf total taken examined instructions)) picks groups) (z : r ≡ 0) where
+  module _ (n : Numbering) (p : Picks (pick_call of_map n bytes occupied max picks₀ groups₀) r lent (total ∷ taken ∷ examined ∷ instructions ∷ []) picks groups)
+      (d : r ≡ 0 → Demand3 n (candidates_of bytes) occupied max (pick.Picked (totals_of total taken examined instructions)) picks groups) (z : r ≡ 0) where
     -- gs: the groups of all candidates
-    passed : (gs : List ℕ) → groups_of n (candidatesOf bytes) ≡ gs → Passed (firstPass occupied max gs) picks groups taken examined
+    passed : (gs : List ℕ) → groups_of n (candidates_of bytes) ≡ gs → Passed (first_pass occupied max gs) picks groups taken examined
     passed gs e =
         let f = d z in
-        let w = pickRefusal ofMap bytes occupied max picks₀ groups₀ in
-        subst (λ (l : List ℕ). Passed (firstPass occupied max l) picks groups taken examined) e
-        record { same_first = taken-by w n bytes occupied max picks₀ groups₀ total taken examined instructions (picked _ p.hands z); same-picks = f.picks; same-groups = f.groups; same-examined = f.examined }
+        let w = pick_refusal of_map bytes occupied max picks₀ groups₀ in
+        subst (λ (l : List ℕ). Passed (first_pass occupied max l) picks groups taken examined) e
+        record { same_first = taken_by w n bytes occupied max picks₀ groups₀ total taken examined instructions (picked _ p.hands z); same_picks = f.picks; same_groups = f.groups; same_examined = f.examined }
 
     -- a candidate examined is one of them
     within : {i : ℕ} → i < examined → i < length bytes / 20
     within h =
-        omega (arith, (d z).examined, pass-examined occupied max begin (groups_of n (candidatesOf bytes)), length-groups n (candidatesOf bytes), length-candidates bytes)
+        omega (arith, (d z).examined, pass_examined occupied max begin (groups_of n (candidates_of bytes)), length-groups n (candidates_of bytes), length_candidates bytes)
 
-  picked-by-map : Picks (pickCall ofMap (byMap m) bytes occupied max picks₀ groups₀) r lent (total ∷ taken ∷ examined ∷ instructions ∷ []) picks groups
-      → (r ≡ 0 → Demand3 (byMap m) (candidatesOf bytes) occupied max (pick.Picked (totalsOf total taken examined instructions)) picks groups)
-      → (r ≡ 0 → Unaborted (byMap m) (candidatesOf bytes) (pick.Picked (totalsOf total taken examined instructions)))
+  picked_by-map : Picks (pick_call of_map (by_map m) bytes occupied max picks₀ groups₀) r lent (total ∷ taken ∷ examined ∷ instructions ∷ []) picks groups
+      → (r ≡ 0 → Demand3 (by_map m) (candidates_of bytes) occupied max (pick.Picked (totals_of total taken examined instructions)) picks groups)
+      → (r ≡ 0 → Unaborted (by_map m) (candidates_of bytes) (pick.Picked (totals_of total taken examined instructions)))
       → r ≡ 0 → ByMap m bytes occupied max picks groups taken examined instructions
-  picked-by-map p d u z =
+  picked_by-map p d u z =
       let k = length bytes / 20 in
       record {
-        passed = passed (byMap m) p d z _ (each-candidate (group_of (byMap m)) _ k bytes (λ i. ap (λ a. (walk_of m a 128).number) (address-at bytes i)));
+        passed = passed (by_map m) p d z _ (each_candidate (group_of (by_map m)) _ k bytes (λ i. ap (λ a. (walk_of m a 128).number) (address_at_lem bytes i)));
         counted =
             (d z).instructions
-            ∙ ap (λ (l : List ℕ). sum (take examined l)) (each-candidate (λ c. length (walkFor m c).read) _ k bytes (λ i. ap (λ a. length (walk_of m a 128).read) (address-at bytes i)));
-        ends = λ i h. ends_at m bytes i (subst (Finished m) (candidate-at bytes i (within (byMap m) p d z h)) (u z i h));
+            ∙ ap (λ (l : List ℕ). sum (take examined l)) (each_candidate (λ c. length (walk_for m c).read) _ k bytes (λ i. ap (λ a. length (walk_of m a 128).read) (address_at_lem bytes i)));
+        ends = λ i h. ends_at m bytes i (subst (Finished m) (candidate_at_lem bytes i (within (by_map m) p d z h)) (u z i h));
       }
 
   -- n: of which numbering
-  picked-by-prefix : (n : Numbering) (prefix : ℕ → ℕ) → walkCounts n (candidatesOf bytes) ≡ [] → ((i : ℕ) → group_of n (take 20 (drop (20 * i) bytes)) ≡ prefix i)
-      → Picks (pickCall ofMap n bytes occupied max picks₀ groups₀) r lent (total ∷ taken ∷ examined ∷ instructions ∷ []) picks groups
-      → (r ≡ 0 → Demand3 n (candidatesOf bytes) occupied max (pick.Picked (totalsOf total taken examined instructions)) picks groups)
+  picked_by-prefix : (n : Numbering) (prefix : ℕ → ℕ) → walk_counts n (candidates_of bytes) ≡ [] → ((i : ℕ) → group_of n (take 20 (drop (20 * i) bytes)) ≡ prefix i)
+      → Picks (pick_call of_map n bytes occupied max picks₀ groups₀) r lent (total ∷ taken ∷ examined ∷ instructions ∷ []) picks groups
+      → (r ≡ 0 → Demand3 n (candidates_of bytes) occupied max (pick.Picked (totals_of total taken examined instructions)) picks groups)
       → r ≡ 0 → ByPrefixes prefix bytes occupied max picks groups taken examined instructions
-  picked-by-prefix n prefix none at p d z =
+  picked_by-prefix n prefix none at p d z =
       record {
-        passed = passed n p d z _ (each-candidate (group_of n) prefix (length bytes / 20) bytes at);
+        passed = passed n p d z _ (each_candidate (group_of n) prefix (length bytes / 20) bytes at);
         counted = (d z).instructions ∙ ap (λ (l : List ℕ). sum (take examined l)) none ∙ ap sum (take-nil examined);
       }
 
-  pub picked-old : Picks (pickCall ofMap byOldPrefixes bytes occupied max picks₀ groups₀) r lent (total ∷ taken ∷ examined ∷ instructions ∷ []) picks groups
-      → (r ≡ 0 → Demand3 byOldPrefixes (candidatesOf bytes) occupied max (pick.Picked (totalsOf total taken examined instructions)) picks groups)
-      → r ≡ 0 → ByPrefixes (oldPrefixAt bytes) bytes occupied max picks groups taken examined instructions
-  picked-old = picked-by-prefix byOldPrefixes (oldPrefixAt bytes) refl (old-prefix-at bytes)
+  pub picked_old : Picks (pick_call of_map by_old_prefixes bytes occupied max picks₀ groups₀) r lent (total ∷ taken ∷ examined ∷ instructions ∷ []) picks groups
+      → (r ≡ 0 → Demand3 by_old_prefixes (candidates_of bytes) occupied max (pick.Picked (totals_of total taken examined instructions)) picks groups)
+      → r ≡ 0 → ByPrefixes (old_prefix_at bytes) bytes occupied max picks groups taken examined instructions
+  picked_old = picked_by-prefix by_old_prefixes (old_prefix_at bytes) refl (old-prefix_at bytes)
 
-  pub picked-as : (has : ℕ)
-      → Picks (pickCall ofMap (numbering (groupingOf has) m) bytes occupied max picks₀ groups₀) r lent (total ∷ taken ∷ examined ∷ instructions ∷ []) picks groups
-      → (r ≡ 0 → Demand3 (numbering (groupingOf has) m) (candidatesOf bytes) occupied max (pick.Picked (totalsOf total taken examined instructions)) picks groups)
-      → (r ≡ 0 → Unaborted (numbering (groupingOf has) m) (candidatesOf bytes) (pick.Picked (totalsOf total taken examined instructions)))
+  pub picked_as : (has : ℕ)
+      → Picks (pick_call of_map (numbering (grouping_of has) m) bytes occupied max picks₀ groups₀) r lent (total ∷ taken ∷ examined ∷ instructions ∷ []) picks groups
+      → (r ≡ 0 → Demand3 (numbering (grouping_of has) m) (candidates_of bytes) occupied max (pick.Picked (totals_of total taken examined instructions)) picks groups)
+      → (r ≡ 0 → Unaborted (numbering (grouping_of has) m) (candidates_of bytes) (pick.Picked (totals_of total taken examined instructions)))
       → r ≡ 0 → Picked m bytes occupied max picks groups taken examined instructions has
-  unfolding groupingOf
-  picked-as zero p d u z = record { by_map = λ n. absurd (n refl); by-prefix = λ y. picked-by-prefix byPrefixes (prefixAt bytes) refl (prefix-at bytes) p d z }
-  picked-as (suc k) p d u z = record { by_map = λ n. picked-by-map p d u z; by-prefix = λ y. absurd (omega arith) }
+  unfolding grouping_of
+  picked_as zero p d u z = record { by_map = λ n. absurd (n refl); by_prefix = λ y. picked_by-prefix by_prefixes (prefix_at bytes) refl (prefix_at_lem bytes) p d z }
+  picked_as (suc k) p d u z = record { by_map = λ n. picked_by-map p d u z; by_prefix = λ y. absurd (omega arith) }
 
   -- by a map that was checked before
-  pub picked-loaded : checkRefusal (byMap m) ≡ None
-      → Picks (pickCall ofMap (numbering (groupingOf 1) m) bytes occupied max picks₀ groups₀) r lent (total ∷ taken ∷ examined ∷ instructions ∷ []) picks groups
-      → (r ≡ 0 → Demand3 (numbering (groupingOf 1) m) (candidatesOf bytes) occupied max (pick.Picked (totalsOf total taken examined instructions)) picks groups)
-      → (checkRefusal (numbering (groupingOf 1) m) ≡ None → r ≡ 0 → Unaborted (numbering (groupingOf 1) m) (candidatesOf bytes) (pick.Picked (totalsOf total taken examined instructions)))
+  pub picked_loaded : check_refusal (by_map m) ≡ None
+      → Picks (pick_call of_map (numbering (grouping_of 1) m) bytes occupied max picks₀ groups₀) r lent (total ∷ taken ∷ examined ∷ instructions ∷ []) picks groups
+      → (r ≡ 0 → Demand3 (numbering (grouping_of 1) m) (candidates_of bytes) occupied max (pick.Picked (totals_of total taken examined instructions)) picks groups)
+      → (check_refusal (numbering (grouping_of 1) m) ≡ None → r ≡ 0 → Unaborted (numbering (grouping_of 1) m) (candidates_of bytes) (pick.Picked (totals_of total taken examined instructions)))
       → r ≡ 0 → ByMap m bytes occupied max picks groups taken examined instructions
-  unfolding groupingOf
-  picked-loaded q p d u z = picked-by-map p d (u q) z
+  unfolding grouping_of
+  picked_loaded q p d u z = picked_by-map p d (u q) z

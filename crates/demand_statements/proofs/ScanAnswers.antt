@@ -7,19 +7,19 @@ use mathlib.Core.List.{List, [], ◌∷◌}
 use native.Mathlib.Omega.{arith}
 use native.Mathlib.Decide.{ℕ_discrete}
 use lib.ListN.{length, get_or}
-use Rattle.group_lists.specs.Scan.{inFront, scanOf}
-use Rattle.group_lists.proofs.Scans.{front-most}
-use Rattle.group_lists.proofs.ScanLaws.{scan-refused, scan-taken, scanned-hit, scanned-missed, front_at, front-before}
+use Rattle.group_lists.specs.Scan.{in_front, scan_of}
+use Rattle.group_lists.proofs.Scans.{front_most}
+use Rattle.group_lists.proofs.ScanLaws.{scan_refused, scan-taken, scanned_hit, scanned_missed, front_at, front-before}
 use Rattle.answer_outcome.specs.Outcome.{handed, IsDone, Hands}
-use Rattle.answer_groups.specs.Groups.{scanMade}
+use Rattle.answer_groups.specs.Groups.{scan_made}
 use Rattle.demand_statements.specs.AnyInput.{Scans}
 
-module _ (g : ℕ) (gs : List ℕ) {r found place read : ℕ} {entry : List ℕ} (h : Hands (scanMade (scanOf g gs)) r entry (found ∷ place ∷ read ∷ [])) where
+module _ (g : ℕ) (gs : List ℕ) {r found place read : ℕ} {entry : List ℕ} (h : Hands (scan_made (scan_of g gs)) r entry (found ∷ place ∷ read ∷ [])) where
   -- over 4,096 groups
   many : 4096 < length gs → Scans g gs r entry found place read
-  unfolding handed scanMade IsDone
+  unfolding handed scan_made IsDone
   many l =
-      let e = rw (scan-refused g gs l) at h.numbers in
+      let e = rw (scan_refused g gs l) at h.numbers in
       let k : r ≡ 12 = cc in
       record {
         too_many = λ q. k;
@@ -33,14 +33,14 @@ module _ (g : ℕ) (gs : List ℕ) {r found place read : ℕ} {entry : List ℕ}
       }
 
   -- a hit, at the place that so many groups stand in front of
-  here : length gs ≤ 4096 → inFront g gs < length gs → Scans g gs r entry found place read
-  unfolding handed scanMade
+  here : length gs ≤ 4096 → in_front g gs < length gs → Scans g gs r entry found place read
+  unfolding handed scan_made
   here l b =
-      let e = rw (scan-taken g gs l ∙ scanned-hit g gs b) at h.numbers in
+      let e = rw (scan-taken g gs l ∙ scanned_hit g gs b) at h.numbers in
       let z : r ≡ 0 = cc in
       let f : found ≡ 1 = cc in
-      let p : place ≡ inFront g gs = cc in
-      let n : read ≡ inFront g gs + 1 = cc in
+      let p : place ≡ in_front g gs = cc in
+      let n : read ≡ in_front g gs + 1 = cc in
       record {
         too_many = λ q. absurd (omega arith);
         answered = λ q. z;
@@ -53,10 +53,10 @@ module _ (g : ℕ) (gs : List ℕ) {r found place read : ℕ} {entry : List ℕ}
       }
 
   -- no hit
-  nowhere : length gs ≤ 4096 → length gs ≤ inFront g gs → Scans g gs r entry found place read
-  unfolding handed scanMade
+  nowhere : length gs ≤ 4096 → length gs ≤ in_front g gs → Scans g gs r entry found place read
+  unfolding handed scan_made
   nowhere l b =
-      let e = rw (scan-taken g gs l ∙ scanned-missed g gs b) at h.numbers in
+      let e = rw (scan-taken g gs l ∙ scanned_missed g gs b) at h.numbers in
       let z : r ≡ 0 = cc in
       let f : found ≡ 0 = cc in
       let p : place ≡ 0 = cc in
@@ -73,9 +73,9 @@ module _ (g : ℕ) (gs : List ℕ) {r found place read : ℕ} {entry : List ℕ}
       }
 
   pub scans : Scans g gs r entry found place read
-  scans = go (ℕ_discrete (length gs - 4096) 0) (ℕ_discrete (inFront g gs) (length gs))
+  scans = go (ℕ_discrete (length gs - 4096) 0) (ℕ_discrete (in_front g gs) (length gs))
     where
-      go : Dec (length gs - 4096 ≡ 0) → Dec (inFront g gs ≡ length gs) → Scans g gs r entry found place read
+      go : Dec (length gs - 4096 ≡ 0) → Dec (in_front g gs ≡ length gs) → Scans g gs r entry found place read
       go (no q) w = many (omega arith)
       go (yes q) (yes w) = nowhere (omega arith) (omega arith)
-      go (yes q) (no w) = here (omega arith) (omega (arith, front-most g gs))
+      go (yes q) (no w) = here (omega arith) (omega (arith, front_most g gs))

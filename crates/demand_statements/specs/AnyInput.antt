@@ -4,10 +4,10 @@
 use Rattle.std.specs.Prelude.{ℕ, zero, suc, ◌+◌, ◌*◌, ◌/◌, ◌%◌, ◌≤◌, ◌<◌, min, ◌≡◌, ◌⊎◌, ◌≢◌, List, [], ◌∷◌, length, take, drop, get_or}
 use Rattle.asmap_program.specs.declared.Kind.TheVariants.{Returned, Differed, OpcodeCut, OperandCut, TooFewBits}
 use Rattle.asmap_program.specs.declared.Verdict.TheVariants.{Accepted, Refused}
-use Rattle.asmap_program.specs.Check.{StopsAt, stopOf}
+use Rattle.asmap_program.specs.Check.{StopsAt, stop_of}
 use Rattle.asmap_program.specs.Walk.{Walked}
-use Rattle.asmap_codes.specs.Instruction.{mapOf}
-use Rattle.asmap_check.specs.Check.{checkOf}
+use Rattle.asmap_codes.specs.Instruction.{map_of}
+use Rattle.asmap_check.specs.Check.{check_of}
 use Rattle.asmap_walk_bits.specs.Walk.{walk_of}
 
 -- refused, it leaves all as it was
@@ -44,27 +44,27 @@ pub record ReadsInstruction (m : List ℕ) (at r : ℕ) (entry exit : List ℕ) 
 
 -- Writing the value v: 15 exactly where it is below the least or above the greatest of its kind.
 pub record Writes (least greatest v r : ℕ) (entry exit : List ℕ) : Type 0 where
-  pub in-range : least ≤ v → v ≤ greatest → r ≡ 0
+  pub in_range : least ≤ v → v ≤ greatest → r ≡ 0
   pub out_of_range : (v < least) ⊎ (greatest < v) → r ≡ 15
   pub untouched : Untouched r entry exit
 
 -- The operands of RETURN 0, JUMP 1, MATCH 2 and DEFAULT 3.
-abbrev pub leastOperand : ℕ → ℕ
-leastOperand zero = 1
-leastOperand (suc zero) = 17
-leastOperand (suc (suc zero)) = 2
-leastOperand (suc (suc (suc n))) = 1
+abbrev pub least_operand : ℕ → ℕ
+least_operand zero = 1
+least_operand (suc zero) = 17
+least_operand (suc (suc zero)) = 2
+least_operand (suc (suc (suc n))) = 1
 
-abbrev pub greatestOperand : ℕ → ℕ
-greatestOperand zero = 33521664
-greatestOperand (suc zero) = 2147483632
-greatestOperand (suc (suc zero)) = 511
-greatestOperand (suc (suc (suc n))) = 33521664
+abbrev pub greatest_operand : ℕ → ℕ
+greatest_operand zero = 33521664
+greatest_operand (suc zero) = 2147483632
+greatest_operand (suc (suc zero)) = 511
+greatest_operand (suc (suc (suc n))) = 33521664
 
 pub record WritesInstruction (opcode operand r : ℕ) (entry exit : List ℕ) : Type 0 where
-  pub in-range : opcode ≤ 3 → leastOperand opcode ≤ operand → operand ≤ greatestOperand opcode → r ≡ 0
-  pub no-opcode : 3 < opcode → r ≡ 15
-  pub out_of_range : (operand < leastOperand opcode) ⊎ (greatestOperand opcode < operand) → r ≡ 15
+  pub in_range : opcode ≤ 3 → least_operand opcode ≤ operand → operand ≤ greatest_operand opcode → r ≡ 0
+  pub no_opcode : 3 < opcode → r ≡ 15
+  pub out_of_range : (operand < least_operand opcode) ⊎ (greatest_operand opcode < operand) → r ≡ 15
   pub untouched : Untouched r entry exit
 
 -- ---- check, walk, unpack, listing, pack; w: the address bits, which are 128 for a call that takes no width
@@ -72,8 +72,8 @@ pub record WritesInstruction (opcode operand r : ℕ) (entry exit : List ℕ) : 
 -- The check: 0 or one of its numbers, as the defined check says, with its count and depth where it accepts; and 1 exactly for a map that is too long.
 pub record Checks (m : List ℕ) (w r : ℕ) (entry exit : List ℕ) : Type 0 where
   pub numbers : (r ≡ 0) ⊎ CheckNumber r
-  pub accepted : (c d : ℕ) → checkOf m w ≡ Accepted c d → (r ≡ 0) × (exit ≡ c ∷ d ∷ [])
-  pub refused : (n : ℕ) → checkOf m w ≡ Refused n → r ≡ n
+  pub accepted : (c d : ℕ) → check_of m w ≡ Accepted c d → (r ≡ 0) × (exit ≡ c ∷ d ∷ [])
+  pub refused : (n : ℕ) → check_of m w ≡ Refused n → r ≡ n
   pub too_long : 16777216 < length m → r ≡ 1
   pub only_then : r ≡ 1 → 16777216 < length m
   pub untouched : Untouched r entry exit
@@ -84,10 +84,10 @@ pub record Checks (m : List ℕ) (w r : ℕ) (entry exit : List ℕ) : Type 0 wh
 pub record Stops (m : List ℕ) (w r : ℕ) (entry : List ℕ) (reason place : ℕ) : Type 0 where
   pub too_long : 16777216 < length m → r ≡ 1
   pub answered : length m ≤ 16777216 → r ≡ 0
-  pub accepted : (c d : ℕ) → r ≡ 0 → checkOf m w ≡ Accepted c d → reason ≡ 0
-  pub refused : (n : ℕ) → r ≡ 0 → checkOf m w ≡ Refused n → reason ≡ n
-  pub exact : r ≡ 0 → place ≡ stopOf (mapOf m) w
-  pub stands : r ≡ 0 → StopsAt (mapOf m) w (checkOf m w) place
+  pub accepted : (c d : ℕ) → r ≡ 0 → check_of m w ≡ Accepted c d → reason ≡ 0
+  pub refused : (n : ℕ) → r ≡ 0 → check_of m w ≡ Refused n → reason ≡ n
+  pub exact : r ≡ 0 → place ≡ stop_of (map_of m) w
+  pub stands : r ≡ 0 → StopsAt (map_of m) w (check_of m w) place
   pub inside : r ≡ 0 → place ≤ 8 * length m
   pub untouched : Untouched r entry (reason ∷ place ∷ [])
 
@@ -96,10 +96,10 @@ pub record Stops (m : List ℕ) (w r : ℕ) (entry : List ℕ) (reason place : �
 pub record Told (walk : Walked) (kind number count bits : ℕ) : Type 0 where
   pub returned : walk.kind ≡ Returned → kind ≡ 1
   pub differed : walk.kind ≡ Differed → kind ≡ 2
-  pub too-few-bits : walk.kind ≡ TooFewBits → kind ≡ 3
-  pub opcode-cut : walk.kind ≡ OpcodeCut → kind ≡ 4
-  pub operand-cut : walk.kind ≡ OperandCut → kind ≡ 19
-  pub abort-gives-0 : kind ≢ 1 → kind ≢ 2 → number ≡ 0
+  pub too_few_bits : walk.kind ≡ TooFewBits → kind ≡ 3
+  pub opcode_cut : walk.kind ≡ OpcodeCut → kind ≡ 4
+  pub operand_cut : walk.kind ≡ OperandCut → kind ≡ 19
+  pub abort_gives_0 : kind ≢ 1 → kind ≢ 2 → number ≡ 0
   pub same_number : number ≡ walk.number
   pub same_count : count ≡ length walk.read
   pub same_bits : bits ≡ walk.bits
@@ -116,48 +116,48 @@ pub record Walks (m a : List ℕ) (w r : ℕ) (entry : List ℕ) (kind number co
 -- Unpack: the check's numbers, else 14 exactly where there is no room for 16 bytes for each of the c instructions.
 pub record Unpacks (m : List ℕ) (w : ℕ) (o o' : List ℕ) (r written written' : ℕ) : Type 0 where
   pub numbers : (r ≡ 0) ⊎ (CheckNumber r ⊎ (r ≡ 14))
-  pub refused : (n : ℕ) → checkOf m w ≡ Refused n → r ≡ n
-  pub answered : (c d : ℕ) → checkOf m w ≡ Accepted c d → 16 * c ≤ length o → (r ≡ 0) × (written' ≡ 16 * c)
-  pub no_room : (c d : ℕ) → checkOf m w ≡ Accepted c d → length o < 16 * c → r ≡ 14
+  pub refused : (n : ℕ) → check_of m w ≡ Refused n → r ≡ n
+  pub answered : (c d : ℕ) → check_of m w ≡ Accepted c d → 16 * c ≤ length o → (r ≡ 0) × (written' ≡ 16 * c)
+  pub no_room : (c d : ℕ) → check_of m w ≡ Accepted c d → length o < 16 * c → r ≡ 14
   pub past : r ≡ 0 → drop written' o' ≡ drop written' o
   pub untouched : r ≢ 0 → (o' ≡ o) × (written' ≡ written)
 
 -- The listing: the check's numbers, else 14; with which room, says `Listed`.
 pub record Lists (m : List ℕ) (w : ℕ) (o o' : List ℕ) (r written written' : ℕ) : Type 0 where
   pub numbers : (r ≡ 0) ⊎ (CheckNumber r ⊎ (r ≡ 14))
-  pub refused : (n : ℕ) → checkOf m w ≡ Refused n → r ≡ n
+  pub refused : (n : ℕ) → check_of m w ≡ Refused n → r ≡ n
   pub past : r ≡ 0 → drop written' o' ≡ drop written' o
   pub untouched : r ≢ 0 → (o' ≡ o) × (written' ≡ written)
 
 -- How many bytes a listing needs: 0 for every map that the check accepts, else the check's numbers.
 pub record Needs (m : List ℕ) (w r : ℕ) (entry exit : List ℕ) : Type 0 where
   pub numbers : (r ≡ 0) ⊎ CheckNumber r
-  pub accepted : (c d : ℕ) → checkOf m w ≡ Accepted c d → r ≡ 0
-  pub refused : (n : ℕ) → checkOf m w ≡ Refused n → r ≡ n
+  pub accepted : (c d : ℕ) → check_of m w ≡ Accepted c d → r ≡ 0
+  pub refused : (n : ℕ) → check_of m w ≡ Refused n → r ≡ n
   pub untouched : Untouched r entry exit
 
 -- Two maps compared, m the old one and n the new one: the old map's numbers, the new one's with 100 more, else 14.
 pub record Changes (m n : List ℕ) (w : ℕ) (o o' : List ℕ) (r written written' : ℕ) : Type 0 where
   pub numbers : (r ≡ 0) ⊎ (CheckNumber r ⊎ ((r ≡ 14) ⊎ NewMapNumber r))
-  pub old-refused : (k : ℕ) → checkOf m w ≡ Refused k → r ≡ k
-  pub new-refused : (c d k : ℕ) → checkOf m w ≡ Accepted c d → checkOf n w ≡ Refused k → r ≡ 100 + k
+  pub old_refused : (k : ℕ) → check_of m w ≡ Refused k → r ≡ k
+  pub new_refused : (c d k : ℕ) → check_of m w ≡ Accepted c d → check_of n w ≡ Refused k → r ≡ 100 + k
   pub past : r ≡ 0 → drop written' o' ≡ drop written' o
   pub untouched : r ≢ 0 → (o' ≡ o) × (written' ≡ written)
 
 -- How many bytes that needs, with o lent for the first address that differs: the same numbers, and 14 exactly where fewer than 16 bytes are lent.
 pub record FindsFirst (m n : List ℕ) (w : ℕ) (o o' : List ℕ) (r bytes bytes' : ℕ) : Type 0 where
   pub numbers : (r ≡ 0) ⊎ (CheckNumber r ⊎ ((r ≡ 14) ⊎ NewMapNumber r))
-  pub old-refused : (k : ℕ) → checkOf m w ≡ Refused k → r ≡ k
-  pub new-refused : (c d k : ℕ) → checkOf m w ≡ Accepted c d → checkOf n w ≡ Refused k → r ≡ 100 + k
-  pub answered : (c d c' d' : ℕ) → checkOf m w ≡ Accepted c d → checkOf n w ≡ Accepted c' d' → 16 ≤ length o → r ≡ 0
-  pub no_room : (c d c' d' : ℕ) → checkOf m w ≡ Accepted c d → checkOf n w ≡ Accepted c' d' → length o < 16 → r ≡ 14
+  pub old_refused : (k : ℕ) → check_of m w ≡ Refused k → r ≡ k
+  pub new_refused : (c d k : ℕ) → check_of m w ≡ Accepted c d → check_of n w ≡ Refused k → r ≡ 100 + k
+  pub answered : (c d c' d' : ℕ) → check_of m w ≡ Accepted c d → check_of n w ≡ Accepted c' d' → 16 ≤ length o → r ≡ 0
+  pub no_room : (c d c' d' : ℕ) → check_of m w ≡ Accepted c d → check_of n w ≡ Accepted c' d' → length o < 16 → r ≡ 14
   pub past : r ≡ 0 → drop 16 o' ≡ drop 16 o
   pub untouched : r ≢ 0 → (o' ≡ o) × (bytes' ≡ bytes)
 
 -- Pack: 16 for bytes that are no whole records, and no other numbers than these.
 pub record Packs (records o o' : List ℕ) (r written written' : ℕ) : Type 0 where
   pub numbers : (r ≡ 0) ⊎ ((r ≡ 1) ⊎ ((r ≡ 14) ⊎ ((r ≡ 15) ⊎ (r ≡ 16))))
-  pub no-records : length records % 16 ≢ 0 → r ≡ 16
+  pub no_records : length records % 16 ≢ 0 → r ≡ 16
   pub past : r ≡ 0 → drop written' o' ≡ drop written' o
   pub untouched : r ≢ 0 → (o' ≡ o) × (written' ≡ written)
 
@@ -166,14 +166,14 @@ pub record Packs (records o o' : List ℕ) (r written written' : ℕ) : Type 0 w
 -- A call at the width w (document 02, CR 3), r being its answer: "18, first of all, for a width that is neither", and then it leaves all as it was.
 -- At 32 and at 128 the call has what is said above with that w.
 pub record AtWidth (w r : ℕ) (Has Left : Type 0) : Type 0 where
-  pub no-width : w ≢ 32 → w ≢ 128 → r ≡ 18
+  pub no_width : w ≢ 32 → w ≢ 128 → r ≡ 18
   pub untouched : w ≢ 32 → w ≢ 128 → Left
-  pub a-width : (w ≡ 32) ⊎ (w ≡ 128) → Has
+  pub a_width : (w ≡ 32) ⊎ (w ≡ 128) → Has
 
 -- What the check accepts at 32 it accepts at 128 too, with the same count and depth: it cannot tell for which width a map was made. r is the answer
 -- of a caller who checks at 32 and then at 128, exit the numbers handed out there.
 abbrev pub AlsoAt128 : List ℕ → ℕ → List ℕ → Type 0
-AlsoAt128 m r exit = (c d : ℕ) → checkOf m 32 ≡ Accepted c d → (r ≡ 0) × (exit ≡ c ∷ d ∷ [])
+AlsoAt128 m r exit = (c d : ℕ) → check_of m 32 ≡ Accepted c d → (r ≡ 0) × (exit ≡ c ∷ d ∷ [])
 
 -- ---- groups, picks and pages; `has` is 0 without a map
 
@@ -184,12 +184,12 @@ pub record Candidate (candidates : List ℕ) (i : ℕ) : Type 0 where
 
 -- The map, where there is one, is one that the check accepts.
 abbrev pub Usable : ℕ → List ℕ → Type 0
-Usable has m = has ≢ 0 → (c : ℕ) × (d : ℕ) × (checkOf m 128 ≡ Accepted c d)
+Usable has m = has ≢ 0 → (c : ℕ) × (d : ℕ) × (check_of m 128 ≡ Accepted c d)
 
 -- A group: 13, and always for what has not 20 bytes; then with a map the check's numbers; and 0 where nothing is wrong.
 pub record Groups (has : ℕ) (m candidate : List ℕ) (r : ℕ) (entry exit : List ℕ) : Type 0 where
   pub numbers : (r ≡ 0) ⊎ ((r ≡ 13) ⊎ ((has ≢ 0) × CheckNumber r))
-  pub no-candidate : length candidate ≢ 20 → r ≡ 13
+  pub no_candidate : length candidate ≢ 20 → r ≡ 13
   pub answered : length candidate ≡ 20 → Candidate candidate 0 → Usable has m → r ≡ 0
   pub untouched : Untouched r entry exit
 
@@ -214,29 +214,29 @@ pub record Scans (g : ℕ) (occupied : List ℕ) (r : ℕ) (entry : List ℕ) (f
 -- less than min(max, candidates) places, so 0 only where both have; and 0 where nothing is wrong.
 pub record Picks (has : ℕ) (m candidates occupied : List ℕ) (max r : ℕ) (entry exit picks picks' groups groups' : List ℕ) : Type 0 where
   pub numbers : (r ≡ 0) ⊎ ((r ≡ 12) ⊎ ((r ≡ 13) ⊎ ((r ≡ 14) ⊎ ((has ≢ 0) × CheckNumber r))))
-  pub no-candidates : length candidates % 20 ≢ 0 → r ≡ 13
+  pub no_candidates : length candidates % 20 ≢ 0 → r ≡ 13
   pub too_many : length candidates % 20 ≡ 0 → 4096 < length candidates / 20 → r ≡ 12
-  pub too-occupied : length candidates % 20 ≡ 0 → length candidates / 20 ≤ 4096 → 4096 < length occupied → r ≡ 12
+  pub too_occupied : length candidates % 20 ≡ 0 → length candidates / 20 ≤ 4096 → 4096 < length occupied → r ≡ 12
   pub room : r ≡ 0 → (min max (length candidates / 20) ≤ length picks) × (min max (length candidates / 20) ≤ length groups)
   pub answered : length candidates % 20 ≡ 0 → length candidates / 20 ≤ 4096 → length occupied ≤ 4096
       → ((i : ℕ) → i < length candidates / 20 → Candidate candidates i) → Usable has m
       → min max (length candidates / 20) ≤ length picks → min max (length candidates / 20) ≤ length groups → r ≡ 0
   pub untouched : Untouched r entry exit
-  pub picks-untouched : Untouched r picks picks'
-  pub groups-untouched : Untouched r groups groups'
+  pub picks_untouched : Untouched r picks picks'
+  pub groups_untouched : Untouched r groups groups'
 
 -- The same by a map that the caller checks first.
 pub record LoadedPicks (r : ℕ) (entry exit picks picks' groups groups' : List ℕ) : Type 0 where
   pub numbers : (r ≡ 0) ⊎ ((r ≡ 12) ⊎ ((r ≡ 13) ⊎ ((r ≡ 14) ⊎ CheckNumber r)))
   pub untouched : Untouched r entry exit
-  pub picks-untouched : Untouched r picks picks'
-  pub groups-untouched : Untouched r groups groups'
+  pub picks_untouched : Untouched r picks picks'
+  pub groups_untouched : Untouched r groups groups'
 
 -- A page: 13 for bytes that are no whole candidates, then 12 for more than 4,096 of them; and 0 where nothing is wrong and the output has 25 bytes
 -- for each candidate, which is enough for any groups.
 pub record Pages (has : ℕ) (m candidates o o' : List ℕ) (r written written' : ℕ) : Type 0 where
   pub numbers : (r ≡ 0) ⊎ ((r ≡ 12) ⊎ ((r ≡ 13) ⊎ ((r ≡ 14) ⊎ ((has ≢ 0) × CheckNumber r))))
-  pub no-candidates : length candidates % 20 ≢ 0 → r ≡ 13
+  pub no_candidates : length candidates % 20 ≢ 0 → r ≡ 13
   pub too_many : length candidates % 20 ≡ 0 → 4096 < length candidates / 20 → r ≡ 12
   pub answered : length candidates % 20 ≡ 0 → length candidates / 20 ≤ 4096 → ((i : ℕ) → i < length candidates / 20 → Candidate candidates i) → Usable has m
       → 25 * (length candidates / 20) ≤ length o → r ≡ 0

@@ -5,10 +5,10 @@
 use Rattle.std.specs.Prelude.{ℕ, ◌+◌, ◌-◌, ◌*◌, ◌/◌, ◌%◌, ◌^◌, ◌≤◌, ◌<◌, ◌≡◌, ◌⊎◌, ◌≢◌, List, length, drop, get_or}
 use Rattle.asmap_program.specs.declared.Kind.TheVariants.{Returned}
 use Rattle.asmap_program.specs.declared.Verdict.TheVariants.{Accepted}
-use Rattle.asmap_check.specs.Check.{checkOf}
+use Rattle.asmap_check.specs.Check.{check_of}
 use Rattle.asmap_walk_bits.specs.Walk.{walk_of}
 use Rattle.asmap_records.specs.Output.{Made}
-use Rattle.asmap_build.specs.Build.{buildAt}
+use Rattle.asmap_build.specs.Build.{build_at}
 use Rattle.demand_statements.specs.Listed.{address, first, prefix, past, number}
 
 -- A number from 1 to 33,521,664.
@@ -30,19 +30,19 @@ pub record Right (l : List ℕ) (given w : ℕ) : Type 0 where
 -- records; then 1 or 14 for the map's length, and with room for 16,777,216 bytes never 14.
 pub record Builds (l : List ℕ) (given w : ℕ) (o o' : List ℕ) (r written written' : ℕ) : Type 0 where
   pub numbers : (r ≡ 0) ⊎ ((r ≡ 1) ⊎ ((r ≡ 14) ⊎ ((r ≡ 18) ⊎ ((r ≡ 21) ⊎ (r ≡ 22)))))
-  pub no-width : w ≢ 32 → w ≢ 128 → r ≡ 18
+  pub no_width : w ≢ 32 → w ≢ 128 → r ≡ 18
   pub uneven : (w ≡ 32) ⊎ (w ≡ 128) → length l % 24 ≢ 0 → r ≡ 21
   pub right : r ≡ 0 → Right l given w
   pub answered : (w ≡ 32) ⊎ (w ≡ 128) → Right l given w → 16777216 ≤ length o → (r ≡ 0) ⊎ (r ≡ 1)
-  pub no_room : (m : List ℕ) → buildAt l given w ≡ Made m → length o < length m → r ≡ 14
+  pub no_room : (m : List ℕ) → build_at l given w ≡ Made m → length o < length m → r ≡ 14
   pub past : r ≡ 0 → drop written' o' ≡ drop written' o
   pub untouched : r ≢ 0 → (o' ≡ o) × (written' ≡ written)
 
 -- m: the bytes that were written. They are the defined map; the check accepts them; and every address of w bits walks to a RETURN with its record's
 -- number, or with the given one where it lies in no record.
 pub record Built (l : List ℕ) (given w : ℕ) (m : List ℕ) : Type 0 where
-  pub exact : buildAt l given w ≡ Made m
-  pub accepted : (c : ℕ) × (d : ℕ) × (checkOf m w ≡ Accepted c d)
+  pub exact : build_at l given w ≡ Made m
+  pub accepted : (c : ℕ) × (d : ℕ) × (check_of m w ≡ Accepted c d)
   pub returns : (a : List ℕ) → (walk_of m a w).kind ≡ Returned
   pub recorded : (a : List ℕ) → ((i : ℕ) → get_or a i 0 < 256) → 8 * length a ≡ w
       → (j : ℕ) → j < length l / 24 → first l j ≤ address a 0 → address a 0 < past l j → (walk_of m a w).number ≡ number l j

@@ -3,7 +3,7 @@
 -- Assumes nothing.
 use Rattle.std.specs.Prelude.{ℕ, ◌+◌, ◌-◌, ◌*◌, ◌%◌, ◌^◌, ◌≤◌, ◌<◌, ◌≡◌, List, length, get_or}
 use Rattle.asmap_program.specs.declared.Verdict.TheVariants.{Accepted}
-use Rattle.asmap_check.specs.Check.{checkOf}
+use Rattle.asmap_check.specs.Check.{check_of}
 use Rattle.demand_statements.specs.Walked.{little}
 
 -- the eight bytes from byte k on, the highest first
@@ -62,5 +62,5 @@ pub record ListedWalk (w : ℕ) (a o : List ℕ) (written x : ℕ) : Type 0 wher
 -- refused, one that has fewer always, with 14.
 pub record ListedWithRoom (m : List ℕ) (w : ℕ) (o : List ℕ) (r needed written : ℕ) : Type 0 where
   pub exact : r ≡ 0 → written ≡ needed
-  pub answered : (c d : ℕ) → checkOf m w ≡ Accepted c d → needed ≤ length o → r ≡ 0
-  pub no_room : (c d : ℕ) → checkOf m w ≡ Accepted c d → length o < needed → r ≡ 14
+  pub answered : (c d : ℕ) → check_of m w ≡ Accepted c d → needed ≤ length o → r ≡ 0
+  pub no_room : (c d : ℕ) → check_of m w ≡ Accepted c d → length o < needed → r ≡ 14

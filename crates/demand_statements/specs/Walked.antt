@@ -6,8 +6,8 @@ use Rattle.asmap_program.specs.declared.Instruction.{Instruction}
 use Rattle.asmap_program.specs.declared.Kind.TheVariants.{Returned, Differed}
 use Rattle.asmap_program.specs.declared.Verdict.TheVariants.{Accepted}
 use Rattle.asmap_program.specs.Check.{unpacked}
-use Rattle.asmap_codes.specs.Instruction.{mapOf}
-use Rattle.asmap_check.specs.Check.{checkOf}
+use Rattle.asmap_codes.specs.Instruction.{map_of}
+use Rattle.asmap_check.specs.Check.{check_of}
 use Rattle.asmap_walk_bits.specs.Walk.{walk_of}
 
 -- The last instruction read is a RETURN, 0, whose operand is the number, where the kind is 1; it is a MATCH, 2, where the kind is 2.
@@ -16,7 +16,7 @@ pub record EndsAt (read : List Instruction) (kind number : ℕ) : Type 0 where
   pub final : Instruction
   pub split : read ≡ earlier ++ (final ∷ [])
   pub at_return : kind ≡ 1 → (final.opcode ≡ 0) × (number ≡ final.operand)
-  pub at-match : kind ≡ 2 → final.opcode ≡ 2
+  pub at_match : kind ≡ 2 → final.opcode ≡ 2
 
 -- The numbers of a walk of the map m by w bits of the address a, against the defined walk (`walk_of m a w`). It ended at a RETURN, 1, or at a MATCH
 -- that differs, 2, and so it did not abort. Number, count and bits are the defined walk's, the count being how many
@@ -33,13 +33,13 @@ pub record Walked (m a : List ℕ) (w kind number count bits : ℕ) : Type 0 whe
   pub zero : number ≡ 0 → (kind ≡ 2) × ((i : Instruction) → Memᴰ i (walk_of m a w).read → i.opcode ≢ 3)
   pub bounded : count ≤ 2 * bits + 1
   pub most : count ≤ 2 * w + 1
-  pub listed : (i : Instruction) → Memᴰ i (walk_of m a w).read → Memᴰ i (unpacked (mapOf m) w)
+  pub listed : (i : Instruction) → Memᴰ i (walk_of m a w).read → Memᴰ i (unpacked (map_of m) w)
 
 -- A caller who checks the map and then walks it, r being the answer: 0 for every map that the check accepts and every address of
 -- w bits, and for no other; and then the walk is as told above. At 128 the count is at most 257.
 pub record AcceptedWalk (m a : List ℕ) (w r kind number count bits : ℕ) : Type 0 where
-  pub answered : (c d : ℕ) → checkOf m w ≡ Accepted c d → length a ≡ w / 8 → r ≡ 0
-  pub accepted : r ≡ 0 → (c : ℕ) × (d : ℕ) × (checkOf m w ≡ Accepted c d)
+  pub answered : (c d : ℕ) → check_of m w ≡ Accepted c d → length a ≡ w / 8 → r ≡ 0
+  pub accepted : r ≡ 0 → (c : ℕ) × (d : ℕ) × (check_of m w ≡ Accepted c d)
   pub bytes : r ≡ 0 → length a ≡ w / 8
   pub walked : r ≡ 0 → Walked m a w kind number count bits
 

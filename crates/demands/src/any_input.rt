@@ -1,7 +1,7 @@
 // Demand 1: whatever is passed, the answer is 0 or a number of document 01, and a refused call writes nothing. The contracts are in
 // `demand_statements/specs/AnyInput`; groups and picks have theirs in `picks`. A code that is read is also what Core reads (demand 2, ensures core).
 ghost use Rattle.std.specs.Prelude.{◌≡◌, ◌∷◌, [], ◌≤◌, length};
-ghost use Rattle.asmap_codes.specs.Core.{fileOf};
+ghost use Rattle.asmap_codes.specs.Core.{file_of};
 ghost use Rattle.demand_statements.specs.Same.{CoreReads};
 ghost use Rattle.demand_statements.specs.AnyInput.{Reads, ReadsInstruction, Writes, WritesInstruction, Checks, Stops, Walks, Unpacks, Lists, Needs, Changes, FindsFirst, Packs, Scans, Filters, Relays};
 
@@ -24,7 +24,7 @@ use corbastrigo::maps::{
 // An opcode.
 pub fn opcode_read(map: &[u8], at: usize, value: &mut u32, next: &mut usize) -> u8
     ensures reads { Reads 4 map.now at result (value.old ∷ next.old ∷ []) (value.new ∷ next.new ∷ []) }
-    ensures core { CoreReads map.now at result value.new next.new ((fileOf map.now).decodeType at) }
+    ensures core { CoreReads map.now at result value.new next.new ((file_of map.now).decode_type at) }
 {
     corbastrigo_decode_type(map, at, value, next)
 }
@@ -32,7 +32,7 @@ pub fn opcode_read(map: &[u8], at: usize, value: &mut u32, next: &mut usize) -> 
 // An AS number.
 pub fn asn_read(map: &[u8], at: usize, value: &mut u32, next: &mut usize) -> u8
     ensures reads { Reads 19 map.now at result (value.old ∷ next.old ∷ []) (value.new ∷ next.new ∷ []) }
-    ensures core { CoreReads map.now at result value.new next.new ((fileOf map.now).decodeASN at) }
+    ensures core { CoreReads map.now at result value.new next.new ((file_of map.now).decode_asn at) }
 {
     corbastrigo_decode_asn(map, at, value, next)
 }
@@ -40,7 +40,7 @@ pub fn asn_read(map: &[u8], at: usize, value: &mut u32, next: &mut usize) -> u8
 // A MATCH operand.
 pub fn match_read(map: &[u8], at: usize, value: &mut u32, next: &mut usize) -> u8
     ensures reads { Reads 19 map.now at result (value.old ∷ next.old ∷ []) (value.new ∷ next.new ∷ []) }
-    ensures core { CoreReads map.now at result value.new next.new ((fileOf map.now).decodeMatch at) }
+    ensures core { CoreReads map.now at result value.new next.new ((file_of map.now).decode_match at) }
 {
     corbastrigo_decode_match(map, at, value, next)
 }
@@ -48,7 +48,7 @@ pub fn match_read(map: &[u8], at: usize, value: &mut u32, next: &mut usize) -> u
 // A JUMP operand.
 pub fn jump_read(map: &[u8], at: usize, value: &mut u32, next: &mut usize) -> u8
     ensures reads { Reads 19 map.now at result (value.old ∷ next.old ∷ []) (value.new ∷ next.new ∷ []) }
-    ensures core { CoreReads map.now at result value.new next.new ((fileOf map.now).decodeJump at) }
+    ensures core { CoreReads map.now at result value.new next.new ((file_of map.now).decode_jump at) }
 {
     corbastrigo_decode_jump(map, at, value, next)
 }

@@ -2,7 +2,7 @@
 // a map.
 ghost use Rattle.std.specs.Prelude.{◌≡◌, [], ◌/◌, length, take};
 ghost use Rattle.demand_statements.specs.AnyInput.{Pages, LoadedPages};
-ghost use Rattle.demand_statements.specs.Picked.{each, oldPrefixAt};
+ghost use Rattle.demand_statements.specs.Picked.{each, old_prefix_at};
 ghost use Rattle.demand_statements.specs.Printed.{Printed, Paged, PrintedByMap};
 
 use corbastrigo::maps::corbastrigo_sanity_check;
@@ -40,7 +40,7 @@ pub fn page_by_loaded_map(candidates: &[u8], map: &[u8], out: &mut [u8], written
 
 // A page by prefixes in the old numbering.
 pub fn page_by_old_prefixes(candidates: &[u8], out: &mut [u8], written: &mut usize) -> u8
-    ensures printed { result ≡ 0 → Printed (each (length candidates.now / 20) (oldPrefixAt candidates.now)) (take written.new out.new) }
+    ensures printed { result ≡ 0 → Printed (each (length candidates.now / 20) (old_prefix_at candidates.now)) (take written.new out.new) }
     ensures refused { Pages 0 [] candidates.now out.old out.new result written.old written.new }
 {
     corbastrigo_old_prefix_page(candidates, out, written)

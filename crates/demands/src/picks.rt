@@ -2,7 +2,7 @@
 // `has_map` of 0 is without a map.
 ghost use Rattle.std.specs.Prelude.{◌≡◌, ◌∷◌, []};
 ghost use Rattle.demand_statements.specs.AnyInput.{Groups, LoadedGroups, Picks, LoadedPicks};
-ghost use Rattle.demand_statements.specs.Picked.{oldPrefixAt, Grouped, Picked, ByMap, ByPrefixes};
+ghost use Rattle.demand_statements.specs.Picked.{old_prefix_at, Grouped, Picked, ByMap, ByPrefixes};
 
 use corbastrigo::groups::{
     corbastrigo_netgroup, corbastrigo_netgroup_unchecked, corbastrigo_old_prefix_pick,
@@ -34,7 +34,7 @@ pub fn group_by_loaded_map(candidate: &[u8], map: &[u8], group: &mut u64) -> u8
 
 // A candidate's group by its prefix, in the old numbering.
 pub fn group_by_prefix(candidate: &[u8], group: &mut u64) -> u8
-    ensures group_after { result ≡ 0 → group.new ≡ oldPrefixAt candidate.now 0 }
+    ensures group_after { result ≡ 0 → group.new ≡ old_prefix_at candidate.now 0 }
     ensures refused { Groups 0 [] candidate.now result (group.old ∷ []) (group.new ∷ []) }
 {
     corbastrigo_prefix_group(candidate, group)
@@ -121,7 +121,7 @@ pub fn pick_by_old_prefixes(
     examined: &mut usize,
     instructions: &mut u64,
 ) -> u8
-    ensures by_prefixes { result ≡ 0 → ByPrefixes (oldPrefixAt candidates.now) candidates.now occupied.now max picks.new groups.new first.new examined.new instructions.new }
+    ensures by_prefixes { result ≡ 0 → ByPrefixes (old_prefix_at candidates.now) candidates.now occupied.now max picks.new groups.new first.new examined.new instructions.new }
     ensures refused { Picks 0 [] candidates.now occupied.now max result (total.old ∷ first.old ∷ examined.old ∷ instructions.old ∷ []) (total.new ∷ first.new ∷ examined.new ∷ instructions.new ∷ []) picks.old picks.new groups.old groups.new }
 {
     corbastrigo_old_prefix_pick(

@@ -1,8 +1,8 @@
 // Demand 3 for walks. What kind, number, count and bits are, is said in `demand_statements/specs/Walked`.
 ghost use Rattle.std.specs.Prelude.{◌≡◌};
-ghost use Rattle.asmap_program.specs.Core.{coreInterpret, Number};
-ghost use Rattle.asmap_program.specs.Map.{addressBit};
-ghost use Rattle.asmap_codes.specs.Core.{fileOf};
+ghost use Rattle.asmap_program.specs.Core.{core_interpret, Number};
+ghost use Rattle.asmap_program.specs.Map.{address_bit};
+ghost use Rattle.asmap_codes.specs.Core.{file_of};
 ghost use Rattle.demand_statements.specs.Walked.{AcceptedWalk, InRecords};
 
 use corbastrigo::maps::{corbastrigo_interpret, corbastrigo_sanity_check, corbastrigo_unpack};
@@ -18,7 +18,7 @@ pub fn accepted_walk(
     bits: &mut u8,
 ) -> u8
     ensures accepted_walk { AcceptedWalk map.now address.now 128 result kind.new number.new count.new bits.new }
-    ensures core { result ≡ 0 → coreInterpret (addressBit address.now) 128 (fileOf map.now) ≡ Number number.new }
+    ensures core { result ≡ 0 → core_interpret (address_bit address.now) 128 (file_of map.now) ≡ Number number.new }
 {
     let mut instructions: u32 = 0;
     let mut depth: u8 = 0;

@@ -2,9 +2,9 @@
 // with a width, and what is said of it is said once for both widths, `width` being the number of address bits: a map accepted at 32 is promised of
 // every address of four bytes what one accepted at 128 is of every address of sixteen.
 ghost use Rattle.std.specs.Prelude.{◌≡◌, ◌⊎◌, ◌∷◌, []};
-ghost use Rattle.asmap_program.specs.Core.{coreInterpret, Number};
-ghost use Rattle.asmap_program.specs.Map.{addressBit};
-ghost use Rattle.asmap_codes.specs.Core.{fileOf};
+ghost use Rattle.asmap_program.specs.Core.{core_interpret, Number};
+ghost use Rattle.asmap_program.specs.Map.{address_bit};
+ghost use Rattle.asmap_codes.specs.Core.{file_of};
 ghost use Rattle.demand_statements.specs.Agreed.{AgreedWalks};
 ghost use Rattle.demand_statements.specs.AnyInput.{AtWidth, AlsoAt128, Checks, Stops, Walks, Unpacks, Lists, Needs, Changes, FindsFirst};
 ghost use Rattle.demand_statements.specs.Listed.{ListedWalk, ListedWithRoom};
@@ -137,7 +137,7 @@ pub fn accepted_walk(
     bits: &mut u8,
 ) -> u8
     ensures accepted_walk { (width ≡ 32) ⊎ (width ≡ 128) → AcceptedWalk map.now address.now width result kind.new number.new count.new bits.new }
-    ensures core { (width ≡ 32) ⊎ (width ≡ 128) → result ≡ 0 → coreInterpret (addressBit address.now) width (fileOf map.now) ≡ Number number.new }
+    ensures core { (width ≡ 32) ⊎ (width ≡ 128) → result ≡ 0 → core_interpret (address_bit address.now) width (file_of map.now) ≡ Number number.new }
 {
     let mut instructions: u32 = 0;
     let mut depth: u8 = 0;

@@ -19,22 +19,22 @@ use Rattle.free_groups.specs.models.Marks.{Last, Put, Linked}
 
 -- one group more, with that mark or with another
 module _ (gs : List ℕ) (x h : ℕ) where
-  last-here : x % 4096 ≡ h → Last h (gs ++ (x ∷ [])) (length gs + 1)
-  last-here e =
+  last_here : x % 4096 ≡ h → Last h (gs ++ (x ∷ [])) (length gs + 1)
+  last_here e =
       let n = length-append gs (x ∷ []) in
       let k : length gs + 1 - 1 ≡ length gs = omega arith in
       record {
         within = omega arith;
-        none-behind = λ q l r z. omega arith;
+        none_behind = λ q l r z. omega arith;
         stands = λ l. ap (λ (i : ℕ). get_or (gs ++ (x ∷ [])) i 0 % 4096) k ∙ ap (λ (y : ℕ). y % 4096) (get_or-append_seam gs x [] 0) ∙ e;
       }
 
-  last-other : (x % 4096 ≡ h → ⊥) → (k : ℕ) → Last h gs k → Last h (gs ++ (x ∷ [])) k
-  last-other d k s =
+  last_other : (x % 4096 ≡ h → ⊥) → (k : ℕ) → Last h gs k → Last h (gs ++ (x ∷ [])) k
+  last_other d k s =
       let n = length-append gs (x ∷ []) in
       record {
         within = omega (arith, s.within);
-        none-behind = λ q l r z. go q l (ℕ_discrete q (length gs)) r z;
+        none_behind = λ q l r z. go q l (ℕ_discrete q (length gs)) r z;
         stands = λ l. ap (λ (y : ℕ). y % 4096) (get_or-append gs (x ∷ []) 0 (k - 1) (omega (arith, s.within))) ∙ s.stands l;
       }
     where
@@ -42,39 +42,39 @@ module _ (gs : List ℕ) (x h : ℕ) where
       go q l (yes e) r z = d (sym (ap (λ (y : ℕ). y % 4096) (ap (λ (k : ℕ). get_or (gs ++ (x ∷ [])) k 0) e ∙ get_or-append_seam gs x [] 0)) ∙ z)
       go q l (no e) r z =
           let b : q < length gs = omega (arith, length-append gs (x ∷ [])) in
-          s.none-behind q l b (sym (ap (λ (y : ℕ). y % 4096) (get_or-append gs (x ∷ []) 0 q b)) ∙ z)
+          s.none_behind q l b (sym (ap (λ (y : ℕ). y % 4096) (get_or-append gs (x ∷ []) 0 q b)) ∙ z)
 
 -- a group that stands at no place is not in a list
-has-none : (g : ℕ) (gs : List ℕ) → ((q : ℕ) → q < length gs → get_or gs q 0 ≡ g → ⊥) → has g gs ≡ false
-has-none g [] h = refl
-has-none g (x ∷ gs) h = rw (ne_eqb g x (λ e. h 0 (omega arith) (sym e))) (has-none g gs (λ q l. h (suc q) (omega arith)))
+has_none : (g : ℕ) (gs : List ℕ) → ((q : ℕ) → q < length gs → get_or gs q 0 ≡ g → ⊥) → has g gs ≡ false
+has_none g [] h = refl
+has_none g (x ∷ gs) h = rw (ne_eqb g x (λ e. h 0 (omega arith) (sym e))) (has_none g gs (λ q l. h (suc q) (omega arith)))
 
 -- whoever has the mark is not behind its last
 last_has : (g : ℕ) (gs : List ℕ) (k : ℕ) → Last (g % 4096) gs k → has g gs ≡ has g (take k gs)
-last_has g gs k s = ap (has g) (sym (take-append-drop k gs)) ∙ has-append g (take k gs) (drop k gs) ∙ rw (has-none g (drop k gs) behind) (or-false (has g (take k gs)))
+last_has g gs k s = ap (has g) (sym (take-append-drop k gs)) ∙ has-append g (take k gs) (drop k gs) ∙ rw (has_none g (drop k gs) behind) (or-false (has g (take k gs)))
   where
     behind : (q : ℕ) → q < length (drop k gs) → get_or (drop k gs) q 0 ≡ g → ⊥
-    behind q l e = s.none-behind (k + q) (omega arith) (omega (arith, length-drop k gs)) (ap (λ (y : ℕ). y % 4096) (sym (get_or-drop k gs q 0) ∙ e))
+    behind q l e = s.none_behind (k + q) (omega arith) (omega (arith, length-drop k gs)) (ap (λ (y : ℕ). y % 4096) (sym (get_or-drop k gs q 0) ∙ e))
 
 -- ---- marking
 
 -- no group is used
-pub linked-none : (links : List ℕ) → Linked [] (replicate 4096 0) links
-linked-none links =
+pub linked_none : (links : List ℕ) → Linked [] (replicate 4096 0) links
+linked_none links =
     record {
       long = length-replicate {A = ℕ} 4096 0;
       room = omega arith;
-      marked = λ h l. rw (get_or-replicate {A = ℕ} 4096 h 0 0 l) (record { within = omega arith; none-behind = λ q a b z. omega arith; stands = λ z. absurd (omega arith) });
+      marked = λ h l. rw (get_or-replicate {A = ℕ} 4096 h 0 0 l) (record { within = omega arith; none_behind = λ q a b z. omega arith; stands = λ z. absurd (omega arith) });
       linked = λ p l. absurd (omega arith);
     }
 
 -- one group more is used
 module _ (used marks links : List ℕ) (x : ℕ) (s : Linked used marks links) (room : length used < length links) where
-  marked-on : (h : ℕ) → h < 4096 → Dec (h ≡ x % 4096) → Last h (used ++ (x ∷ [])) (get_or (set marks (x % 4096) (length used + 1)) h 0)
-  marked-on h l (yes e) =
-      rw (e, get_or-set_same marks (x % 4096) (length used + 1) 0 (omega (arith, s.long))) (last-here used x (x % 4096) refl)
-  marked-on h l (no e) =
-      rw (get_or-set_other marks (x % 4096) h (length used + 1) 0 e) (last-other used x h (λ z. e (sym z)) (get_or marks h 0) (s.marked h l))
+  marked_on : (h : ℕ) → h < 4096 → Dec (h ≡ x % 4096) → Last h (used ++ (x ∷ [])) (get_or (set marks (x % 4096) (length used + 1)) h 0)
+  marked_on h l (yes e) =
+      rw (e, get_or-set_same marks (x % 4096) (length used + 1) 0 (omega (arith, s.long))) (last_here used x (x % 4096) refl)
+  marked_on h l (no e) =
+      rw (get_or-set_other marks (x % 4096) h (length used + 1) 0 e) (last_other used x h (λ z. e (sym z)) (get_or marks h 0) (s.marked h l))
 
   abbrev links' : List ℕ
   links' = set links (length used) (get_or marks (x % 4096) 0)
@@ -88,33 +88,33 @@ module _ (used marks links : List ℕ) (x : ℕ) (s : Linked used marks links) (
       rw (get_or-append used (x ∷ []) 0 p b, take-append-le p used (x ∷ []) (omega arith), get_or-set_other links (length used) p (get_or marks (x % 4096) 0) 0 e)
       (s.linked p b)
 
-  pub linked-more : Linked (used ++ (x ∷ [])) (set marks (x % 4096) (length used + 1)) links'
-  linked-more =
+  pub linked_more : Linked (used ++ (x ∷ [])) (set marks (x % 4096) (length used + 1)) links'
+  linked_more =
       record {
         long = length-set marks (x % 4096) (length used + 1) ∙ s.long;
         room = omega (arith, length-append used (x ∷ []), length-set links (length used) (get_or marks (x % 4096) 0));
-        marked = λ h l. marked-on h l (ℕ_discrete h (x % 4096));
+        marked = λ h l. marked_on h l (ℕ_discrete h (x % 4096));
         linked = λ p l. linked_on p l (ℕ_discrete p (length used));
       }
 
 -- as `mark` leaves them, the group having a place behind the used ones
-pub linked-then : (used marks links marks' links' : List ℕ) (x n : ℕ) → n ≡ length used → n < length links → Linked used marks links
+pub linked_then : (used marks links marks' links' : List ℕ) (x n : ℕ) → n ≡ length used → n < length links → Linked used marks links
     → (marks' ≡ set marks (x % 4096) (n + 1)) × (links' ≡ set links n (get_or marks (x % 4096) 0)) → (length links' ≡ length links) × (Linked (used ++ (x ∷ [])) marks' links')
-linked-then used marks links marks' links' x n q room s e =
-    rw (e.0, e.1, q) (length-set links (length used) (get_or marks (x % 4096) 0), linked-more used marks links x s (omega arith))
+linked_then used marks links marks' links' x n q room s e =
+    rw (e.0, e.1, q) (length-set links (length used) (get_or marks (x % 4096) 0), linked_more used marks links x s (omega arith))
 
 -- the next occupied group
 pub linked-put : (gs marks links marks' : List ℕ) (i r : ℕ) → i < length gs → length gs ≤ length links → Linked (take i gs) marks links → Put marks (get_or gs i 0) i r marks'
     → (length (set links i r) ≡ length links) × (Linked (take (i + 1) gs) marks' (set links i r))
 linked-put gs marks links marks' i r l room s p =
-    let t = linked-then (take i gs) marks links marks' (set links i r) (get_or gs i 0) i (sym (length-take-le i gs (omega arith))) (omega arith) s (p.put, ap (set links i) p.stood) in
+    let t = linked_then (take i gs) marks links marks' (set links i r) (get_or gs i 0) i (sym (length-take-le i gs (omega arith))) (omega arith) s (p.put, ap (set links i) p.stood) in
     (t.0, rw (add-one i, take-suc gs i 0 l) t.1)
 
 -- the next four, whose links follow each other
 module _ (gs m0 m1 m2 m3 m4 links : List ℕ) (i a b c d : ℕ) (h : i + 4 ≤ length gs) (room : length gs ≤ length links) (s : Linked (take i gs) m0 links) where
-  pub linked-four : Put m0 (get_or gs i 0) i a m1 → Put m1 (get_or gs (i + 1) 0) (i + 1) b m2 → Put m2 (get_or gs (i + 2) 0) (i + 2) c m3
+  pub linked_four : Put m0 (get_or gs i 0) i a m1 → Put m1 (get_or gs (i + 1) 0) (i + 1) b m2 → Put m2 (get_or gs (i + 2) 0) (i + 2) c m3
       → Put m3 (get_or gs (i + 3) 0) (i + 3) d m4 → Linked (take (i + 4) gs) m4 (set (set (set (set links i a) (i + 1) b) (i + 2) c) (i + 3) d)
-  linked-four p q t u =
+  linked_four p q t u =
       let e : i + 1 + 1 ≡ i + 2 = omega arith in
       let f : i + 2 + 1 ≡ i + 3 = omega arith in
       let k : i + 3 + 1 ≡ i + 4 = omega arith in
@@ -133,7 +133,7 @@ pub linked-taken : (occupied groups marks links marks' links' : List ℕ) (taken
     → (length links' ≡ length links) × (Linked (occupied ++ take (taken + 1) (set groups taken x)) marks' links')
 linked-taken occupied groups marks links marks' links' taken x l room s e =
     let n : length occupied + taken ≡ length (occupied ++ take taken groups) = omega (arith, length-append occupied (take taken groups), length-take-le taken groups (omega arith)) in
-    let r = linked-then (occupied ++ take taken groups) marks links marks' links' x (length occupied + taken) n room s e in
+    let r = linked_then (occupied ++ take taken groups) marks links marks' links' x (length occupied + taken) n room s e in
     (r.0, rw (add-one taken, take-suc-set groups taken x l, ← append_assoc occupied (take taken groups) (x ∷ [])) r.1)
 
 -- ---- asking
@@ -145,20 +145,20 @@ pub record Following (g : ℕ) (used : List ℕ) (k : ℕ) : Type 0 where
   pub stands : 0 < k → get_or used (k - 1) 0 % 4096 ≡ g % 4096
 
 -- a group at a place of the list is in it
-pub has-at : (g : ℕ) (gs : List ℕ) (i : ℕ) → i < length gs → get_or gs i 0 ≡ g → has g gs ≡ true
-has-at g [] i h e = absurd (omega arith)
-has-at g (x ∷ gs) zero h e = rw (eq-eqb g x (sym e))
-has-at g (x ∷ gs) (suc i) h e = ap (λ (b : Bool). eqb g x || b) (has-at g gs i (omega arith) e) ∙ or-true (eqb g x)
+pub has_at : (g : ℕ) (gs : List ℕ) (i : ℕ) → i < length gs → get_or gs i 0 ≡ g → has g gs ≡ true
+has_at g [] i h e = absurd (omega arith)
+has_at g (x ∷ gs) zero h e = rw (eq-eqb g x (sym e))
+has_at g (x ∷ gs) (suc i) h e = ap (λ (b : Bool). eqb g x || b) (has_at g gs i (omega arith) e) ∙ or-true (eqb g x)
 
 module _ (g : ℕ) (used marks links : List ℕ) (s : Linked used marks links) where
-  pub follow-mark : Following g used (get_or marks (g % 4096) 0)
-  follow-mark =
+  pub follow_mark : Following g used (get_or marks (g % 4096) 0)
+  follow_mark =
       let l = s.marked (g % 4096) (omega arith) in
       record { within = l.within; decide = last_has g used (get_or marks (g % 4096) 0) l; stands = l.stands }
 
   -- the group at the place is another one: its link leads on
-  pub follow-link : (k p : ℕ) → k ≡ p + 1 → Following g used k → (get_or used p 0 ≡ g → ⊥) → Following g used (get_or links p 0)
-  follow-link k p e f d =
+  pub follow_link : (k p : ℕ) → k ≡ p + 1 → Following g used k → (get_or used p 0 ≡ g → ⊥) → Following g used (get_or links p 0)
+  follow_link k p e f d =
       let b : p < length used = omega (arith, f.within) in
       let i : p ≡ k - 1 = omega arith in
       let z : get_or used p 0 % 4096 ≡ g % 4096 = ap (λ (i : ℕ). get_or used i 0 % 4096) i ∙ f.stands (omega arith) in
@@ -180,17 +180,17 @@ module _ (g : ℕ) (used marks links : List ℕ) (s : Linked used marks links) w
 -- ---- the used groups by the two lists
 
 module _ (occupied taken : List ℕ) (n : ℕ) where
-  pub at-occupied : n < length occupied → get_or (occupied ++ taken) n 0 ≡ get_or occupied n 0
-  at-occupied h = get_or-append occupied taken 0 n h
+  pub at_occupied : n < length occupied → get_or (occupied ++ taken) n 0 ≡ get_or occupied n 0
+  at_occupied h = get_or-append occupied taken 0 n h
 
-  pub at-taken : length occupied ≤ n → get_or (occupied ++ taken) n 0 ≡ get_or taken (n - length occupied) 0
-  at-taken h =
+  pub at_taken : length occupied ≤ n → get_or (occupied ++ taken) n 0 ≡ get_or taken (n - length occupied) 0
+  at_taken h =
       let e : n ≡ length occupied + (n - length occupied) = omega arith in
       ap (λ (i : ℕ). get_or (occupied ++ taken) i 0) e ∙ get_or-append-add occupied taken (n - length occupied) 0
 
   -- the first n of them
-  pub first-occupied : n ≤ length occupied → take n (occupied ++ taken) ≡ take n occupied
-  first-occupied h = take-append-le n occupied taken h
+  pub first_occupied : n ≤ length occupied → take n (occupied ++ taken) ≡ take n occupied
+  first_occupied h = take-append-le n occupied taken h
 
   pub first_taken : length occupied ≤ n → take n (occupied ++ taken) ≡ occupied ++ take (n - length occupied) taken
   first_taken h =

@@ -11,7 +11,7 @@ use lib.Dec.{eqb, ltb}
 use lib.ListN.{length, take, drop, get_or, take-append-drop, length-drop}
 use lib.Seq.{drop-drop, take-add, length-take-le}
 use Rattle.group_lists.specs.Groups.{has}
-use Rattle.group_lists.specs.Scan.{inFront}
+use Rattle.group_lists.specs.Scan.{in_front}
 use Rattle.peer_lists.proofs.Lists.{ahead, ended}
 
 pub has-append : (g : ℕ) (xs ys : List ℕ) → has g (xs ++ ys) ≡ (has g xs || has g ys)
@@ -20,35 +20,35 @@ has-append g (x ∷ xs) ys = ap (λ (b : Bool). eqb g x || b) (has-append g xs y
 
 -- one group more in front
 module _ (g x : ℕ) (xs : List ℕ) where
-  pub front-first : g ≡ x → inFront g (x ∷ xs) ≡ 0
+  pub front-first : g ≡ x → in_front g (x ∷ xs) ≡ 0
   front-first e = rw (eq-eqb g x e)
 
-  pub front-next : (g ≡ x → ⊥) → inFront g (x ∷ xs) ≡ inFront g xs + 1
+  pub front-next : (g ≡ x → ⊥) → in_front g (x ∷ xs) ≡ in_front g xs + 1
   front-next e = rw (ne_eqb g x e)
 
-pub front-most : (g : ℕ) (xs : List ℕ) → inFront g xs ≤ length xs
-front-most g [] = omega arith
-front-most g (x ∷ xs) = go (ℕ_discrete g x) (front-most g xs)
+pub front_most : (g : ℕ) (xs : List ℕ) → in_front g xs ≤ length xs
+front_most g [] = omega arith
+front_most g (x ∷ xs) = go (ℕ_discrete g x) (front_most g xs)
   where
-    go : Dec (g ≡ x) → inFront g xs ≤ length xs → inFront g (x ∷ xs) ≤ length (x ∷ xs)
+    go : Dec (g ≡ x) → in_front g xs ≤ length xs → in_front g (x ∷ xs) ≤ length (x ∷ xs)
     go (yes e) ih = rw (front-first g x xs e) (omega arith)
     go (no e) ih = rw (front-next g x xs e) (omega arith)
 
 -- a hit among the first groups stays where it is, whatever follows them
-pub front-here : (g : ℕ) (xs ys : List ℕ) → inFront g xs < length xs → inFront g (xs ++ ys) ≡ inFront g xs
-front-here g [] ys h = absurd (omega arith)
-front-here g (x ∷ xs) ys h = go (ℕ_discrete g x) (front-here g xs ys)
+pub front_here : (g : ℕ) (xs ys : List ℕ) → in_front g xs < length xs → in_front g (xs ++ ys) ≡ in_front g xs
+front_here g [] ys h = absurd (omega arith)
+front_here g (x ∷ xs) ys h = go (ℕ_discrete g x) (front_here g xs ys)
   where
-    go : Dec (g ≡ x) → (inFront g xs < length xs → inFront g (xs ++ ys) ≡ inFront g xs) → inFront g (x ∷ xs ++ ys) ≡ inFront g (x ∷ xs)
+    go : Dec (g ≡ x) → (in_front g xs < length xs → in_front g (xs ++ ys) ≡ in_front g xs) → in_front g (x ∷ xs ++ ys) ≡ in_front g (x ∷ xs)
     go (yes e) ih = front-first g x (xs ++ ys) e ∙ sym (front-first g x xs e)
     go (no e) ih = front-next g x (xs ++ ys) e ∙ ap (λ (k : ℕ). k + 1) (ih (omega (arith, front-next g x xs e))) ∙ sym (front-next g x xs e)
 
 -- with none among them the groups after them decide
-pub front-on : (g : ℕ) (xs ys : List ℕ) → length xs ≤ inFront g xs → inFront g (xs ++ ys) ≡ length xs + inFront g ys
-front-on g [] ys h = omega arith
-front-on g (x ∷ xs) ys h = go (ℕ_discrete g x) (front-on g xs ys)
+pub front_on : (g : ℕ) (xs ys : List ℕ) → length xs ≤ in_front g xs → in_front g (xs ++ ys) ≡ length xs + in_front g ys
+front_on g [] ys h = omega arith
+front_on g (x ∷ xs) ys h = go (ℕ_discrete g x) (front_on g xs ys)
   where
-    go : Dec (g ≡ x) → (length xs ≤ inFront g xs → inFront g (xs ++ ys) ≡ length xs + inFront g ys) → inFront g (x ∷ xs ++ ys) ≡ length (x ∷ xs) + inFront g ys
+    go : Dec (g ≡ x) → (length xs ≤ in_front g xs → in_front g (xs ++ ys) ≡ length xs + in_front g ys) → in_front g (x ∷ xs ++ ys) ≡ length (x ∷ xs) + in_front g ys
     go (yes e) ih = absurd (omega (arith, front-first g x xs e))
     go (no e) ih = omega (arith, front-next g x (xs ++ ys) e, ih (omega (arith, front-next g x xs e)))
 
@@ -60,13 +60,13 @@ ltb_next a n h = go (ℕ_discrete a n)
     go (no e) = lt-ltb a n (omega arith) ∙ sym (lt-ltb (a + 1) (suc n) (omega arith))
 
 -- a group is in the list just where a hit stands before the list's end
-pub has-front : (g : ℕ) (xs : List ℕ) → has g xs ≡ ltb (inFront g xs) (length xs)
-has-front g [] = refl
-has-front g (x ∷ xs) = go (ℕ_discrete g x) (has-front g xs)
+pub has_front : (g : ℕ) (xs : List ℕ) → has g xs ≡ ltb (in_front g xs) (length xs)
+has_front g [] = refl
+has_front g (x ∷ xs) = go (ℕ_discrete g x) (has_front g xs)
   where
-    go : Dec (g ≡ x) → has g xs ≡ ltb (inFront g xs) (length xs) → has g (x ∷ xs) ≡ ltb (inFront g (x ∷ xs)) (length (x ∷ xs))
+    go : Dec (g ≡ x) → has g xs ≡ ltb (in_front g xs) (length xs) → has g (x ∷ xs) ≡ ltb (in_front g (x ∷ xs)) (length (x ∷ xs))
     go (yes e) ih = rw (eq-eqb g x e, lt-ltb 0 (length (x ∷ xs)) (omega arith))
-    go (no e) ih = rw (ne_eqb g x e) (ih ∙ ltb_next (inFront g xs) (length xs) (front-most g xs))
+    go (no e) ih = rw (ne_eqb g x e) (ih ∙ ltb_next (in_front g xs) (length xs) (front_most g xs))
 
 -- j groups from a place on
 module _ (g : ℕ) (xs : List ℕ) (i j : ℕ) (h : i + j ≤ length xs) where
@@ -74,32 +74,32 @@ module _ (g : ℕ) (xs : List ℕ) (i j : ℕ) (h : i + j ≤ length xs) where
   many = length-take-le j (drop i xs) (omega (arith, length-drop i xs))
 
   -- and k after them
-  pub part-here : (k : ℕ) → inFront g (take j (drop i xs)) < j → inFront g (take (j + k) (drop i xs)) ≡ inFront g (take j (drop i xs))
-  part-here k e = ap (inFront g) (take-add j k (drop i xs)) ∙ front-here g (take j (drop i xs)) (take k (drop j (drop i xs))) (omega (arith, many))
+  pub part_here : (k : ℕ) → in_front g (take j (drop i xs)) < j → in_front g (take (j + k) (drop i xs)) ≡ in_front g (take j (drop i xs))
+  part_here k e = ap (in_front g) (take-add j k (drop i xs)) ∙ front_here g (take j (drop i xs)) (take k (drop j (drop i xs))) (omega (arith, many))
 
-  pub part-on : (k : ℕ) → j ≤ inFront g (take j (drop i xs)) → inFront g (take (j + k) (drop i xs)) ≡ j + inFront g (take k (drop (i + j) xs))
-  part-on k e =
-      ap (inFront g) (take-add j k (drop i xs))
-      ∙ front-on g (take j (drop i xs)) (take k (drop j (drop i xs))) (omega (arith, many))
+  pub part_on : (k : ℕ) → j ≤ in_front g (take j (drop i xs)) → in_front g (take (j + k) (drop i xs)) ≡ j + in_front g (take k (drop (i + j) xs))
+  part_on k e =
+      ap (in_front g) (take-add j k (drop i xs))
+      ∙ front_on g (take j (drop i xs)) (take k (drop j (drop i xs))) (omega (arith, many))
       ∙ rw (many, drop-drop j i xs)
 
   -- and all after them
-  pub rest-here : inFront g (take j (drop i xs)) < j → inFront g (drop i xs) ≡ inFront g (take j (drop i xs))
-  rest-here e = ap (inFront g) (sym (take-append-drop j (drop i xs))) ∙ front-here g (take j (drop i xs)) (drop j (drop i xs)) (omega (arith, many))
+  pub rest_here : in_front g (take j (drop i xs)) < j → in_front g (drop i xs) ≡ in_front g (take j (drop i xs))
+  rest_here e = ap (in_front g) (sym (take-append-drop j (drop i xs))) ∙ front_here g (take j (drop i xs)) (drop j (drop i xs)) (omega (arith, many))
 
-  pub rest-on : j ≤ inFront g (take j (drop i xs)) → inFront g (drop i xs) ≡ j + inFront g (drop (i + j) xs)
-  rest-on e =
-      ap (inFront g) (sym (take-append-drop j (drop i xs)))
-      ∙ front-on g (take j (drop i xs)) (drop j (drop i xs)) (omega (arith, many))
+  pub rest_on : j ≤ in_front g (take j (drop i xs)) → in_front g (drop i xs) ≡ j + in_front g (drop (i + j) xs)
+  rest_on e =
+      ap (in_front g) (sym (take-append-drop j (drop i xs)))
+      ∙ front_on g (take j (drop i xs)) (drop j (drop i xs)) (omega (arith, many))
       ∙ rw (many, drop-drop j i xs)
 
 -- one group at a place
 module _ (g : ℕ) (xs : List ℕ) (i : ℕ) where
-  pub one_hit : i < length xs → g ≡ get_or xs i 0 → inFront g (take 1 (drop i xs)) ≡ 0
+  pub one_hit : i < length xs → g ≡ get_or xs i 0 → in_front g (take 1 (drop i xs)) ≡ 0
   one_hit h e = rw (ahead xs i 0 h) (front-first g (get_or xs i 0) [] e)
 
-  pub one-missed : i < length xs → (g ≡ get_or xs i 0 → ⊥) → inFront g (take 1 (drop i xs)) ≡ 1
-  one-missed h e = rw (ahead xs i 0 h) (front-next g (get_or xs i 0) [] e)
+  pub one_missed : i < length xs → (g ≡ get_or xs i 0 → ⊥) → in_front g (take 1 (drop i xs)) ≡ 1
+  one_missed h e = rw (ahead xs i 0 h) (front-next g (get_or xs i 0) [] e)
 
-  pub front-done : length xs ≤ i → inFront g (drop i xs) ≡ 0
+  pub front-done : length xs ≤ i → in_front g (drop i xs) ≡ 0
   front-done h = rw (ended xs i h)

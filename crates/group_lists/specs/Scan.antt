@@ -6,16 +6,16 @@ use Rattle.peer_lists.specs.declared.Refusal.TheVariants.{None, Number}
 use Rattle.group_lists.specs.declared.Scan.{Scan}
 use Rattle.group_lists.specs.declared.Scan.TheVariants.{Hit, Missed, Refused}
 use Rattle.group_lists.specs.Groups.{has}
-use Rattle.peer_lists.specs.Refusal.{tooMany}
+use Rattle.peer_lists.specs.Refusal.{too_many}
 
 -- how many groups stand in front of the first hit, which is its place from 0; all of them, where there is none
-abbrev pub inFront : ℕ → List ℕ → ℕ
-inFront g [] = 0
-inFront g (x ∷ xs) = cond (eqb g x) 0 (inFront g xs + 1)
+abbrev pub in_front : ℕ → List ℕ → ℕ
+in_front g [] = 0
+in_front g (x ∷ xs) = cond (eqb g x) 0 (in_front g xs + 1)
 
 -- the first hit's place, or none; and how many groups were read: that place plus one, or all
 abbrev pub scanned : ℕ → List ℕ → Scan
-scanned g occupied = cond (has g occupied) (Hit (inFront g occupied) (inFront g occupied + 1)) (Missed (length occupied))
+scanned g occupied = cond (has g occupied) (Hit (in_front g occupied) (in_front g occupied + 1)) (Missed (length occupied))
 
 -- a refusal comes before the scan
 abbrev pub unless : Refusal → Scan → Scan
@@ -23,8 +23,8 @@ unless None s = s
 unless (Number n) s = Refused n
 
 -- 12 for over 4,096 occupied groups
-abbrev pub scanOf : ℕ → List ℕ → Scan
-scanOf g occupied = unless (tooMany (length occupied)) (scanned g occupied)
+abbrev pub scan_of : ℕ → List ℕ → Scan
+scan_of g occupied = unless (too_many (length occupied)) (scanned g occupied)
 
 -- a scan that hit read no group past the hit: with any others behind it, it would have said the same
 unfoldable pub Unread : ℕ → List ℕ → Scan → Type 0

@@ -2,7 +2,7 @@
 // of a pick share.
 ghost use Rattle.std.specs.Prelude.{◌≡◌, ◌+◌, ◌≤◌, length, take, drop};
 ghost use Rattle.group_lists.specs.Groups.{has};
-ghost use Rattle.group_lists.specs.Scan.{inFront, scanOf, Unread};
+ghost use Rattle.group_lists.specs.Scan.{in_front, scan_of, Unread};
 
 use peer_lists::MAX_CANDIDATES;
 
@@ -18,7 +18,7 @@ pub enum Scan {
 // How many of two groups, from a place on, stand in front of the first that is a given one: both where neither is.
 fn front_of_two(groups: &[u64], i: usize, group: u64) -> usize
     requires { i + 2 ≤ length groups.now }
-    ensures { result ≡ inFront group (take 2 (drop i groups.now)) }
+    ensures { result ≡ in_front group (take 2 (drop i groups.now)) }
 {
     if group == groups[i] {
         return 0;
@@ -32,7 +32,7 @@ fn front_of_two(groups: &[u64], i: usize, group: u64) -> usize
 // How many of four.
 fn front_of_four(groups: &[u64], i: usize, group: u64) -> usize
     requires { i + 4 ≤ length groups.now }
-    ensures { result ≡ inFront group (take 4 (drop i groups.now)) }
+    ensures { result ≡ in_front group (take 4 (drop i groups.now)) }
 {
     let front = front_of_two(groups, i, group);
     if front < 2 {
@@ -44,7 +44,7 @@ fn front_of_four(groups: &[u64], i: usize, group: u64) -> usize
 // How many of eight.
 fn front_of_eight(groups: &[u64], i: usize, group: u64) -> usize
     requires { i + 8 ≤ length groups.now }
-    ensures { result ≡ inFront group (take 8 (drop i groups.now)) }
+    ensures { result ≡ in_front group (take 8 (drop i groups.now)) }
 {
     let front = front_of_four(groups, i, group);
     if front < 4 {
@@ -56,7 +56,7 @@ fn front_of_eight(groups: &[u64], i: usize, group: u64) -> usize
 // The place of the first that is a given one, from a place on, one by one: the end where none is.
 fn place_from(groups: &[u64], from: usize, group: u64) -> usize
     requires { from ≤ length groups.now }
-    ensures { result ≡ from + inFront group (drop from groups.now) }
+    ensures { result ≡ from + in_front group (drop from groups.now) }
 {
     let mut i = from;
     while i < groups.len() {
@@ -71,7 +71,7 @@ fn place_from(groups: &[u64], from: usize, group: u64) -> usize
 // The place of the first that is a given one: the end where none is. No group behind it is read. Eight are compared in each turn:
 // the loop itself costs as much as comparing two.
 fn place_of(groups: &[u64], group: u64) -> usize
-    ensures { result ≡ inFront group groups.now }
+    ensures { result ≡ in_front group groups.now }
 {
     let mut i: usize = 0;
     while 8 <= groups.len() - i {
@@ -94,7 +94,7 @@ pub fn contains(groups: &[u64], group: u64) -> bool
 // The occupied scan: the first hit's place, from 0, or none, and how many groups were read: that place plus one, or all. Of a group
 // that stands there twice the first place counts. Refusal 12 for over 4,096 groups.
 pub fn scan_occupied(group: u64, occupied: &[u64]) -> Scan
-    ensures value { result ≡ scanOf group occupied.now }
+    ensures value { result ≡ scan_of group occupied.now }
     ensures unread { Unread group occupied.now result }
 {
     if occupied.len() > MAX_CANDIDATES {

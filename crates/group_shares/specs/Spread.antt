@@ -20,14 +20,14 @@ spread [] = []
 spread (g ∷ gs) = tally g (spread gs)
 
 -- what is meant: how many of a list are g; how many the shares give it, 0 where it has none; and groups that rise from b on, none of them
--- without a candidate (`group_shares/proofs/SpreadLaws: spread-counts, spread-rises`)
+-- without a candidate (`group_shares/proofs/SpreadLaws: spread_counts, spread-rises`)
 abbrev pub times : ℕ → List ℕ → ℕ
 times g [] = 0
 times g (x ∷ xs) = cond (eqb g x) (suc (times g xs)) (times g xs)
 
-abbrev pub countIn : ℕ → List Share → ℕ
-countIn g [] = 0
-countIn g (s ∷ ss) = cond (eqb g s.group) s.count (countIn g ss)
+abbrev pub count_in : ℕ → List Share → ℕ
+count_in g [] = 0
+count_in g (s ∷ ss) = cond (eqb g s.group) s.count (count_in g ss)
 
 abbrev pub RisesFrom : ℕ → List Share → Type 0
 RisesFrom b [] = Unit {0}

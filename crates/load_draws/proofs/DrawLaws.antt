@@ -10,43 +10,43 @@ use lib.Arith.{mod-mul}
 use lib.Pow.{pow_pos}
 use borrow.Author.Tests.{eq-eqb, ne_eqb}
 use lib.Bits.{bit_xor, xor_add_and, and_le_l, and_le_r, xor_lt}
-use Rattle.load_draws.specs.Draw.{up, down, next, draw, seededBy, drawnAfter}
+use Rattle.load_draws.specs.Draw.{up, down, next, draw, seeded_by, drawn_after}
 use Rattle.load_draws.specs.declared.Generator.{Generator}
 use Rattle.load_draws.specs.declared.Seeded.TheVariants.{Start, Refused}
 use Rattle.load_draws.specs.declared.Drawn.TheVariants as drawn
 
 -- ---- the seeded start
 
-pub seeded-zero : (s : ℕ) → s ≡ 0 → seededBy s ≡ Refused 20
-unfolding seededBy
+pub seeded-zero : (s : ℕ) → s ≡ 0 → seeded_by s ≡ Refused 20
+unfolding seeded_by
 seeded-zero s h = rw (eq-eqb s 0 h)
 
-pub seeded-some : (s : ℕ) → s ≢ 0 → seededBy s ≡ Start (record { state = s })
-unfolding seededBy
+pub seeded-some : (s : ℕ) → s ≢ 0 → seeded_by s ≡ Start (record { state = s })
+unfolding seeded_by
 seeded-some s h = rw (ne_eqb s 0 h)
 
 -- what a start says of its seed, and what a refusal does
-pub started : (s : ℕ) (g : Generator) → seededBy s ≡ Start g → (s ≢ 0) × (g.state ≡ s)
+pub started : (s : ℕ) (g : Generator) → seeded_by s ≡ Start g → (s ≢ 0) × (g.state ≡ s)
 started s g e = go (ℕ_discrete s 0)
   where
     go : Dec (s ≡ 0) → (s ≢ 0) × (g.state ≡ s)
     go (yes z) = let q : Refused 20 ≡ Start g = sym (seeded-zero s z) ∙ e in let y : ◌≡◌ {A = ℕ} 0 1 = cc in absurd (omega arith)
     go (no z) = let q : Start (record { state = s }) ≡ Start g = sym (seeded-some s z) ∙ e in (z, cc)
 
-pub not-started : (s n : ℕ) → seededBy s ≡ Refused n → (s ≡ 0) × (n ≡ 20)
-not-started s n e = go (ℕ_discrete s 0)
+pub not_started : (s n : ℕ) → seeded_by s ≡ Refused n → (s ≡ 0) × (n ≡ 20)
+not_started s n e = go (ℕ_discrete s 0)
   where
     go : Dec (s ≡ 0) → (s ≡ 0) × (n ≡ 20)
     go (yes z) = let q : Refused 20 ≡ Refused n = sym (seeded-zero s z) ∙ e in (z, cc)
     go (no z) = let q : Start (record { state = s }) ≡ Refused n = sym (seeded-some s z) ∙ e in let y : ◌≡◌ {A = ℕ} 0 1 = cc in absurd (omega arith)
 
 -- a draw from a plain number
-pub drawn-zero : (s : ℕ) → s ≡ 0 → drawnAfter s ≡ drawn.Refused 20
-unfolding drawnAfter
+pub drawn-zero : (s : ℕ) → s ≡ 0 → drawn_after s ≡ drawn.Refused 20
+unfolding drawn_after
 drawn-zero s h = rw (eq-eqb s 0 h)
 
-pub drawn-some : (s : ℕ) → s ≢ 0 → drawnAfter s ≡ drawn.Number (next s)
-unfolding drawnAfter
+pub drawn-some : (s : ℕ) → s ≢ 0 → drawn_after s ≡ drawn.Number (next s)
+unfolding drawn_after
 drawn-some s h = rw (ne_eqb s 0 h)
 
 -- ---- draws one after the other
@@ -95,9 +95,9 @@ down_lt : (s : ℕ) → s < 2 ^ 64 → down 7 s < 2 ^ 64
 unfolding down
 down_lt s h = xor_lt 64 s (s / 2 ^ 7) h (omega arith)
 
-pub next-lt : (s : ℕ) → s < 2 ^ 64 → next s < 2 ^ 64
+pub next_lt : (s : ℕ) → s < 2 ^ 64 → next s < 2 ^ 64
 unfolding next
-next-lt s h = up_lt 17 (down 7 (up 13 s)) (down_lt (up 13 s) (up_lt 13 s h))
+next_lt s h = up_lt 17 (down 7 (up 13 s)) (down_lt (up 13 s) (up_lt 13 s h))
 
 pub next-some : (s : ℕ) → s < 2 ^ 64 → s ≢ 0 → next s ≢ 0
 unfolding next
@@ -107,4 +107,4 @@ next-some s h z = up-some 16 (down 7 (up 13 s)) (down_lt (up 13 s) (up_lt 13 s h
 pub never-zero : (i s : ℕ) → s < 2 ^ 64 → s ≢ 0 → draw i s ≢ 0
 unfolding draw
 never-zero zero s h z = z
-never-zero (suc i) s h z = never-zero i (next s) (next-lt s h) (next-some s h z)
+never-zero (suc i) s h z = never-zero i (next s) (next_lt s h) (next-some s h z)

@@ -7,12 +7,12 @@ use Rattle.load_draws.specs.declared.Drawn.{Drawn}
 use Rattle.load_draws.specs.declared.Drawn.TheVariants as drawn
 
 -- "a DEFAULT_SEED of 1"
-abbrev pub defaultSeed : ℕ
-defaultSeed = 1
+abbrev pub default_seed : ℕ
+default_seed = 1
 
 -- "20 for seed 0, … or n over 128": the one number for a load that cannot be made.
-abbrev pub noLoad : ℕ
-noLoad = 20
+abbrev pub no_load : ℕ
+no_load = 20
 
 -- s "xored with s × 2^k", "modulo 2^64"
 unfoldable pub up : ℕ → ℕ → ℕ
@@ -32,9 +32,9 @@ draw zero s = s
 draw (suc i) s = draw i (next s)
 
 -- The seeded start: "20 for seed 0".
-unfoldable pub seededBy : ℕ → Seeded
-seededBy s = cond (eqb s 0) (Refused noLoad) (Start (record { state = s }))
+unfoldable pub seeded_by : ℕ → Seeded
+seeded_by s = cond (eqb s 0) (Refused no_load) (Start (record { state = s }))
 
 -- A draw from a plain number, which is a seeded start and the next draw.
-unfoldable pub drawnAfter : ℕ → Drawn
-drawnAfter s = cond (eqb s 0) (drawn.Refused noLoad) (drawn.Number (next s))
+unfoldable pub drawn_after : ℕ → Drawn
+drawn_after s = cond (eqb s 0) (drawn.Refused no_load) (drawn.Number (next s))

@@ -1,7 +1,7 @@
 // The generator of loads (document 02, CR 6): numbers drawn one after the other, the same for everyone who starts from the same seed. Shifts and
 // xors only, so that a team that has no use for this library can make the same draws in any language.
 ghost use Rattle.std.specs.Prelude.{◌≡◌, ◌≢◌, ℕ};
-ghost use Rattle.load_draws.specs.Draw.{defaultSeed, next, seededBy, drawnAfter};
+ghost use Rattle.load_draws.specs.Draw.{default_seed, next, seeded_by, drawn_after};
 
 // The number for a load that cannot be made: a seed of 0, or too many pairs.
 pub const NO_LOAD: u8 = 20;
@@ -33,7 +33,7 @@ impl Generator {
 
     // The start from the default seed.
     pub fn new() -> Generator
-        ensures { result ≡ record { state = defaultSeed } }
+        ensures { result ≡ record { state = default_seed } }
     {
         Generator {
             state: Generator::DEFAULT_SEED,
@@ -42,7 +42,7 @@ impl Generator {
 
     // The start from a seed. Refusal 20 for 0.
     pub fn seeded(seed: u64) -> Seeded
-        ensures { result ≡ seededBy seed }
+        ensures { result ≡ seeded_by seed }
     {
         if seed == 0 {
             return Seeded::Refused(NO_LOAD);
@@ -67,7 +67,7 @@ impl Generator {
 // The draw after s, for callers who hold the seed, and then what was drawn, as a plain number: the start seeded with s, and its next draw. Refusal
 // 20 for 0, which no draw is.
 pub fn next_draw(s: u64) -> Drawn
-    ensures value { result ≡ drawnAfter s }
+    ensures value { result ≡ drawn_after s }
     ensures some { (n : ℕ) → result ≡ Drawn.Number n → n ≢ 0 }
 {
     match Generator::seeded(s) {

@@ -6,20 +6,20 @@ use mathlib.Core.Path.{◌≡◌, ◌∙◌, refl, sym, ap}
 use borrow.Author.Tests.{eqb-true}
 use lib.Dec.{eqb}
 use lib.ListN.{length}
-use Rattle.netaddr.specs.Relay.{lengthFits}
+use Rattle.netaddr.specs.Relay.{length_fits}
 
--- k has addresses of n bytes: what `lengthFits k` computes to
-pub length_at : (k n : ℕ) {id : ℕ} (a : List ℕ) → ((m : ℕ) → lengthFits k m ≡ eqb m n) → id ≡ k → lengthFits id (length a) ≡ true → length a ≡ n
-length_at k n a law e h = eqb-true (length a) n (sym (law (length a)) ∙ (sym (ap (λ i. lengthFits i (length a)) e) ∙ h))
+-- k has addresses of n bytes: what `length_fits k` computes to
+pub length_at : (k n : ℕ) {id : ℕ} (a : List ℕ) → ((m : ℕ) → length_fits k m ≡ eqb m n) → id ≡ k → length_fits id (length a) ≡ true → length a ≡ n
+length_at k n a law e h = eqb-true (length a) n (sym (law (length a)) ∙ (sym (ap (λ i. length_fits i (length a)) e) ∙ h))
 
-pub of-ipv4 : (m : ℕ) → lengthFits 1 m ≡ eqb m 4
-unfolding lengthFits
+pub of-ipv4 : (m : ℕ) → length_fits 1 m ≡ eqb m 4
+unfolding length_fits
 of-ipv4 m = refl
 
-pub of-ipv6 : (m : ℕ) → lengthFits 2 m ≡ eqb m 16
-unfolding lengthFits
+pub of-ipv6 : (m : ℕ) → length_fits 2 m ≡ eqb m 16
+unfolding length_fits
 of-ipv6 m = refl
 
-pub of-cjdns : (m : ℕ) → lengthFits 6 m ≡ eqb m 16
-unfolding lengthFits
-of-cjdns m = refl
+pub of_cjdns : (m : ℕ) → length_fits 6 m ≡ eqb m 16
+unfolding length_fits
+of_cjdns m = refl

@@ -11,16 +11,16 @@ pub data Answer : Type 0 where
   says : Bool → Answer
 
 -- refused with a number where the test holds, else the answer given
-abbrev pub unlessRefused : Bool → ℕ → Bool → Answer
-unlessRefused true n b = refused n
-unlessRefused false n b = says b
+abbrev pub unless_refused : Bool → ℕ → Bool → Answer
+unless_refused true n b = refused n
+unless_refused false n b = says b
 
-abbrev pub filteredAs : Filtered → Answer
-filteredAs filtered.Routable = says false
-filteredAs filtered.Unroutable = says true
-filteredAs (filtered.Refused n) = refused n
+abbrev pub filtered_as : Filtered → Answer
+filtered_as filtered.Routable = says false
+filtered_as filtered.Unroutable = says true
+filtered_as (filtered.Refused n) = refused n
 
-abbrev pub relayAs : Relay → Answer
-relayAs relay.Passes = says false
-relayAs relay.Skips = says true
-relayAs (relay.Refused n) = refused n
+abbrev pub relay_as : Relay → Answer
+relay_as relay.Passes = says false
+relay_as relay.Skips = says true
+relay_as (relay.Refused n) = refused n

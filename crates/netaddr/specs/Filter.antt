@@ -1,8 +1,8 @@
 -- The filter call (document 01, Filters): refused, or whether an address is unroutable. Assumes nothing.
 use Rattle.std.specs.Prelude.{ℕ, not, List, eqb, length}
 use Rattle.netaddr_ranges.specs.Unroutable.{unroutable16}
-use Rattle.netaddr.specs.Answer.{Answer, unlessRefused}
+use Rattle.netaddr.specs.Answer.{Answer, unless_refused}
 
 -- The call's answer: 11 for a slice that is not 16 bytes, else whether it is unroutable.
-abbrev pub filterOf : List ℕ → Answer
-filterOf a = unlessRefused (not (eqb (length a) 16)) 11 (unroutable16 a)
+abbrev pub filter_of : List ℕ → Answer
+filter_of a = unless_refused (not (eqb (length a) 16)) 11 (unroutable16 a)

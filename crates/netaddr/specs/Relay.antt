@@ -3,11 +3,11 @@
 use Rattle.std.specs.Prelude.{ℕ, Bool, true, false, cond, not, ◌&&◌, List, [], ◌∷◌, leb, eqb, length}
 use Rattle.netaddr_ranges.specs.Prefix.{within, ipv6}
 use Rattle.netaddr_ranges.specs.Unroutable.{unroutable4, unroutable16}
-use Rattle.netaddr.specs.Answer.{Answer, unlessRefused}
+use Rattle.netaddr.specs.Answer.{Answer, unless_refused}
 
 -- The network ids 1 to 6 have 4, 16, 10, 32, 32 and 16 address bytes; any other has at most 512.
-unfoldable pub lengthFits : ℕ → ℕ → Bool
-lengthFits id n =
+unfoldable pub length_fits : ℕ → ℕ → Bool
+length_fits id n =
     cond (eqb id 1) (eqb n 4)
     (cond (eqb id 2) (eqb n 16)
     (cond (eqb id 3) (eqb n 10)
@@ -16,12 +16,12 @@ lengthFits id n =
     (cond (eqb id 6) (eqb n 16) (leb n 512))))))
 
 -- an address of id 6, CJDNS, that does not lie in fc00::/8
-unfoldable pub outsideCjdns : ℕ → List ℕ → Bool
-outsideCjdns id a = eqb id 6 && not (within (ipv6 (0xfc00 ∷ []) 8) a)
+unfoldable pub outside_cjdns : ℕ → List ℕ → Bool
+outside_cjdns id a = eqb id 6 && not (within (ipv6 (0xfc00 ∷ []) 8) a)
 
 -- What is asked last, of any id: port 0 is skipped; then 1 and 2 when the address is unroutable; all others pass.
-abbrev pub byPortAndAddress : ℕ → List ℕ → ℕ → Bool
-byPortAndAddress id a port =
+abbrev pub by_port_and_address : ℕ → List ℕ → ℕ → Bool
+by_port_and_address id a port =
     cond (eqb port 0) true
     (cond (eqb id 1) (unroutable4 a)
     (cond (eqb id 2) (unroutable16 a) false))
@@ -31,8 +31,8 @@ unfoldable pub skips : ℕ → List ℕ → ℕ → Bool
 skips id a port =
     cond (eqb id 5) false
     (cond (eqb id 3) true
-    (cond (outsideCjdns id a) true (byPortAndAddress id a port)))
+    (cond (outside_cjdns id a) true (by_port_and_address id a port)))
 
 -- The call's answer: 17 for a length that the id does not have, else whether the entry is skipped.
-abbrev pub relayOf : ℕ → List ℕ → ℕ → Answer
-relayOf id a port = unlessRefused (not (lengthFits id (length a))) 17 (skips id a port)
+abbrev pub relay_of : ℕ → List ℕ → ℕ → Answer
+relay_of id a port = unless_refused (not (length_fits id (length a))) 17 (skips id a port)

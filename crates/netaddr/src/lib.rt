@@ -1,8 +1,8 @@
 // The address filters (document 01, Filters): whether an address is unroutable, and which entries of an addrv2 message are not sent on.
 ghost use Rattle.std.specs.Prelude.{◌≡◌, true, length};
-ghost use Rattle.netaddr.specs.Answer.{filteredAs, relayAs};
-ghost use Rattle.netaddr.specs.Filter.{filterOf};
-ghost use Rattle.netaddr.specs.Relay.{lengthFits, outsideCjdns, skips, relayOf};
+ghost use Rattle.netaddr.specs.Answer.{filtered_as, relay_as};
+ghost use Rattle.netaddr.specs.Filter.{filter_of};
+ghost use Rattle.netaddr.specs.Relay.{length_fits, outside_cjdns, skips, relay_of};
 
 use netaddr_ipv6::is_cjdns_ip;
 use netaddr_ranges::ipv4_unroutable;
@@ -39,7 +39,7 @@ pub const CJDNS: u8 = 6;
 
 // Whether an address of 16 bytes, IPv4 in its mapped form, is unroutable. Refuses any other length with 11; nothing is asked of the caller.
 pub fn clearnet_unroutable(address: &[u8]) -> Filtered
-    ensures { filteredAs result ≡ filterOf address.now }
+    ensures { filtered_as result ≡ filter_of address.now }
 {
     if address.len() != 16 {
         return Filtered::Refused(11);
@@ -52,7 +52,7 @@ pub fn clearnet_unroutable(address: &[u8]) -> Filtered
 
 // The BIP155 network id has addresses of this many bytes.
 fn length_fits(id: u8, n: usize) -> bool
-    ensures { result ≡ lengthFits id n }
+    ensures { result ≡ length_fits id n }
 {
     match id {
         IPV4 => n == 4,
@@ -67,8 +67,8 @@ fn length_fits(id: u8, n: usize) -> bool
 
 // A CJDNS entry whose address lies outside fc00::/8.
 fn outside_cjdns(id: u8, address: &[u8]) -> bool
-    requires { lengthFits id (length address.now) ≡ true }
-    ensures { result ≡ outsideCjdns id address.now }
+    requires { length_fits id (length address.now) ≡ true }
+    ensures { result ≡ outside_cjdns id address.now }
 {
     if id == CJDNS {
         return !is_cjdns_ip(octets16(address));
@@ -78,7 +78,7 @@ fn outside_cjdns(id: u8, address: &[u8]) -> bool
 
 // Whether an entry whose address has the id's length is not sent on. I2P is advertised with port 0, so that its test comes before the port's.
 fn skip_relay(id: u8, address: &[u8], port: u16) -> bool
-    requires { lengthFits id (length address.now) ≡ true }
+    requires { length_fits id (length address.now) ≡ true }
     ensures { result ≡ skips id address.now port }
 {
     if id == I2P {
@@ -105,7 +105,7 @@ fn skip_relay(id: u8, address: &[u8], port: u16) -> bool
 // Whether an entry of an addrv2 message is not sent on: its BIP155 network id, address bytes and port. Refuses a length that the id does
 // not have with 17; nothing is asked of the caller.
 pub fn addrv2_skip_relay(id: u8, address: &[u8], port: u16) -> Relay
-    ensures { relayAs result ≡ relayOf id address.now port }
+    ensures { relay_as result ≡ relay_of id address.now port }
 {
     if !length_fits(id, address.len()) {
         return Relay::Refused(17);

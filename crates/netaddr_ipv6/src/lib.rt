@@ -2,7 +2,7 @@
 // bytes. Tests are joined by `&` and `|`, as those of IPv4 are.
 ghost use Rattle.std.specs.Prelude.{◌≡◌, ◌∷◌, [], ◌-◌, ◌≤◌};
 ghost use Rattle.netaddr_ranges.specs.Prefix.{within, ipv6};
-ghost use Rattle.netaddr_ranges.specs.Ranges.{scopeRows, specialRows, embeddedRows};
+ghost use Rattle.netaddr_ranges.specs.Ranges.{scope_rows, special_rows, embedded_rows};
 ghost use Rattle.netaddr_ranges.specs.Unroutable.{zeros, decided};
 
 use netaddr_ranges::ipv4_unroutable;
@@ -31,7 +31,7 @@ pub fn is_cjdns_ip(o: [u8; 16]) -> bool
 
 // ::1, fe80::/10, fd00::/8 and ff00::/8: loopback, link-local, unique local, multicast.
 pub fn ipv6_scope_unroutable(o: [u8; 16]) -> bool
-    ensures { result ≡ decided scopeRows o }
+    ensures { result ≡ decided scope_rows o }
 {
     let a = o[0];
     let b = o[1];
@@ -45,7 +45,7 @@ pub fn ipv6_scope_unroutable(o: [u8; 16]) -> bool
 // 2001:db8::/32 and 3fff::/20 documentation (RFC 3849, RFC 9637), 2001:10::/28 ORCHID (RFC 4843), 2001:20::/28 ORCHIDv2
 // (RFC 7343), 2001:2::/48 benchmarks (RFC 5180), 100::/64 discard (RFC 6666).
 pub fn ipv6_special_unroutable(o: [u8; 16]) -> bool
-    ensures { result ≡ decided specialRows o }
+    ensures { result ≡ decided special_rows o }
 {
     let a = o[0];
     let b = o[1];
@@ -85,7 +85,7 @@ fn ipv4_compatible(o: [u8; 16]) -> bool
 // local NAT64 (RFC 8215). 6to4 and local NAT64 want zeros beside the IPv4: other bytes there would make a new address of the same host. Teredo is
 // never let through, since the address of its server is free.
 pub fn ipv6_embedded_bogon(o: [u8; 16]) -> bool
-    ensures { result ≡ decided embeddedRows o }
+    ensures { result ≡ decided embedded_rows o }
 {
     let a = o[0];
     let b = o[1];

@@ -13,12 +13,12 @@ abbrev pub joined : Bool → List Range → List ℕ → Bool
 joined t [] a = t
 joined t (r ∷ rs) a = joined (t || within r a) rs a
 
-joined-or : (t : Bool) (rs : List Range) (a : List ℕ) → joined t rs a ≡ (t || in_some rs a)
-joined-or t [] a = sym (or-false t)
-joined-or t (r ∷ rs) a = joined-or (t || within r a) rs a ∙ or_assoc t (within r a) (in_some rs a)
+joined_or : (t : Bool) (rs : List Range) (a : List ℕ) → joined t rs a ≡ (t || in_some rs a)
+joined_or t [] a = sym (or-false t)
+joined_or t (r ∷ rs) a = joined_or (t || within r a) rs a ∙ or_assoc t (within r a) (in_some rs a)
 
 pub joined-some : (rs : List Range) (a : List ℕ) → joined false rs a ≡ in_some rs a
-joined-some rs a = joined-or false rs a
+joined-some rs a = joined_or false rs a
 
 -- every row says unroutable
 abbrev pub Plain : List Row → Type 0

@@ -14,15 +14,15 @@ choose-true true r = refl
 choose-true false r = refl
 
 -- two tests that lead to the same choice
-pub choose-either : (s t x r : Bool) → cond s x (cond t x r) ≡ cond (s || t) x r
-choose-either true t x r = refl
-choose-either false t x r = refl
+pub choose_either : (s t x r : Bool) → cond s x (cond t x r) ≡ cond (s || t) x r
+choose_either true t x r = refl
+choose_either false t x r = refl
 
-pub unless-both : (z u : Bool) → not (z && not u) ≡ (u || not z)
-unless-both true true = refl
-unless-both true false = refl
-unless-both false true = refl
-unless-both false false = refl
+pub unless_both : (z u : Bool) → not (z && not u) ≡ (u || not z)
+unless_both true true = refl
+unless_both true false = refl
+unless_both false true = refl
+unless_both false false = refl
 
 pub both_left : (s t : Bool) → (s && t) ≡ true → s ≡ true
 both_left true t e = refl

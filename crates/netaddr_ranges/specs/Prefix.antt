@@ -7,20 +7,20 @@ abbrev pub byte : ℕ → List ℕ → ℕ
 byte i a = get_or a i 0
 
 -- the first k bytes of two addresses agree
-abbrev pub sameBytes : ℕ → List ℕ → List ℕ → Bool
-sameBytes zero p a = true
-sameBytes (suc k) p a = sameBytes k p a && eqb (byte k a) (byte k p)
+abbrev pub same_bytes : ℕ → List ℕ → List ℕ → Bool
+same_bytes zero p a = true
+same_bytes (suc k) p a = same_bytes k p a && eqb (byte k a) (byte k p)
 
 -- the n highest bits of two bytes agree: the 8 - n bits below are divided away
-abbrev pub sameTop : ℕ → ℕ → ℕ → Bool
-sameTop n p x = eqb (x / 2 ^ (8 - n)) (p / 2 ^ (8 - n))
+abbrev pub same_top : ℕ → ℕ → ℕ → Bool
+same_top n p x = eqb (x / 2 ^ (8 - n)) (p / 2 ^ (8 - n))
 
 -- The first n bits of two addresses agree, counted from the highest of each byte: n / 8 whole bytes, and of the byte after them
 -- the n % 8 highest bits where n is no multiple of 8.
-abbrev pub sameBits : ℕ → List ℕ → List ℕ → Bool
-sameBits n p a =
-    cond (eqb (n % 8) 0) (sameBytes (n / 8) p a)
-    (sameBytes (n / 8) p a && sameTop (n % 8) (byte (n / 8) p) (byte (n / 8) a))
+abbrev pub same_bits : ℕ → List ℕ → List ℕ → Bool
+same_bits n p a =
+    cond (eqb (n % 8) 0) (same_bytes (n / 8) p a)
+    (same_bytes (n / 8) p a && same_top (n % 8) (byte (n / 8) p) (byte (n / 8) a))
 
 -- the first address of a range and the number of bits that all of its addresses share with it
 pub record Range : Type 0 where
@@ -29,7 +29,7 @@ pub record Range : Type 0 where
 
 -- an address lies in a range
 abbrev pub within : Range → List ℕ → Bool
-within r a = sameBits r.bits r.first a
+within r a = same_bits r.bits r.first a
 
 -- a.b.c.d/n
 abbrev pub ipv4 : ℕ → ℕ → ℕ → ℕ → ℕ → Range

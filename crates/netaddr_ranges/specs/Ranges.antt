@@ -4,8 +4,8 @@ use Rattle.std.specs.Prelude.{ℕ, List, [], ◌∷◌, ◌++◌}
 use Rattle.netaddr_ranges.specs.Prefix.{Range, ipv4, ipv6}
 
 -- IPv4 unroutable
-abbrev pub ipv4Ranges : List Range
-ipv4Ranges =
+abbrev pub ipv4_ranges : List Range
+ipv4_ranges =
     -- 0/8
     ipv4 0 0 0 0 8
     -- 10/8
@@ -51,8 +51,8 @@ abbrev pub row : List ℕ → ℕ → Follows → Row
 row gs n f = record { range = ipv6 gs n; follows = f }
 
 -- Loopback, link-local, unique local, multicast: unroutable, whatever else the address holds.
-abbrev pub scopeRows : List Row
-scopeRows =
+abbrev pub scope_rows : List Row
+scope_rows =
     -- ::1
     row (0 ∷ 0 ∷ 0 ∷ 0 ∷ 0 ∷ 0 ∷ 0 ∷ 1 ∷ []) 128 unroutable
     -- fe80::/10
@@ -64,8 +64,8 @@ scopeRows =
     ∷ []
 
 -- Documentation, ORCHID, benchmarks and discard: likewise.
-abbrev pub specialRows : List Row
-specialRows =
+abbrev pub special_rows : List Row
+special_rows =
     -- 2001:db8::/32
     row (0x2001 ∷ 0xdb8 ∷ []) 32 unroutable
     -- 3fff::/20
@@ -81,8 +81,8 @@ specialRows =
     ∷ []
 
 -- Tunnels and translations, which hold an IPv4 address.
-abbrev pub embeddedRows : List Row
-embeddedRows =
+abbrev pub embedded_rows : List Row
+embedded_rows =
     -- 2001::/32
     row (0x2001 ∷ []) 32 unroutable
     -- 2002::/16 unless bytes 6 to 15 are zero and bytes 2 to 5 routable
@@ -98,10 +98,10 @@ embeddedRows =
     ∷ []
 
 -- All eighteen: the two that are asked first, then the three groups.
-abbrev pub ipv6Rows : List Row
-ipv6Rows =
+abbrev pub ipv6_rows : List Row
+ipv6_rows =
     -- fc00::/8 is routable
     row (0xfc00 ∷ []) 8 routable
     -- ::ffff:0:0/96 goes by its IPv4
     ∷ row (0 ∷ 0 ∷ 0 ∷ 0 ∷ 0 ∷ 0xffff ∷ []) 96 (by 12)
-    ∷ (scopeRows ++ (specialRows ++ embeddedRows))
+    ∷ (scope_rows ++ (special_rows ++ embedded_rows))

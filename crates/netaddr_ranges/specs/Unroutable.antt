@@ -2,7 +2,7 @@
 -- Assumes nothing.
 use Rattle.std.specs.Prelude.{ℕ, zero, suc, ◌+◌, ◌-◌, Bool, true, false, cond, not, ◌&&◌, ◌||◌, List, [], ◌∷◌, eqb}
 use Rattle.netaddr_ranges.specs.Prefix.{Range, within, byte}
-use Rattle.netaddr_ranges.specs.Ranges.{Row, Follows, routable, unroutable, by, unless, ipv4Ranges, ipv6Rows}
+use Rattle.netaddr_ranges.specs.Ranges.{Row, Follows, routable, unroutable, by, unless, ipv4_ranges, ipv6_rows}
 
 -- an address lies in one of the ranges
 abbrev pub in_some : List Range → List ℕ → Bool
@@ -11,7 +11,7 @@ in_some (r ∷ rs) a = within r a || in_some rs a
 
 -- an IPv4 address of four bytes is unroutable
 unfoldable pub unroutable4 : List ℕ → Bool
-unroutable4 a = in_some ipv4Ranges a
+unroutable4 a = in_some ipv4_ranges a
 
 -- the IPv4 address that an address holds from byte i on
 abbrev pub held : ℕ → List ℕ → List ℕ
@@ -36,4 +36,4 @@ decided (r ∷ rs) a = cond (within r.range a) (verdict r.follows a) (decided rs
 
 -- an address of 16 bytes is unroutable
 unfoldable pub unroutable16 : List ℕ → Bool
-unroutable16 a = decided ipv6Rows a
+unroutable16 a = decided ipv6_rows a

@@ -9,14 +9,14 @@ use Rattle.peer_lists.specs.declared.Refusal.TheVariants.{None, Number}
 use Rattle.candidate_bytes.specs.Candidate.{valid}
 use Rattle.netgroup.specs.declared.GroupAnswer.TheVariants.{Group, Refused}
 use Rattle.netgroup.specs.Group.{Numbering, group_of}
-use Rattle.netgroup.specs.Netgroup.{groupCall}
+use Rattle.netgroup.specs.Netgroup.{group_call}
 
-module _ (ofMap : Refusal) (n : Numbering) (c : List ℕ) where
-  pub call-invalid : valid c ≡ false → Refused 13 ≡ groupCall ofMap n c
+module _ (of_map : Refusal) (n : Numbering) (c : List ℕ) where
+  pub call-invalid : valid c ≡ false → Refused 13 ≡ group_call of_map n c
   call-invalid h = rw h
 
-  pub call-refused : (k : ℕ) → valid c ≡ true → ofMap ≡ Number k → Refused k ≡ groupCall ofMap n c
-  call-refused k h e = rw (h, e)
+  pub call_refused : (k : ℕ) → valid c ≡ true → of_map ≡ Number k → Refused k ≡ group_call of_map n c
+  call_refused k h e = rw (h, e)
 
-  pub call-group : valid c ≡ true → ofMap ≡ None → Group (group_of n c) ≡ groupCall ofMap n c
-  call-group h e = rw (h, e)
+  pub call_group : valid c ≡ true → of_map ≡ None → Group (group_of n c) ≡ group_call of_map n c
+  call_group h e = rw (h, e)

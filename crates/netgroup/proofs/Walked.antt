@@ -9,23 +9,23 @@ use lib.ListN.{length}
 use Rattle.peer_lists.specs.declared.Refusal.TheVariants.{None}
 use Rattle.candidate_bytes.specs.Candidate.{address}
 use Rattle.asmap_walk_bits.specs.Walk.{walk_of, summary}
-use Rattle.asmap_walk.specs.Interpret.{interpretOf}
+use Rattle.asmap_walk.specs.Interpret.{interpret_of}
 use Rattle.asmap_walk.specs.declared.Interpreted.TheVariants.{Ended as Walks}
 use Rattle.asmap_walk.proofs.Promised.{kept}
-use Rattle.netgroup.specs.Group.{Numbering, byMap, byPrefixes, byOldPrefixes}
-use Rattle.netgroup.specs.Refusal.{checkRefusal}
+use Rattle.netgroup.specs.Group.{Numbering, by_map, by_prefixes, by_old_prefixes}
+use Rattle.netgroup.specs.Refusal.{check_refusal}
 use Rattle.netgroup.specs.Ended.{Finished, Ended}
-use Rattle.netgroup.proofs.Refusals.{Passes, none-check}
+use Rattle.netgroup.proofs.Refusals.{Passes, none_check}
 
 -- an address of 16 bytes and a map within the limit are not refused
-pub walk_ends : (m a : List ℕ) → length a ≡ 16 → length m ≤ 16777216 → interpretOf m a ≡ Walks (summary (walk_of m a 128))
+pub walk_ends : (m a : List ℕ) → length a ≡ 16 → length m ≤ 16777216 → interpret_of m a ≡ Walks (summary (walk_of m a 128))
 walk_ends m a h k = rw (eq-eqb (length a) 16 h, le-ltb 16777216 (length m) k)
 
 -- over a map that the check accepts
 finished : (m c : List ℕ) → Passes m → Finished m c
 finished m c p = let k = kept m (address c) 128 p.count p.depth p.accepted in record { ended = k.ended; zero = k.zero }
 
-pub ended : (n : Numbering) (c : List ℕ) → checkRefusal n ≡ None → Ended n c
-ended (byMap m) c h = finished m c (none-check m h)
-ended byPrefixes c h = tt
-ended byOldPrefixes c h = tt
+pub ended : (n : Numbering) (c : List ℕ) → check_refusal n ≡ None → Ended n c
+ended (by_map m) c h = finished m c (none_check m h)
+ended by_prefixes c h = tt
+ended by_old_prefixes c h = tt

@@ -2,10 +2,10 @@
 ghost use Rattle.std.specs.Prelude.{◌≡◌, ◌+◌, ◌*◌, ◌≤◌, ◌<◌, cond, not, ◌&&◌, ◌||◌, eqb, length};
 ghost use Rattle.candidate_bytes.specs.Candidate.{family, mapped};
 ghost use Rattle.asmap_program.specs.Map.{limit};
-ghost use Rattle.netgroup.specs.Group.{numbering, prefix4, prefix6, walkFor, groupedOf};
-ghost use Rattle.netgroup.specs.models.Which.{isMap, isOld, byNumbers};
-ghost use Rattle.netgroup.specs.Refusal.{limitRefusal, checkRefusal};
-ghost use Rattle.netgroup.specs.Netgroup.{prefixGroupCall, netgroupOf, netgroupUnchecked, Whole};
+ghost use Rattle.netgroup.specs.Group.{numbering, prefix4, prefix6, walk_for, grouped_of};
+ghost use Rattle.netgroup.specs.models.Which.{is_map, is_old, by_numbers};
+ghost use Rattle.netgroup.specs.Refusal.{limit_refusal, check_refusal};
+ghost use Rattle.netgroup.specs.Netgroup.{prefix_group_call, netgroup_of, netgroup_unchecked, Whole};
 
 use asmap_program::{MAX_MAP_BYTES, Verdict};
 use asmap_walk::Interpreted;
@@ -88,7 +88,7 @@ fn first_ipv4_group(old: bool) -> u64
 // gives 0. Both share their code, which is then small enough for the compiler to put it into the loops of pick and page.
 fn prefix_number(candidate: &[u8], old: bool) -> u64
     requires { length candidate.now ≡ 20 }
-    ensures { result ≡ byNumbers old candidate.now }
+    ensures { result ≡ by_numbers old candidate.now }
 {
     if is_ipv4(candidate, old) {
         return first_ipv4_group(old) + ipv4_prefix(candidate);
@@ -98,7 +98,7 @@ fn prefix_number(candidate: &[u8], old: bool) -> u64
 
 // Whether groups go by the map.
 fn is_map(grouping: Grouping) -> bool
-    ensures { result ≡ isMap grouping }
+    ensures { result ≡ is_map grouping }
 {
     match grouping {
         Grouping::Prefixes => false,
@@ -109,7 +109,7 @@ fn is_map(grouping: Grouping) -> bool
 
 // Whether they go by the old numbering.
 fn is_old(grouping: Grouping) -> bool
-    ensures { result ≡ isOld grouping }
+    ensures { result ≡ is_old grouping }
 {
     match grouping {
         Grouping::Prefixes => false,
@@ -121,7 +121,7 @@ fn is_old(grouping: Grouping) -> bool
 // The group of a candidate by a map within the limit, with the walk's count.
 fn walked_group(candidate: &[u8], map: &[u8]) -> Grouped
     requires { (length candidate.now ≡ 20) × (length map.now ≤ limit) }
-    ensures { result ≡ record { group = (walkFor map.now candidate.now).number; count = length (walkFor map.now candidate.now).read } }
+    ensures { result ≡ record { group = (walk_for map.now candidate.now).number; count = length (walk_for map.now candidate.now).read } }
 {
     let walked = asmap_walk::interpret(map, &candidate[2..18]);
     let Interpreted::Ended(ending) = walked else {
@@ -136,8 +136,8 @@ fn walked_group(candidate: &[u8], map: &[u8]) -> Grouped
 
 // The group of a candidate, for callers who have seen to the refusals: the calls below, and the pick.
 pub fn group_of(candidate: &[u8], grouping: Grouping, map: &[u8]) -> Grouped
-    requires { (length candidate.now ≡ 20) × (limitRefusal (numbering grouping map.now) ≡ Refusal.None) }
-    ensures { result ≡ groupedOf (numbering grouping map.now) candidate.now }
+    requires { (length candidate.now ≡ 20) × (limit_refusal (numbering grouping map.now) ≡ Refusal.None) }
+    ensures { result ≡ grouped_of (numbering grouping map.now) candidate.now }
 {
     if is_map(grouping) {
         return walked_group(candidate, map);
@@ -150,7 +150,7 @@ pub fn group_of(candidate: &[u8], grouping: Grouping, map: &[u8]) -> Grouped
 
 // Why a map that is taken as it is is refused: 1 over the limit, as the walk refuses it.
 pub fn limit_refusal(grouping: Grouping, map: &[u8]) -> Refusal
-    ensures { result ≡ limitRefusal (numbering grouping map.now) }
+    ensures { result ≡ limit_refusal (numbering grouping map.now) }
 {
     if !is_map(grouping) {
         return Refusal::None;
@@ -163,7 +163,7 @@ pub fn limit_refusal(grouping: Grouping, map: &[u8]) -> Refusal
 
 // Why the check refuses the map of a call: 1 to 10 or 19. It reads the whole map.
 pub fn check_refusal(grouping: Grouping, map: &[u8]) -> Refusal
-    ensures { result ≡ checkRefusal (numbering grouping map.now) }
+    ensures { result ≡ check_refusal (numbering grouping map.now) }
 {
     if !is_map(grouping) {
         return Refusal::None;
@@ -177,7 +177,7 @@ pub fn check_refusal(grouping: Grouping, map: &[u8]) -> Refusal
 
 // The group of one candidate without a map, in the old numbering. Refusal 13.
 pub fn prefix_group(candidate: &[u8]) -> GroupAnswer
-    ensures { result ≡ prefixGroupCall candidate.now }
+    ensures { result ≡ prefix_group_call candidate.now }
 {
     if !candidate_bytes::is_candidate(candidate) {
         return GroupAnswer::Refused(13);
@@ -187,8 +187,8 @@ pub fn prefix_group(candidate: &[u8]) -> GroupAnswer
 
 // The group of one candidate over a map taken as it is, for callers who checked it when they loaded it. Refusals 13, 1.
 pub fn netgroup_unchecked(candidate: &[u8], grouping: Grouping, map: &[u8]) -> GroupAnswer
-    ensures value { result ≡ netgroupUnchecked (numbering grouping map.now) candidate.now }
-    ensures unaborted { checkRefusal (numbering grouping map.now) ≡ Refusal.None → Whole (numbering grouping map.now) candidate.now result }
+    ensures value { result ≡ netgroup_unchecked (numbering grouping map.now) candidate.now }
+    ensures unaborted { check_refusal (numbering grouping map.now) ≡ Refusal.None → Whole (numbering grouping map.now) candidate.now result }
 {
     if !candidate_bytes::is_candidate(candidate) {
         return GroupAnswer::Refused(13);
@@ -203,7 +203,7 @@ pub fn netgroup_unchecked(candidate: &[u8], grouping: Grouping, map: &[u8]) -> G
 
 // The group of one candidate, with a map or none. Refusals 13, then with a map the check's, 1 to 10 and 19.
 pub fn netgroup(candidate: &[u8], grouping: Grouping, map: &[u8]) -> GroupAnswer
-    ensures value { result ≡ netgroupOf (numbering grouping map.now) candidate.now }
+    ensures value { result ≡ netgroup_of (numbering grouping map.now) candidate.now }
     ensures unaborted { Whole (numbering grouping map.now) candidate.now result }
 {
     if !candidate_bytes::is_candidate(candidate) {

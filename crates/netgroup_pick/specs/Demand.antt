@@ -1,7 +1,7 @@
 -- Demand 3 for the pick: of a pick that is not refused, whatever its list, occupied groups and max.
 -- Assumes nothing.
 use Rattle.std.specs.Prelude.{ℕ, ◌<◌, ◌≡◌, List, [], map, length, take, get_or}
-use Rattle.netgroup.specs.Group.{Numbering, byMap, byPrefixes, byOldPrefixes, walkFor}
+use Rattle.netgroup.specs.Group.{Numbering, by_map, by_prefixes, by_old_prefixes, walk_for}
 use Rattle.netgroup.specs.Ended.{Ended}
 use Rattle.pick_passes.specs.Ranked.{sum, first}
 use Rattle.netgroup_pick.specs.declared.PickAnswer.{PickAnswer}
@@ -9,10 +9,10 @@ use Rattle.netgroup_pick.specs.declared.PickAnswer.TheVariants.{Picked, Refused}
 use Rattle.netgroup_pick.specs.declared.Totals.{Totals}
 
 -- the counts of the defined walks of the candidates, place by place, so equal candidates count each; without a map there are none
-abbrev pub walkCounts : Numbering → List (List ℕ) → List ℕ
-walkCounts (byMap m) all = map (λ (c : List ℕ). length (walkFor m c).read) all
-walkCounts byPrefixes all = []
-walkCounts byOldPrefixes all = []
+abbrev pub walk_counts : Numbering → List (List ℕ) → List ℕ
+walk_counts (by_map m) all = map (λ (c : List ℕ). length (walk_for m c).read) all
+walk_counts by_prefixes all = []
+walk_counts by_old_prefixes all = []
 
 module _ (n : Numbering) (all : List (List ℕ)) (occupied : List ℕ) (max : ℕ) where
   -- t: the answer; ps, gs: the outputs at exit. The first-pass picks are those of the defined first pass, in order, with their
@@ -21,7 +21,7 @@ module _ (n : Numbering) (all : List (List ℕ)) (occupied : List ℕ) (max : �
     pub picks : take t.first ps ≡ (first n all occupied max).places
     pub groups : take t.first gs ≡ (first n all occupied max).groups
     pub examined : t.examined ≡ (first n all occupied max).examined
-    pub instructions : t.instructions ≡ sum (take t.examined (walkCounts n all))
+    pub instructions : t.instructions ≡ sum (take t.examined (walk_counts n all))
 
   abbrev pub Demand3 : PickAnswer → List ℕ → List ℕ → Type 0
   Demand3 (Picked t) ps gs = FirstPassed t ps gs

@@ -4,16 +4,16 @@
 use Rattle.std.specs.Prelude.{ℕ, List, length}
 use Rattle.peer_lists.specs.declared.Refusal.{Refusal}
 use Rattle.peer_lists.specs.declared.Refusal.TheVariants.{None, Number}
-use Rattle.peer_lists.specs.Candidates.{candidatesOf}
-use Rattle.netgroup.specs.Group.{Numbering, byOldPrefixes}
-use Rattle.netgroup.specs.Refusal.{limitRefusal, checkRefusal}
+use Rattle.peer_lists.specs.Candidates.{candidates_of}
+use Rattle.netgroup.specs.Group.{Numbering, by_old_prefixes}
+use Rattle.netgroup.specs.Refusal.{limit_refusal, check_refusal}
 use Rattle.pick_passes.specs.Ranked.{first, instructions}
 use Rattle.pick_passes.specs.Fill.{fill}
 use Rattle.pick_passes.specs.Output.{written}
 use Rattle.netgroup_pick.specs.declared.PickAnswer.{PickAnswer}
 use Rattle.netgroup_pick.specs.declared.PickAnswer.TheVariants.{Picked, Refused}
 use Rattle.netgroup_pick.specs.declared.Totals.{Totals}
-use Rattle.netgroup_pick.specs.PickRefusal.{pickRefusal}
+use Rattle.netgroup_pick.specs.PickRefusal.{pick_refusal}
 
 -- all: the candidates in ranked order
 module _ (n : Numbering) (all : List (List ℕ)) (occupied : List ℕ) (max : ℕ) where
@@ -34,24 +34,24 @@ abbrev pub handed : PickAnswer → List ℕ → List ℕ → Handed
 handed answer picks groups = record { answer = answer; picks = picks; groups = groups }
 
 -- a refusal leaves both outputs as they were; a pick writes all picks to the one, and the groups of the first pass to the other
-abbrev pub pickUnless : Refusal → Numbering → List (List ℕ) → List ℕ → ℕ → List ℕ → List ℕ → Handed
-pickUnless None n all occupied max picks groups =
+abbrev pub pick_unless : Refusal → Numbering → List (List ℕ) → List ℕ → ℕ → List ℕ → List ℕ → Handed
+pick_unless None n all occupied max picks groups =
     handed (Picked (totals n all occupied max))
     (written (places n all occupied max) picks)
     (written (first n all occupied max).groups groups)
-pickUnless (Number k) n all occupied max picks groups = handed (Refused k) picks groups
+pick_unless (Number k) n all occupied max picks groups = handed (Refused k) picks groups
 
--- ofMap: what is wrong with the map
-abbrev pub pickCall : Refusal → Numbering → List ℕ → List ℕ → ℕ → List ℕ → List ℕ → Handed
-pickCall ofMap n bytes occupied max picks groups =
-    pickUnless (pickRefusal ofMap bytes occupied max picks groups) n (candidatesOf bytes) occupied max picks groups
+-- of_map: what is wrong with the map
+abbrev pub pick_call : Refusal → Numbering → List ℕ → List ℕ → ℕ → List ℕ → List ℕ → Handed
+pick_call of_map n bytes occupied max picks groups =
+    pick_unless (pick_refusal of_map bytes occupied max picks groups) n (candidates_of bytes) occupied max picks groups
 
-abbrev pub selectDiverse : Numbering → List ℕ → List ℕ → ℕ → List ℕ → List ℕ → Handed
-selectDiverse n = pickCall (checkRefusal n) n
+abbrev pub select_diverse : Numbering → List ℕ → List ℕ → ℕ → List ℕ → List ℕ → Handed
+select_diverse n = pick_call (check_refusal n) n
 
-abbrev pub selectUnchecked : Numbering → List ℕ → List ℕ → ℕ → List ℕ → List ℕ → Handed
-selectUnchecked n = pickCall (limitRefusal n) n
+abbrev pub select_unchecked : Numbering → List ℕ → List ℕ → ℕ → List ℕ → List ℕ → Handed
+select_unchecked n = pick_call (limit_refusal n) n
 
 -- "The old numbering stays callable, in a pick too" (document 02, CR 7)
-abbrev pub oldPrefixPick : List ℕ → List ℕ → ℕ → List ℕ → List ℕ → Handed
-oldPrefixPick = pickCall None byOldPrefixes
+abbrev pub old_prefix_pick : List ℕ → List ℕ → ℕ → List ℕ → List ℕ → Handed
+old_prefix_pick = pick_call None by_old_prefixes

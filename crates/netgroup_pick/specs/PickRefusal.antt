@@ -2,15 +2,15 @@
 -- Assumes nothing.
 use Rattle.std.specs.Prelude.{ℕ, ◌/◌, min, List, ltb, length}
 use Rattle.peer_lists.specs.declared.Refusal.{Refusal}
-use Rattle.peer_lists.specs.Refusal.{refuseIf, or_else, listRefusal}
+use Rattle.peer_lists.specs.Refusal.{refuse_if, or_else, list_refusal}
 
 -- the outputs: no more than max, and no more than the candidates, can go out
-abbrev pub roomRefusal : ℕ → ℕ → List ℕ → List ℕ → Refusal
-roomRefusal count max picks groups =
-    or_else (refuseIf (ltb (length picks) (min max count)) 14)
-    (refuseIf (ltb (length groups) (min max count)) 14)
+abbrev pub room_refusal : ℕ → ℕ → List ℕ → List ℕ → Refusal
+room_refusal count max picks groups =
+    or_else (refuse_if (ltb (length picks) (min max count)) 14)
+    (refuse_if (ltb (length groups) (min max count)) 14)
 
--- ofMap: what is wrong with the map
-abbrev pub pickRefusal : Refusal → List ℕ → List ℕ → ℕ → List ℕ → List ℕ → Refusal
-pickRefusal ofMap bytes occupied max picks groups =
-    or_else (listRefusal bytes occupied) (or_else ofMap (roomRefusal (length bytes / 20) max picks groups))
+-- of_map: what is wrong with the map
+abbrev pub pick_refusal : Refusal → List ℕ → List ℕ → ℕ → List ℕ → List ℕ → Refusal
+pick_refusal of_map bytes occupied max picks groups =
+    or_else (list_refusal bytes occupied) (or_else of_map (room_refusal (length bytes / 20) max picks groups))

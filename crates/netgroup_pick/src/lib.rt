@@ -1,10 +1,10 @@
 // The pick of peers that are spread over groups (document 01, Groups and pick).
 ghost use Rattle.std.specs.Prelude.{◌≡◌, min};
-ghost use Rattle.peer_lists.specs.Candidates.{candidatesOf};
-ghost use Rattle.netgroup.specs.Group.{byOldPrefixes, numbering};
-ghost use Rattle.netgroup.specs.Refusal.{limitRefusal, checkRefusal};
-ghost use Rattle.netgroup_pick.specs.PickRefusal.{roomRefusal, pickRefusal};
-ghost use Rattle.netgroup_pick.specs.Pick.{handed, selectDiverse, selectUnchecked, oldPrefixPick};
+ghost use Rattle.peer_lists.specs.Candidates.{candidates_of};
+ghost use Rattle.netgroup.specs.Group.{by_old_prefixes, numbering};
+ghost use Rattle.netgroup.specs.Refusal.{limit_refusal, check_refusal};
+ghost use Rattle.netgroup_pick.specs.PickRefusal.{room_refusal, pick_refusal};
+ghost use Rattle.netgroup_pick.specs.Pick.{handed, select_diverse, select_unchecked, old_prefix_pick};
 ghost use Rattle.netgroup_pick.specs.Demand.{Demand3, Unaborted};
 
 use netgroup::Grouping;
@@ -35,7 +35,7 @@ fn smaller(a: usize, b: usize) -> usize
 
 // Why the outputs are refused: 14 where one has fewer than min(max, candidates) places.
 fn room_refusal(count: usize, max: usize, picks: &[u16], groups: &[u64]) -> Refusal
-    ensures { result ≡ roomRefusal count max picks.now groups.now }
+    ensures { result ≡ room_refusal count max picks.now groups.now }
 {
     let need = smaller(max, count);
     if picks.len() < need {
@@ -57,7 +57,7 @@ fn pick_refusal(
     picks: &[u16],
     groups: &[u64],
 ) -> Refusal
-    ensures { result ≡ pickRefusal (limitRefusal (numbering grouping map.now)) candidates.now occupied.now max picks.now groups.now }
+    ensures { result ≡ pick_refusal (limit_refusal (numbering grouping map.now)) candidates.now occupied.now max picks.now groups.now }
 {
     let listed = list_refusal(candidates, occupied);
     if let Refusal::Number(number) = listed {
@@ -81,9 +81,9 @@ pub fn select_diverse_unchecked(
     picks: &mut [u16],
     groups: &mut [u64],
 ) -> PickAnswer
-    ensures groups_after { handed result picks.new groups.new ≡ selectUnchecked (numbering grouping map.now) candidates.now occupied.now max picks.old groups.old }
-    ensures demand3 { Demand3 (numbering grouping map.now) (candidatesOf candidates.now) occupied.now max result picks.new groups.new }
-    ensures unaborted { checkRefusal (numbering grouping map.now) ≡ Refusal.None → Unaborted (numbering grouping map.now) (candidatesOf candidates.now) result }
+    ensures groups_after { handed result picks.new groups.new ≡ select_unchecked (numbering grouping map.now) candidates.now occupied.now max picks.old groups.old }
+    ensures demand3 { Demand3 (numbering grouping map.now) (candidates_of candidates.now) occupied.now max result picks.new groups.new }
+    ensures unaborted { check_refusal (numbering grouping map.now) ≡ Refusal.None → Unaborted (numbering grouping map.now) (candidates_of candidates.now) result }
 {
     let why = pick_refusal(candidates, occupied, max, grouping, map, picks, groups);
     if let Refusal::Number(number) = why {
@@ -109,9 +109,9 @@ pub fn select_diverse(
     picks: &mut [u16],
     groups: &mut [u64],
 ) -> PickAnswer
-    ensures groups_after { handed result picks.new groups.new ≡ selectDiverse (numbering grouping map.now) candidates.now occupied.now max picks.old groups.old }
-    ensures demand3 { Demand3 (numbering grouping map.now) (candidatesOf candidates.now) occupied.now max result picks.new groups.new }
-    ensures unaborted { Unaborted (numbering grouping map.now) (candidatesOf candidates.now) result }
+    ensures groups_after { handed result picks.new groups.new ≡ select_diverse (numbering grouping map.now) candidates.now occupied.now max picks.old groups.old }
+    ensures demand3 { Demand3 (numbering grouping map.now) (candidates_of candidates.now) occupied.now max result picks.new groups.new }
+    ensures unaborted { Unaborted (numbering grouping map.now) (candidates_of candidates.now) result }
 {
     let listed = list_refusal(candidates, occupied);
     if let Refusal::Number(number) = listed {
@@ -132,8 +132,8 @@ pub fn old_prefix_pick(
     picks: &mut [u16],
     groups: &mut [u64],
 ) -> PickAnswer
-    ensures groups_after { handed result picks.new groups.new ≡ oldPrefixPick candidates.now occupied.now max picks.old groups.old }
-    ensures demand3 { Demand3 byOldPrefixes (candidatesOf candidates.now) occupied.now max result picks.new groups.new }
+    ensures groups_after { handed result picks.new groups.new ≡ old_prefix_pick candidates.now occupied.now max picks.old groups.old }
+    ensures demand3 { Demand3 by_old_prefixes (candidates_of candidates.now) occupied.now max result picks.new groups.new }
 {
     let no_map = [0u8; 1];
     select_diverse_unchecked(

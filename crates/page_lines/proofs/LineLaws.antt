@@ -6,33 +6,33 @@ use Prim.Native.Nat.{ℕ, suc, ◌+◌, ◌*◌, ◌/◌, ◌≤◌, ◌<◌}
 use native.Mathlib.Omega.{arith}
 use lib.ListN.{length, drop, get_or, set, length-append}
 use lib.Seq.{sets}
-use Rattle.byte_numbers.proofs.Buffers.{sets-append-at}
-use Rattle.decimal_columns.specs.Columns.{digitByte, flushRight}
-use Rattle.decimal_columns.proofs.ColumnLaws.{length-columns}
+use Rattle.byte_numbers.proofs.Buffers.{sets-append_at}
+use Rattle.decimal_columns.specs.Columns.{digit_byte, flush_right}
+use Rattle.decimal_columns.proofs.ColumnLaws.{length_columns}
 use Rattle.group_shares.specs.Spread.{Share, share}
 use Rattle.group_shares.specs.models.Runs.{front, runs}
-use Rattle.group_shares.proofs.RunLaws.{runs-from, runs_done}
+use Rattle.group_shares.proofs.RunLaws.{runs_from, runs_done}
 use Rattle.page_lines.specs.PerCent.{tenths}
-use Rattle.page_lines.specs.Line.{perCent, line, lines}
+use Rattle.page_lines.specs.Line.{per_cent, line, lines}
 
 -- ---- how long they are
 
-pub length-per-cent : (t : ℕ) → length (perCent t) ≡ 6
-unfolding perCent
-length-per-cent t = omega (arith, length-append (flushRight 4 (t / 10)) (46 ∷ digitByte t 0 ∷ []), length-columns 4 (t / 10))
+pub length_per_cent : (t : ℕ) → length (per_cent t) ≡ 6
+unfolding per_cent
+length_per_cent t = omega (arith, length-append (flush_right 4 (t / 10)) (46 ∷ digit_byte t 0 ∷ []), length_columns 4 (t / 10))
 
 pub length-line : (all : ℕ) (s : Share) → length (line all s) ≡ 25
 unfolding line
 length-line all s =
-    let p = perCent (tenths s.count all) in
+    let p = per_cent (tenths s.count all) in
     omega (
       arith,
-      length-append (flushRight 10 s.group) (32 ∷ flushRight 6 s.count ++ (32 ∷ p ++ (10 ∷ []))),
-      length-columns 10 s.group,
-      length-append (flushRight 6 s.count) (32 ∷ p ++ (10 ∷ [])),
-      length-columns 6 s.count,
+      length-append (flush_right 10 s.group) (32 ∷ flush_right 6 s.count ++ (32 ∷ p ++ (10 ∷ []))),
+      length_columns 10 s.group,
+      length-append (flush_right 6 s.count) (32 ∷ p ++ (10 ∷ [])),
+      length_columns 6 s.count,
       length-append p (10 ∷ []),
-      length-per-cent (tenths s.count all),
+      length_per_cent (tenths s.count all),
     )
 
 pub length-lines : (all : ℕ) (ss : List Share) → length (lines all ss) ≡ 25 * length ss
@@ -42,36 +42,36 @@ length-lines all (s ∷ ss) = omega (arith, length-append (line all s) (lines al
 -- ---- one part after the other
 
 -- columns, and what stands behind them
-columns-then : (o : List ℕ) (at k j n : ℕ) (bs : List ℕ) → at + k ≡ j → sets o at (flushRight k n ++ bs) ≡ sets (sets o at (flushRight k n)) j bs
-columns-then o at k j n bs e = sets-append-at o at j (flushRight k n) bs (ap (λ (l : ℕ). at + l) (length-columns k n) ∙ e)
+columns_then : (o : List ℕ) (at k j n : ℕ) (bs : List ℕ) → at + k ≡ j → sets o at (flush_right k n ++ bs) ≡ sets (sets o at (flush_right k n)) j bs
+columns_then o at k j n bs e = sets-append_at o at j (flush_right k n) bs (ap (λ (l : ℕ). at + l) (length_columns k n) ∙ e)
 
 -- a byte, and what stands behind it
-byte-then : (o : List ℕ) (p q b : ℕ) (bs : List ℕ) → q ≡ suc p → sets o p (b ∷ bs) ≡ sets (set o p b) q bs
-byte-then o p q b bs e = ap (λ (i : ℕ). sets (set o p b) i bs) (sym e)
+byte_then : (o : List ℕ) (p q b : ℕ) (bs : List ℕ) → q ≡ suc p → sets o p (b ∷ bs) ≡ sets (set o p b) q bs
+byte_then o p q b bs e = ap (λ (i : ℕ). sets (set o p b) i bs) (sym e)
 
-pub per-cent-put : (o o₁ : List ℕ) (at t d : ℕ) → o₁ ≡ sets o at (flushRight 4 (t / 10)) → d ≡ digitByte t 0 → set (set o₁ (at + 4) 46) (at + 5) d ≡ sets o at (perCent t)
-unfolding perCent
-per-cent-put o o₁ at t d e f =
+pub per_cent-put : (o o₁ : List ℕ) (at t d : ℕ) → o₁ ≡ sets o at (flush_right 4 (t / 10)) → d ≡ digit_byte t 0 → set (set o₁ (at + 4) 46) (at + 5) d ≡ sets o at (per_cent t)
+unfolding per_cent
+per_cent-put o o₁ at t d e f =
     ap (λ (l : List ℕ). set (set l (at + 4) 46) (at + 5) d) e
-    ∙ ap (set (set (sets o at (flushRight 4 (t / 10))) (at + 4) 46) (at + 5)) f
-    ∙ sym (columns-then o at 4 (at + 4) (t / 10) (46 ∷ digitByte t 0 ∷ []) refl ∙ byte-then (sets o at (flushRight 4 (t / 10))) (at + 4) (at + 5) 46 (digitByte t 0 ∷ []) (omega arith))
+    ∙ ap (set (set (sets o at (flush_right 4 (t / 10))) (at + 4) 46) (at + 5)) f
+    ∙ sym (columns_then o at 4 (at + 4) (t / 10) (46 ∷ digit_byte t 0 ∷ []) refl ∙ byte_then (sets o at (flush_right 4 (t / 10))) (at + 4) (at + 5) 46 (digit_byte t 0 ∷ []) (omega arith))
 
 module _ (o : List ℕ) (at g n all : ℕ) where
-  pub line-put : (o₁ o₂ o₃ : List ℕ) (t : ℕ) → t ≡ tenths n all → o₁ ≡ sets o at (flushRight 10 g) → o₂ ≡ sets (set o₁ (at + 10) 32) (at + 11) (flushRight 6 n) → o₃ ≡ sets (set o₂ (at + 17) 32) (at + 18) (perCent t)
+  pub line-put : (o₁ o₂ o₃ : List ℕ) (t : ℕ) → t ≡ tenths n all → o₁ ≡ sets o at (flush_right 10 g) → o₂ ≡ sets (set o₁ (at + 10) 32) (at + 11) (flush_right 6 n) → o₃ ≡ sets (set o₂ (at + 17) 32) (at + 18) (per_cent t)
       → set o₃ (at + 24) 10 ≡ sets o at (line all (share g n))
   unfolding line
   line-put o₁ o₂ o₃ t z e f h =
-      let p = perCent (tenths n all) in
-      let third : o₃ ≡ sets (set o₂ (at + 17) 32) (at + 18) p = h ∙ ap (λ (x : ℕ). sets (set o₂ (at + 17) 32) (at + 18) (perCent x)) z in
+      let p = per_cent (tenths n all) in
+      let third : o₃ ≡ sets (set o₂ (at + 17) 32) (at + 18) p = h ∙ ap (λ (x : ℕ). sets (set o₂ (at + 17) 32) (at + 18) (per_cent x)) z in
       ap (λ (l : List ℕ). set l (at + 24) 10) third
       ∙ sym
-      (columns-then o at 10 (at + 10) g (32 ∷ flushRight 6 n ++ (32 ∷ p ++ (10 ∷ []))) refl
-      ∙ ap (λ (l : List ℕ). sets l (at + 10) (32 ∷ flushRight 6 n ++ (32 ∷ p ++ (10 ∷ [])))) (sym e)
-      ∙ byte-then o₁ (at + 10) (at + 11) 32 (flushRight 6 n ++ (32 ∷ p ++ (10 ∷ []))) (omega arith)
-      ∙ columns-then (set o₁ (at + 10) 32) (at + 11) 6 (at + 17) n (32 ∷ p ++ (10 ∷ [])) (omega arith)
+      (columns_then o at 10 (at + 10) g (32 ∷ flush_right 6 n ++ (32 ∷ p ++ (10 ∷ []))) refl
+      ∙ ap (λ (l : List ℕ). sets l (at + 10) (32 ∷ flush_right 6 n ++ (32 ∷ p ++ (10 ∷ [])))) (sym e)
+      ∙ byte_then o₁ (at + 10) (at + 11) 32 (flush_right 6 n ++ (32 ∷ p ++ (10 ∷ []))) (omega arith)
+      ∙ columns_then (set o₁ (at + 10) 32) (at + 11) 6 (at + 17) n (32 ∷ p ++ (10 ∷ [])) (omega arith)
       ∙ ap (λ (l : List ℕ). sets l (at + 17) (32 ∷ p ++ (10 ∷ []))) (sym f)
-      ∙ byte-then o₂ (at + 17) (at + 18) 32 (p ++ (10 ∷ [])) (omega arith)
-      ∙ sets-append-at (set o₂ (at + 17) 32) (at + 18) (at + 24) p (10 ∷ []) (omega (arith, length-per-cent (tenths n all))))
+      ∙ byte_then o₂ (at + 17) (at + 18) 32 (p ++ (10 ∷ [])) (omega arith)
+      ∙ sets-append_at (set o₂ (at + 17) 32) (at + 18) (at + 24) p (10 ∷ []) (omega (arith, length_per_cent (tenths n all))))
 
 -- ---- the lines of runs
 
@@ -85,12 +85,12 @@ lines_next all gs o o' i at end h e n k w =
     let rest = lines all (runs (drop (i + m) gs)) in
     ap (λ (j : ℕ). sets o' (at + 25) (lines all (runs (drop j gs)))) e
     ∙ ap (λ (x : List ℕ). sets x (at + 25) rest) (w ∙ ap (λ (j : ℕ). sets o at (line all (share g j))) k)
-    ∙ sym (sets-append-at o at (at + 25) l rest (ap (λ (j : ℕ). at + j) (length-line all (share g m))))
-    ∙ ap (λ (rs : List Share). sets o at (lines all rs)) (sym (runs-from gs i h))
+    ∙ sym (sets-append_at o at (at + 25) l rest (ap (λ (j : ℕ). at + j) (length-line all (share g m))))
+    ∙ ap (λ (rs : List Share). sets o at (lines all rs)) (sym (runs_from gs i h))
 
 -- room for the line of the next run, and for the lines behind it
-pub lines-room : (gs : List ℕ) (i : ℕ) → i < length gs → 25 + 25 * length (runs (drop (i + front (get_or gs i 0) (drop i gs)) gs)) ≡ 25 * length (runs (drop i gs))
-lines-room gs i h = omega (arith, ap length (runs-from gs i h))
+pub lines_room : (gs : List ℕ) (i : ℕ) → i < length gs → 25 + 25 * length (runs (drop (i + front (get_or gs i 0) (drop i gs)) gs)) ≡ 25 * length (runs (drop i gs))
+lines_room gs i h = omega (arith, ap length (runs_from gs i h))
 
 -- with no group left nothing will be put
 pub lines-done : (all : ℕ) (gs o : List ℕ) (i at : ℕ) → length gs ≤ i → o ≡ sets o at (lines all (runs (drop i gs)))

@@ -9,9 +9,9 @@ use native.Mathlib.Omega.{arith}
 use Rattle.page_lines.specs.PerCent.{rounded, tenths}
 
 -- all × (2 t − 1) ≤ 2000 × part < all × (2 t + 1): part is nearest to t thousandths of all, and from a half on it is the upper one
-pub tenths-nearest : (part all : ℕ) → 0 < all → (2 * (all * tenths part all) ≤ 2000 * part + all) × (2000 * part + all < 2 * (all * tenths part all) + 2 * all)
+pub tenths_nearest : (part all : ℕ) → 0 < all → (2 * (all * tenths part all) ≤ 2000 * part + all) × (2000 * part + all < 2 * (all * tenths part all) + 2 * all)
 unfolding tenths rounded
-tenths-nearest part all h = go (dec_lt (2 * r) all)
+tenths_nearest part all h = go (dec_lt (2 * r) all)
   where
     f : ℕ
     f = 1000 * part / all
@@ -30,9 +30,9 @@ tenths-nearest part all h = go (dec_lt (2 * r) all)
     go (no l) = rw (le-ltb (2 * r) all (omega arith), mul-suc all f) (omega (arith, whole, less, l), omega (arith, whole, less, l))
 
 -- at most 100.0
-pub tenths-most : (part all : ℕ) → 0 < all → part ≤ all → tenths part all ≤ 1000
-tenths-most part all h l = go (dec_lt 1000 (tenths part all))
+pub tenths_most : (part all : ℕ) → 0 < all → part ≤ all → tenths part all ≤ 1000
+tenths_most part all h l = go (dec_lt 1000 (tenths part all))
   where
     go : Dec (1000 < tenths part all) → tenths part all ≤ 1000
-    go (yes m) = let k : 1001 ≤ tenths part all = omega arith in absurd (omega (arith, (tenths-nearest part all h).0, mul-le-mul_left all k))
+    go (yes m) = let k : 1001 ≤ tenths part all = omega arith in absurd (omega (arith, (tenths_nearest part all h).0, mul-le-mul_left all k))
     go (no m) = omega arith

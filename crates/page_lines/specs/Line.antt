@@ -2,17 +2,17 @@
 -- with one decimal in 6, and a line feed: 25 bytes".
 -- Assumes nothing.
 use Rattle.std.specs.Prelude.{ℕ, ◌/◌, List, [], ◌∷◌, ◌++◌, length}
-use Rattle.decimal_columns.specs.Columns.{digitByte, flushRight}
+use Rattle.decimal_columns.specs.Columns.{digit_byte, flush_right}
 use Rattle.group_shares.specs.Spread.{Share, spread}
 use Rattle.page_lines.specs.PerCent.{tenths}
 
 -- the per cent in 6 columns: what is whole in 4, the point, 46, and the tenth
-unfoldable pub perCent : ℕ → List ℕ
-perCent t = flushRight 4 (t / 10) ++ (46 ∷ digitByte t 0 ∷ [])
+unfoldable pub per_cent : ℕ → List ℕ
+per_cent t = flush_right 4 (t / 10) ++ (46 ∷ digit_byte t 0 ∷ [])
 
 -- all: how many candidates there are; 32 is a space, 10 a line feed
 unfoldable pub line : ℕ → Share → List ℕ
-line all s = flushRight 10 s.group ++ (32 ∷ flushRight 6 s.count ++ (32 ∷ perCent (tenths s.count all) ++ (10 ∷ [])))
+line all s = flush_right 10 s.group ++ (32 ∷ flush_right 6 s.count ++ (32 ∷ per_cent (tenths s.count all) ++ (10 ∷ [])))
 
 abbrev pub lines : ℕ → List Share → List ℕ
 lines all [] = []

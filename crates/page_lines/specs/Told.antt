@@ -7,20 +7,20 @@ use Rattle.page_lines.specs.PerCent.{tenths}
 use Rattle.page_lines.specs.Line.{line}
 
 -- the group in the first 10 columns, the candidates in the 6 behind a space, the per cent in the 6 behind another, the tenth behind its point
-abbrev pub groupTold : List ℕ → ℕ
-groupTold l = shown (take 10 l)
+abbrev pub group_told : List ℕ → ℕ
+group_told l = shown (take 10 l)
 
-abbrev pub countTold : List ℕ → ℕ
-countTold l = shown (take 6 (drop 11 l))
+abbrev pub count_told : List ℕ → ℕ
+count_told l = shown (take 6 (drop 11 l))
 
-abbrev pub tenthsTold : List ℕ → ℕ
-tenthsTold l = 10 * shown (take 4 (drop 18 l)) + (get_or l 23 0 - 48)
+abbrev pub tenths_told : List ℕ → ℕ
+tenths_told l = 10 * shown (take 4 (drop 18 l)) + (get_or l 23 0 - 48)
 
 -- the line of a share tells the share and its per cent
 pub record Tells (all : ℕ) (s : Share) : Type 0 where
-  pub group : groupTold (line all s) ≡ s.group
-  pub count : countTold (line all s) ≡ s.count
-  pub perCent : tenthsTold (line all s) ≡ tenths s.count all
+  pub group : group_told (line all s) ≡ s.group
+  pub count : count_told (line all s) ≡ s.count
+  pub per_cent : tenths_told (line all s) ≡ tenths s.count all
 
 -- each of the lines does
 abbrev pub AllTell : ℕ → List Share → Type 0

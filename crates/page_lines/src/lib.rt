@@ -4,7 +4,7 @@ ghost use Rattle.std.proofs.lemmas.List.Edits.{sets};
 ghost use Rattle.group_shares.specs.Spread.{share};
 ghost use Rattle.group_shares.specs.models.Runs.{runs};
 ghost use Rattle.page_lines.specs.PerCent as percent;
-ghost use Rattle.page_lines.specs.Line.{perCent, line, lines};
+ghost use Rattle.page_lines.specs.Line.{per_cent, line, lines};
 
 use decimal_columns::{last_digit, put_columns};
 
@@ -27,7 +27,7 @@ fn tenths(part: u64, all: u64) -> u64
 // A per cent that is given in tenths, in 6 columns at a place of an output.
 fn put_per_cent(out: &mut [u8], at: usize, n: u64)
     requires { at + 6 ≤ length out.old }
-    ensures { out.new ≡ sets out.old at (perCent n) }
+    ensures { out.new ≡ sets out.old at (per_cent n) }
 {
     put_columns(out, at, 4, n / 10);
     out[at + 4] = b'.';

@@ -10,10 +10,10 @@ use lib.Dec.{eqb, ltb}
 use lib.ListN.{length}
 use Rattle.peer_lists.specs.declared.Refusal.{Refusal}
 use Rattle.peer_lists.specs.declared.Refusal.TheVariants.{None, Number}
-use Rattle.peer_lists.specs.Refusal.{refuseIf, or_else, listRefusal}
+use Rattle.peer_lists.specs.Refusal.{refuse_if, or_else, list_refusal}
 
-pub number-not-none : {A : Type 0} (n : ℕ) → Number n ≡ None → A
-number-not-none n e = let z : ◌≡◌ {A = ℕ} 0 1 = cc in absurd (omega arith)
+pub number_not_none : {A : Type 0} (n : ℕ) → Number n ≡ None → A
+number_not_none n e = let z : ◌≡◌ {A = ℕ} 0 1 = cc in absurd (omega arith)
 
 -- no refusal of two is none of either
 pub none_first : (a b : Refusal) → or_else a b ≡ None → a ≡ None
@@ -22,23 +22,23 @@ none_first (Number n) b h = h
 
 pub none-later : (a b : Refusal) → or_else a b ≡ None → b ≡ None
 none-later None b h = h
-none-later (Number n) b h = number-not-none n h
+none-later (Number n) b h = number_not_none n h
 
 -- a test that did not refuse was false
-pub none-false : (t : Bool) (n : ℕ) → refuseIf t n ≡ None → t ≡ false
-none-false true n h = number-not-none n h
+pub none-false : (t : Bool) (n : ℕ) → refuse_if t n ≡ None → t ≡ false
+none-false true n h = number_not_none n h
 none-false false n h = refl
 
-pub none_more : (a b n : ℕ) → refuseIf (ltb a b) n ≡ None → b ≤ a
+pub none_more : (a b n : ℕ) → refuse_if (ltb a b) n ≡ None → b ≤ a
 none_more a b n h = ltb-false a b (none-false (ltb a b) n h)
 
 -- a list that is not refused has no more candidates than a list may have
-pub none-listed : (bytes occupied : List ℕ) → listRefusal bytes occupied ≡ None → length bytes / 20 ≤ 4096
-none-listed bytes occupied h =
-    none_more 4096 (length bytes / 20) 12 (none_first _ _ (none-later (refuseIf (not (eqb (length bytes % 20) 0)) 13) _ h))
+pub none_listed : (bytes occupied : List ℕ) → list_refusal bytes occupied ≡ None → length bytes / 20 ≤ 4096
+none_listed bytes occupied h =
+    none_more 4096 (length bytes / 20) 12 (none_first _ _ (none-later (refuse_if (not (eqb (length bytes % 20) 0)) 13) _ h))
 
 -- nor more occupied groups
-pub none-occupied : (bytes occupied : List ℕ) → listRefusal bytes occupied ≡ None → length occupied ≤ 4096
-none-occupied bytes occupied h =
-    let later = none-later (refuseIf (not (eqb (length bytes % 20) 0)) 13) _ h in
-    none_more 4096 (length occupied) 12 (none_first _ _ (none-later (refuseIf (ltb 4096 (length bytes / 20)) 12) _ later))
+pub none_occupied : (bytes occupied : List ℕ) → list_refusal bytes occupied ≡ None → length occupied ≤ 4096
+none_occupied bytes occupied h =
+    let later = none-later (refuse_if (not (eqb (length bytes % 20) 0)) 13) _ h in
+    none_more 4096 (length occupied) 12 (none_first _ _ (none-later (refuse_if (ltb 4096 (length bytes / 20)) 12) _ later))

@@ -9,10 +9,10 @@ cut zero bytes = []
 cut (suc n) bytes = take 20 bytes ∷ cut n (drop 20 bytes)
 
 -- all of them
-abbrev pub candidatesOf : List ℕ → List (List ℕ)
-candidatesOf bytes = cut (length bytes / 20) bytes
+abbrev pub candidates_of : List ℕ → List (List ℕ)
+candidates_of bytes = cut (length bytes / 20) bytes
 
 -- none of them is what 13 refuses
-abbrev pub allValid : List (List ℕ) → Bool
-allValid [] = true
-allValid (c ∷ cs) = valid c && allValid cs
+abbrev pub all_valid : List (List ℕ) → Bool
+all_valid [] = true
+all_valid (c ∷ cs) = valid c && all_valid cs

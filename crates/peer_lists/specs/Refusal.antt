@@ -5,11 +5,11 @@ use Rattle.std.specs.Prelude.{ℕ, ◌/◌, ◌%◌, Bool, true, false, not, Lis
 use Rattle.peer_lists.specs.declared.Refusal.{Refusal}
 use Rattle.peer_lists.specs.declared.Refusal.TheVariants.{None, Number}
 use Rattle.candidate_bytes.specs.Candidate.{valid}
-use Rattle.peer_lists.specs.Candidates.{candidatesOf, allValid}
+use Rattle.peer_lists.specs.Candidates.{candidates_of, all_valid}
 
-abbrev pub refuseIf : Bool → ℕ → Refusal
-refuseIf true n = Number n
-refuseIf false n = None
+abbrev pub refuse_if : Bool → ℕ → Refusal
+refuse_if true n = Number n
+refuse_if false n = None
 
 -- the earlier reason, and the later where there is no earlier
 abbrev pub or_else : Refusal → Refusal → Refusal
@@ -17,17 +17,17 @@ or_else None later = later
 or_else (Number n) later = Number n
 
 -- 13: what is given as a candidate is none
-abbrev pub candidateRefusal : List ℕ → Refusal
-candidateRefusal c = refuseIf (not (valid c)) 13
+abbrev pub candidate_refusal : List ℕ → Refusal
+candidate_refusal c = refuse_if (not (valid c)) 13
 
 -- 12: a list of more than 4,096 candidates, or groups
-abbrev pub tooMany : ℕ → Refusal
-tooMany count = refuseIf (ltb 4096 count) 12
+abbrev pub too_many : ℕ → Refusal
+too_many count = refuse_if (ltb 4096 count) 12
 
 -- the candidates' bytes and the occupied groups: 13 for bytes that do not make whole candidates, 12 for either list, 13 for a candidate
 -- that is none
-abbrev pub listRefusal : List ℕ → List ℕ → Refusal
-listRefusal bytes occupied =
-    or_else (refuseIf (not (eqb (length bytes % 20) 0)) 13)
-    (or_else (tooMany (length bytes / 20))
-    (or_else (tooMany (length occupied)) (refuseIf (not (allValid (candidatesOf bytes))) 13)))
+abbrev pub list_refusal : List ℕ → List ℕ → Refusal
+list_refusal bytes occupied =
+    or_else (refuse_if (not (eqb (length bytes % 20) 0)) 13)
+    (or_else (too_many (length bytes / 20))
+    (or_else (too_many (length occupied)) (refuse_if (not (all_valid (candidates_of bytes))) 13)))

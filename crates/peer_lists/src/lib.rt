@@ -1,8 +1,8 @@
 // Lists of candidates: the one at a place, whether each is one, and why a list is refused (document 01, Groups and pick; What a call
 // hands back). What the group calls and the pick share.
 ghost use Rattle.std.specs.Prelude.{◌≡◌, [], ◌+◌, ◌/◌, ◌≤◌, ◌<◌, length, take, drop, get_or};
-ghost use Rattle.peer_lists.specs.Candidates.{candidatesOf, allValid};
-ghost use Rattle.peer_lists.specs.Refusal.{listRefusal};
+ghost use Rattle.peer_lists.specs.Candidates.{candidates_of, all_valid};
+ghost use Rattle.peer_lists.specs.Refusal.{list_refusal};
 
 use candidate_bytes::is_candidate;
 
@@ -21,7 +21,7 @@ pub enum Refusal {
 // The candidate at a place.
 pub fn candidate_at(candidates: &[u8], i: usize) -> &[u8]
     requires { i < length candidates.now / 20 }
-    ensures { (result.now ≡ get_or (candidatesOf candidates.now) i []) × (length result.now ≡ 20) }
+    ensures { (result.now ≡ get_or (candidates_of candidates.now) i []) × (length result.now ≡ 20) }
 {
     &candidates[20 * i..20 * i + 20]
 }
@@ -29,7 +29,7 @@ pub fn candidate_at(candidates: &[u8], i: usize) -> &[u8]
 // Whether each of the four from a place on is one.
 fn four_candidates(candidates: &[u8], i: usize) -> bool
     requires { i + 4 ≤ length candidates.now / 20 }
-    ensures { result ≡ allValid (take 4 (drop i (candidatesOf candidates.now))) }
+    ensures { result ≡ all_valid (take 4 (drop i (candidates_of candidates.now))) }
 {
     if !is_candidate(candidate_at(candidates, i)) {
         return false;
@@ -46,7 +46,7 @@ fn four_candidates(candidates: &[u8], i: usize) -> bool
 // Whether each from a place on is one, one by one.
 fn candidates_from(candidates: &[u8], from: usize) -> bool
     requires { from ≤ length candidates.now / 20 }
-    ensures { result ≡ allValid (drop from (candidatesOf candidates.now)) }
+    ensures { result ≡ all_valid (drop from (candidates_of candidates.now)) }
 {
     let mut i = from;
     while i < candidates.len() / 20 {
@@ -61,7 +61,7 @@ fn candidates_from(candidates: &[u8], from: usize) -> bool
 // Whether each 20 bytes are a candidate. Four are looked at in each turn: a pick looks at every candidate before it takes the first, so
 // that with a long list this is most of its time.
 pub fn all_candidates(candidates: &[u8]) -> bool
-    ensures { result ≡ allValid (candidatesOf candidates.now) }
+    ensures { result ≡ all_valid (candidates_of candidates.now) }
 {
     let n = candidates.len() / 20;
     let mut i: usize = 0;
@@ -78,7 +78,7 @@ pub fn all_candidates(candidates: &[u8]) -> bool
 
 // Why a list of candidates is refused, with the occupied groups: 13 for the length, 12, 13.
 pub fn list_refusal(candidates: &[u8], occupied: &[u64]) -> Refusal
-    ensures { result ≡ listRefusal candidates.now occupied.now }
+    ensures { result ≡ list_refusal candidates.now occupied.now }
 {
     if candidates.len() % 20 != 0 {
         return Refusal::Number(13);

@@ -10,11 +10,11 @@ use lib.Dec.{eqb, ltb}
 use lib.ListN.{length, get_or}
 use Rattle.pick_passes.specs.models.Places.{tally, times, Places}
 
-one-self : (p : ℕ) → tally (eqb p p) ≡ 1
-one-self p = rw (eq-eqb p p refl)
+one_self : (p : ℕ) → tally (eqb p p) ≡ 1
+one_self p = rw (eq-eqb p p refl)
 
-one-other : (p q : ℕ) → (p ≡ q → ⊥) → tally (eqb p q) ≡ 0
-one-other p q h = rw (ne_eqb p q h)
+one_other : (p q : ℕ) → (p ≡ q → ⊥) → tally (eqb p q) ≡ 0
+one_other p q h = rw (ne_eqb p q h)
 
 times-append : (p : ℕ) (ps qs : List ℕ) → times p (ps ++ qs) ≡ times p ps + times p qs
 times-append p [] qs = omega arith
@@ -44,42 +44,42 @@ under-suc : (n : ℕ) (ps : List ℕ) → under (suc n) ps ≡ under n ps + time
 under-suc n [] = refl
 under-suc n (p ∷ ps) = omega (arith, under_one n p, under-suc n ps)
 
-under-le : (n : ℕ) (ps : List ℕ) → ((p : ℕ) → times p ps ≤ 1) → under n ps ≤ n
-under-le zero ps h = omega (arith, under-zero ps)
-under-le (suc n) ps h = omega (arith, under-suc n ps, under-le n ps h, h n)
+under_le : (n : ℕ) (ps : List ℕ) → ((p : ℕ) → times p ps ≤ 1) → under n ps ≤ n
+under_le zero ps h = omega (arith, under-zero ps)
+under_le (suc n) ps h = omega (arith, under-suc n ps, under_le n ps h, h n)
 
 all_under : (n : ℕ) (ps : List ℕ) → ((p : ℕ) → n ≤ p → times p ps ≡ 0) → under n ps ≡ length ps
 all_under n [] h = refl
 all_under n (q ∷ ps) h = go (dec_le n q) (all_under n ps (λ p l. omega (arith, h p l)))
   where
     go : Dec (n ≤ q) → under n ps ≡ length ps → under n (q ∷ ps) ≡ length (q ∷ ps)
-    go (yes l) e = absurd (omega (arith, h q l, one-self q))
+    go (yes l) e = absurd (omega (arith, h q l, one_self q))
     go (no l) e = rw (lt-ltb q n (omega arith)) (omega arith)
 
 -- there are at most n
 pub places-few : (n : ℕ) (ps : List ℕ) → Places n ps → length ps ≤ n
-places-few n ps w = omega (arith, all_under n ps w.below, under-le n ps w.once)
+places-few n ps w = omega (arith, all_under n ps w.below, under_le n ps w.once)
 
-pub places-none : (n : ℕ) → Places n []
-places-none n = record { once = λ p. omega arith; below = λ p h. refl }
+pub places_none : (n : ℕ) → Places n []
+places_none n = record { once = λ p. omega arith; below = λ p h. refl }
 
-pub places-more : (n m : ℕ) (ps : List ℕ) → n ≤ m → Places n ps → Places m ps
-places-more n m ps h w = record { once = w.once; below = λ p l. w.below p (omega arith) }
+pub places_more : (n m : ℕ) (ps : List ℕ) → n ≤ m → Places n ps → Places m ps
+places_more n m ps h w = record { once = w.once; below = λ p l. w.below p (omega arith) }
 
 -- a place that the list lacks, put behind
-pub places-snoc : (n : ℕ) (ps : List ℕ) (i : ℕ) → i < n → times i ps ≡ 0 → Places n ps → Places n (ps ++ (i ∷ []))
-places-snoc n ps i h z w = record { once = λ p. one p (ℕ_discrete p i); below = λ p l. none p l }
+pub places_snoc : (n : ℕ) (ps : List ℕ) (i : ℕ) → i < n → times i ps ≡ 0 → Places n ps → Places n (ps ++ (i ∷ []))
+places_snoc n ps i h z w = record { once = λ p. one p (ℕ_discrete p i); below = λ p l. none p l }
   where
     one : (p : ℕ) → Dec (p ≡ i) → times p (ps ++ (i ∷ [])) ≤ 1
-    one p (yes e) = rw e (omega (arith, times-append i ps (i ∷ []), one-self i))
-    one p (no e) = omega (arith, times-append p ps (i ∷ []), one-other p i e, w.once p)
+    one p (yes e) = rw e (omega (arith, times-append i ps (i ∷ []), one_self i))
+    one p (no e) = omega (arith, times-append p ps (i ∷ []), one_other p i e, w.once p)
 
     none : (p : ℕ) → n ≤ p → times p (ps ++ (i ∷ [])) ≡ 0
-    none p l = omega (arith, times-append p ps (i ∷ []), one-other p i (omega arith), w.below p l)
+    none p l = omega (arith, times-append p ps (i ∷ []), one_other p i (omega arith), w.below p l)
 
 counted : (ps : List ℕ) (j : ℕ) → j < length ps → 1 ≤ times (get_or ps j 0) ps
 counted [] j h = absurd (omega arith)
-counted (p ∷ ps) zero h = omega (arith, one-self p)
+counted (p ∷ ps) zero h = omega (arith, one_self p)
 counted (p ∷ ps) (suc j) h = omega (arith, counted ps j (omega arith))
 
 -- each is below n

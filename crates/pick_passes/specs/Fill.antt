@@ -10,14 +10,14 @@ picked all [] c = false
 picked all (p ∷ ps) c = same (get_or all p []) c || picked all ps c
 
 -- the candidate c at a place joins the picks ps where it equals none of them
-abbrev pub pickUnequal : List (List ℕ) → ℕ → List ℕ → List ℕ → List ℕ
-pickUnequal all place c ps = cond (picked all ps c) ps (ps ++ (place ∷ []))
+abbrev pub pick_unequal : List (List ℕ) → ℕ → List ℕ → List ℕ → List ℕ
+pick_unequal all place c ps = cond (picked all ps c) ps (ps ++ (place ∷ []))
 
 -- cs are the candidates from a place on
-abbrev pub fillFrom : List (List ℕ) → ℕ → List ℕ → ℕ → List (List ℕ) → List ℕ
-fillFrom all max ps place [] = ps
-fillFrom all max ps place (c ∷ cs) = cond (ltb (length ps) max) (fillFrom all max (pickUnequal all place c ps) (place + 1) cs) ps
+abbrev pub fill_from : List (List ℕ) → ℕ → List ℕ → ℕ → List (List ℕ) → List ℕ
+fill_from all max ps place [] = ps
+fill_from all max ps place (c ∷ cs) = cond (ltb (length ps) max) (fill_from all max (pick_unequal all place c ps) (place + 1) cs) ps
 
 -- the places of all picks, those of the first pass in front
 abbrev pub fill : List (List ℕ) → ℕ → List ℕ → List ℕ
-fill all max ps = fillFrom all max ps 0 all
+fill all max ps = fill_from all max ps 0 all

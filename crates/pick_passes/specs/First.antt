@@ -14,20 +14,20 @@ abbrev pub begin : Pass
 begin = record { places = []; groups = []; examined = 0 }
 
 -- the next candidate, of group g, is examined and taken
-abbrev pub takeNext : ℕ → Pass → Pass
-takeNext g s = record { places = s.places ++ (s.examined ∷ []); groups = s.groups ++ (g ∷ []); examined = s.examined + 1 }
+abbrev pub take_next : ℕ → Pass → Pass
+take_next g s = record { places = s.places ++ (s.examined ∷ []); groups = s.groups ++ (g ∷ []); examined = s.examined + 1 }
 
 -- it is examined and passed over
-abbrev pub passOver : Pass → Pass
-passOver s = record { places = s.places; groups = s.groups; examined = s.examined + 1 }
+abbrev pub pass_over : Pass → Pass
+pass_over s = record { places = s.places; groups = s.groups; examined = s.examined + 1 }
 
 abbrev pub examine : List ℕ → ℕ → Pass → Pass
-examine occupied g s = cond (free occupied s.groups g) (takeNext g s) (passOver s)
+examine occupied g s = cond (free occupied s.groups g) (take_next g s) (pass_over s)
 
 -- until max are taken: a full pass examines no more; gs are the groups of the candidates that are left
-abbrev pub passFrom : List ℕ → ℕ → Pass → List ℕ → Pass
-passFrom occupied max s [] = s
-passFrom occupied max s (g ∷ gs) = cond (ltb (length s.groups) max) (passFrom occupied max (examine occupied g s) gs) s
+abbrev pub pass_from : List ℕ → ℕ → Pass → List ℕ → Pass
+pass_from occupied max s [] = s
+pass_from occupied max s (g ∷ gs) = cond (ltb (length s.groups) max) (pass_from occupied max (examine occupied g s) gs) s
 
-abbrev pub firstPass : List ℕ → ℕ → List ℕ → Pass
-firstPass occupied max gs = passFrom occupied max begin gs
+abbrev pub first_pass : List ℕ → ℕ → List ℕ → Pass
+first_pass occupied max gs = pass_from occupied max begin gs

@@ -1,6 +1,6 @@
 // The two passes of the pick (document 01, Groups and pick): the first over the candidates' groups, the second over the candidates.
 ghost use Rattle.std.specs.Prelude.{◌≡◌, [], ◌+◌, ◌/◌, ◌≤◌, ◌<◌, min, length, take, get_or};
-ghost use Rattle.peer_lists.specs.Candidates.{candidatesOf};
+ghost use Rattle.peer_lists.specs.Candidates.{candidates_of};
 ghost use Rattle.free_groups.specs.models.Marks.{Linked};
 ghost use Rattle.netgroup.specs.Group.{numbering};
 ghost use Rattle.pick_passes.specs.Fill.{picked, fill};
@@ -22,7 +22,7 @@ pub struct First {
 // Whether the candidate at a place equals one of the picks.
 fn is_picked(candidates: &[u8], i: usize, picks: &[u16]) -> bool
     requires { (i < length candidates.now / 20) × (Places (length candidates.now / 20) picks.now) }
-    ensures { result ≡ picked (candidatesOf candidates.now) picks.now (get_or (candidatesOf candidates.now) i []) }
+    ensures { result ≡ picked (candidates_of candidates.now) picks.now (get_or (candidates_of candidates.now) i []) }
 {
     let mut j: usize = 0;
     while j < picks.len() {
@@ -48,7 +48,7 @@ fn first_pass(
     groups: &mut [u64],
 ) -> First
     requires { (Ready (numbering grouping map.now) candidates.now occupied.now max picks.old groups.old) × (Linked occupied.now marks.old links.old) × (length occupied.now + 4096 ≤ length links.old) }
-    ensures { PassedFirst (numbering grouping map.now) (candidatesOf candidates.now) occupied.now max picks.old groups.old result picks.new groups.new }
+    ensures { PassedFirst (numbering grouping map.now) (candidates_of candidates.now) occupied.now max picks.old groups.old result picks.new groups.new }
 {
     let n = candidates.len() / 20;
     let mut taken: usize = 0;
@@ -87,7 +87,7 @@ pub fn marked_pass(
     groups: &mut [u64],
 ) -> First
     requires { Ready (numbering grouping map.now) candidates.now occupied.now max picks.old groups.old }
-    ensures { PassedFirst (numbering grouping map.now) (candidatesOf candidates.now) occupied.now max picks.old groups.old result picks.new groups.new }
+    ensures { PassedFirst (numbering grouping map.now) (candidates_of candidates.now) occupied.now max picks.old groups.old result picks.new groups.new }
 {
     let mut marks = free_groups::no_marks();
     let mut links = free_groups::no_links();
@@ -100,7 +100,7 @@ pub fn marked_pass(
 // The second pass: in ranked order, the candidates unequal to every pick, until max. Returns how many picks there are.
 pub fn fill_rest(candidates: &[u8], max: usize, taken: usize, picks: &mut [u16]) -> usize
     requires { (length candidates.now / 20 ≤ 4096) × (min max (length candidates.now / 20) ≤ length picks.old) × (taken ≤ length picks.old) × (Places (length candidates.now / 20) (take taken picks.old)) }
-    ensures { Filled (fill (candidatesOf candidates.now) max (take taken picks.old)) picks.old result picks.new }
+    ensures { Filled (fill (candidates_of candidates.now) max (take taken picks.old)) picks.old result picks.new }
 {
     let n = candidates.len() / 20;
     let mut total = taken;

@@ -14,12 +14,12 @@ abbrev pub narrowed : Piece → Piece → ℕ → Change
 narrowed p q n = record { was = record { prefix = q.prefix; length = q.length; number = p.number }; new = n }
 
 -- What a piece of the old list and one of the new share where they overlap: "the longer prefix is the piece".
-unfoldable pub sharedIf : Bool → Piece → Piece → Change
-sharedIf true p q = narrowed p q q.number
-sharedIf false p q = narrowed p p q.number
+unfoldable pub shared_if : Bool → Piece → Piece → Change
+shared_if true p q = narrowed p q q.number
+shared_if false p q = narrowed p p q.number
 
 abbrev pub shared : Piece → Piece → Change
-shared p q = sharedIf (ltb p.length q.length) p q
+shared p q = shared_if (ltb p.length q.length) p q
 
 -- Whether two pieces overlap: each begins before the other ends.
 abbrev pub overlap : ℕ → Piece → Piece → Bool

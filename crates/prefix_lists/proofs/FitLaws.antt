@@ -15,8 +15,8 @@ use Rattle.prefix_records.specs.declared.Address.{Address}
 use Rattle.prefix_records.specs.models.Cursor.{value_of, Behind}
 use Rattle.prefix_records.specs.Tiling.{first_of, past_of}
 use Rattle.prefix_records.proofs.TilingLaws.{some, and-false}
-use Rattle.prefix_lists.specs.List.{addressAt, length_at, piece_at, zerosAt, earliest, fits}
-use Rattle.prefix_lists.specs.models.End.{Ends, mayBegin}
+use Rattle.prefix_lists.specs.List.{address_at, length_at, piece_at, zeros_at, earliest, fits}
+use Rattle.prefix_lists.specs.models.End.{Ends, may_begin}
 use Rattle.prefix_lists.proofs.BigLaws.{big-below}
 
 -- a list of bytes
@@ -27,18 +27,18 @@ Bytes l = (i : ℕ) → get_or l i 0 < 256
 
 -- the record's address is the first of its prefix
 abbrev pub Clean : List ℕ → ℕ → Type 0
-Clean l i = addressAt l i % 2 ^ (128 - length_at l i) ≡ 0
+Clean l i = address_at l i % 2 ^ (128 - length_at l i) ≡ 0
 
 -- an address of 16 bytes is below 2 ^ 128
-pub address_below : (l : List ℕ) (i : ℕ) → Bytes l → addressAt l i < 2 ^ 128
+pub address_below : (l : List ℕ) (i : ℕ) → Bytes l → address_at l i < 2 ^ 128
 address_below l i h = big-below 16 l (24 * i) h
 
 -- a multiple of p, and the next one
 whole : (x p : ℕ) → x % p ≡ 0 → x / p * p ≡ x
 whole x p z = omega (arith, div-add-mod' x p, z)
 
-whole-past : (x p : ℕ) → x % p ≡ 0 → (x / p + 1) * p ≡ x + p
-whole-past x p z = omega (arith, whole x p z, add-mul (x / p) 1 p)
+whole_past : (x p : ℕ) → x % p ≡ 0 → (x / p + 1) * p ≡ x + p
+whole_past x p z = omega (arith, whole x p z, add-mul (x / p) 1 p)
 
 -- over t for 2 ^ 128, a multiple of the prefix's addresses
 whole_top : (t m p x : ℕ) → t ≡ m * p → x < t → x % p ≡ 0 → x + p ≤ t
@@ -49,29 +49,29 @@ whole_top t m p x e h z =
     omega (arith, k, suc-mul (x / p) p, s, e)
 
 -- the first address of its prefix, and the one behind it
-pub clean-first : (l : List ℕ) (i : ℕ) → Clean l i → first_of 128 (piece_at l i) ≡ addressAt l i
+pub clean-first : (l : List ℕ) (i : ℕ) → Clean l i → first_of 128 (piece_at l i) ≡ address_at l i
 unfolding piece_at
-clean-first l i z = whole (addressAt l i) (2 ^ (128 - length_at l i)) z
+clean-first l i z = whole (address_at l i) (2 ^ (128 - length_at l i)) z
 
-pub clean-past : (l : List ℕ) (i : ℕ) → Clean l i → past_of 128 (piece_at l i) ≡ addressAt l i + 2 ^ (128 - length_at l i)
+pub clean_past : (l : List ℕ) (i : ℕ) → Clean l i → past_of 128 (piece_at l i) ≡ address_at l i + 2 ^ (128 - length_at l i)
 unfolding piece_at
-clean-past l i z = whole-past (addressAt l i) (2 ^ (128 - length_at l i)) z
+clean_past l i z = whole_past (address_at l i) (2 ^ (128 - length_at l i)) z
 
 -- a power of two is so many of a lesser one
-split-power : (n k : ℕ) → k ≤ n → 2 ^ n ≡ 2 ^ (n - k) * 2 ^ k
-split-power n k h =
+split_power : (n k : ℕ) → k ≤ n → 2 ^ n ≡ 2 ^ (n - k) * 2 ^ k
+split_power n k h =
     let e : n ≡ (n - k) + k = omega arith in
     ap (λ (m : ℕ). 2 ^ m) e ∙ pow.pow-add 2 (n - k) k
 
 -- it ends with the last address or before
-clean_end : (l : List ℕ) (i : ℕ) → Bytes l → Clean l i → addressAt l i + 2 ^ (128 - length_at l i) ≤ 2 ^ 128
+clean_end : (l : List ℕ) (i : ℕ) → Bytes l → Clean l i → address_at l i + 2 ^ (128 - length_at l i) ≤ 2 ^ 128
 clean_end l i b z =
-    whole_top (2 ^ 128) (2 ^ (128 - (128 - length_at l i))) (2 ^ (128 - length_at l i)) (addressAt l i)
-    (split-power 128 (128 - length_at l i) (omega arith)) (address_below l i b) z
+    whole_top (2 ^ 128) (2 ^ (128 - (128 - length_at l i))) (2 ^ (128 - length_at l i)) (address_at l i)
+    (split_power 128 (128 - length_at l i) (omega arith)) (address_below l i b) z
 
 -- so does its prefix
-pub clean-inside : (l : List ℕ) (i : ℕ) → Bytes l → Clean l i → past_of 128 (piece_at l i) ≤ 2 ^ 128
-clean-inside l i b z = subst (λ (n : ℕ). n ≤ 2 ^ 128) (sym (clean-past l i z)) (clean_end l i b z)
+pub clean_inside : (l : List ℕ) (i : ℕ) → Bytes l → Clean l i → past_of 128 (piece_at l i) ≤ 2 ^ 128
+clean_inside l i b z = subst (λ (n : ℕ). n ≤ 2 ^ 128) (sym (clean_past l i z)) (clean_end l i b z)
 
 -- ---- the address behind a record, as code holds it
 
@@ -86,21 +86,21 @@ behind-ends t s r h f g = go (ltb s t) refl
         g k ∙ sym (ap (λ (n : ℕ). n % t) k ∙ mod_self t)
 
 -- before the first record
-pub ends-start : (l : List ℕ) → Ends (earliest l 0) (record { high = 0; low = 0 })
-ends-start l = (refl, zero-le)
+pub ends_start : (l : List ℕ) → Ends (earliest l 0) (record { high = 0; low = 0 })
+ends_start l = (refl, zero-le)
 
 -- behind a record
-pub ends_next : (l : List ℕ) (i : ℕ) (a r : Address) → Bytes l → Clean l i → value_of a ≡ addressAt l i → Behind a (length_at l i) r
+pub ends_next : (l : List ℕ) (i : ℕ) (a r : Address) → Bytes l → Clean l i → value_of a ≡ address_at l i → Behind a (length_at l i) r
     → Ends (earliest l (i + 1)) r
 ends_next l i a r b z e h =
     let p = ap (λ (n : ℕ). n + 2 ^ (128 - length_at l i)) e in
-    let k : Ends (addressAt l i + 2 ^ (128 - length_at l i)) r = (
-      behind-ends (2 ^ 128) (addressAt l i + 2 ^ (128 - length_at l i)) (value_of r) (clean_end l i b z)
+    let k : Ends (address_at l i + 2 ^ (128 - length_at l i)) r = (
+      behind-ends (2 ^ 128) (address_at l i + 2 ^ (128 - length_at l i)) (value_of r) (clean_end l i b z)
           (λ s. h.0 (subst (λ (n : ℕ). n < 2 ^ 128) (sym p) s) ∙ p)
           (λ s. h.2 (p ∙ s)),
       clean_end l i b z,
     ) in
-    let q : Ends (earliest l (suc i)) r = subst (λ (n : ℕ). Ends n r) (sym (clean-past l i z)) k in
+    let q : Ends (earliest l (suc i)) r = subst (λ (n : ℕ). Ends n r) (sym (clean_past l i z)) k in
     subst (λ (n : ℕ). Ends (earliest l n) r) (sym (add-one i)) q
 
 -- ---- where a record may begin
@@ -119,32 +119,32 @@ begin-later t e v x m h k z = go (ltb e t) refl
         rw (eq-eqb v 0 y, lt-leb e x (omega (arith, s, k)))
 
 -- what code tests is what is asked
-pub may-begin-at : (l : List ℕ) (i : ℕ) (a : Address) (x : ℕ) → Ends (earliest l i) a → x < 2 ^ 128 → mayBegin i (value_of a) x ≡ leb (earliest l i) x
-may-begin-at l zero a x h k = sym (le-leb 0 x (omega arith))
-may-begin-at l (suc i) a x h k =
+pub may_begin_at : (l : List ℕ) (i : ℕ) (a : Address) (x : ℕ) → Ends (earliest l i) a → x < 2 ^ 128 → may_begin i (value_of a) x ≡ leb (earliest l i) x
+may_begin_at l zero a x h k = sym (le-leb 0 x (omega arith))
+may_begin_at l (suc i) a x h k =
     ap (λ (b : Bool). b || (not (eqb (value_of a) 0) && leb (value_of a) x)) (ne_eqb (suc i) 0 (λ e. omega (arith, e)))
     ∙ begin-later (2 ^ 128) (earliest l (suc i)) (value_of a) x h.0 h.1 k (omega (arith, some 128 (piece_at l i)))
 
 -- ---- the tests, one after the other
 
 -- a prefix longer than the width
-pub fits-long : (w : ℕ) (l : List ℕ) (i : ℕ) → w < length_at l i → false ≡ fits w l i
+pub fits_long : (w : ℕ) (l : List ℕ) (i : ℕ) → w < length_at l i → false ≡ fits w l i
 unfolding fits
-fits-long w l i h = rw (lt-leb (length_at l i) w h)
+fits_long w l i h = rw (lt-leb (length_at l i) w h)
 
 -- no zeros behind the length
-pub fits-dirty : (w : ℕ) (l : List ℕ) (i : ℕ) → zerosAt l i ≡ false → false ≡ fits w l i
+pub fits_dirty : (w : ℕ) (l : List ℕ) (i : ℕ) → zeros_at l i ≡ false → false ≡ fits w l i
 unfolding fits
-fits-dirty w l i h = rw (h, and-false (leb (length_at l i) w))
+fits_dirty w l i h = rw (h, and-false (leb (length_at l i) w))
 
 -- ones past the prefix
-pub fits_ones : (w : ℕ) (l : List ℕ) (i : ℕ) → eqb (addressAt l i % 2 ^ (128 - length_at l i)) 0 ≡ false → false ≡ fits w l i
+pub fits_ones : (w : ℕ) (l : List ℕ) (i : ℕ) → eqb (address_at l i % 2 ^ (128 - length_at l i)) 0 ≡ false → false ≡ fits w l i
 unfolding fits
-fits_ones w l i h = rw (h, and-false (leb (length_at l i) w && zerosAt l i))
+fits_ones w l i h = rw (h, and-false (leb (length_at l i) w && zeros_at l i))
 
 -- none of these: where it begins decides
-pub fits_last : (w : ℕ) (l : List ℕ) (i : ℕ) → length_at l i ≤ w → zerosAt l i ≡ true → eqb (addressAt l i % 2 ^ (128 - length_at l i)) 0 ≡ true
-    → leb (earliest l i) (addressAt l i) ≡ fits w l i
+pub fits_last : (w : ℕ) (l : List ℕ) (i : ℕ) → length_at l i ≤ w → zeros_at l i ≡ true → eqb (address_at l i % 2 ^ (128 - length_at l i)) 0 ≡ true
+    → leb (earliest l i) (address_at l i) ≡ fits w l i
 unfolding fits
 fits_last w l i h z e = rw (le-leb (length_at l i) w h, z, e)
 
@@ -156,9 +156,9 @@ and-true false b h = absurd (false≢true h)
 -- what a record that fits has
 pub record Fitting (w : ℕ) (l : List ℕ) (i : ℕ) : Type 0 where
   pub short : length_at l i ≤ w
-  pub zeros : zerosAt l i ≡ true
+  pub zeros : zeros_at l i ≡ true
   pub clean : Clean l i
-  pub behind : earliest l i ≤ addressAt l i
+  pub behind : earliest l i ≤ address_at l i
 
 -- it has them all
 pub fitting : (w : ℕ) (l : List ℕ) (i : ℕ) → fits w l i ≡ true → Fitting w l i
@@ -167,4 +167,4 @@ fitting w l i h =
     let a = and-true _ _ h in
     let b = and-true _ _ a.0 in
     let d = and-true _ _ b.0 in
-    record { short = leb-true (length_at l i) w d.0; zeros = d.1; clean = eqb-true (addressAt l i % 2 ^ (128 - length_at l i)) 0 b.1; behind = leb-true (earliest l i) (addressAt l i) a.1 }
+    record { short = leb-true (length_at l i) w d.0; zeros = d.1; clean = eqb-true (address_at l i % 2 ^ (128 - length_at l i)) 0 b.1; behind = leb-true (earliest l i) (address_at l i) a.1 }

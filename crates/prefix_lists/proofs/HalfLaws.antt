@@ -19,8 +19,8 @@ same-zero x y f g = go (eqb x 0) refl
     go false e = sym (ne_eqb y 0 λ h. eqb-false x 0 e (g h))
 
 -- two comparisons that agree
-same-most : (x y u v : ℕ) → (x ≤ y → u ≤ v) → (u ≤ v → x ≤ y) → leb x y ≡ leb u v
-same-most x y u v f g = go (leb x y) refl (leb u v) refl
+same_most : (x y u v : ℕ) → (x ≤ y → u ≤ v) → (u ≤ v → x ≤ y) → leb x y ≡ leb u v
+same_most x y u v f g = go (leb x y) refl (leb u v) refl
   where
     go : (s : Bool) → leb x y ≡ s → (t : Bool) → leb u v ≡ t → s ≡ t
     go true e true k = refl
@@ -31,27 +31,27 @@ same-most x y u v f g = go (leb x y) refl (leb u v) refl
 -- ---- compared
 
 -- over b for 2 ^ 64: the upper halves decide where they differ
-upper-less : (b h l k m : ℕ) → l < b → h < k → h * b + l < k * b + m
-upper-less b h l k m r d = let t = mul-le-mul_right b d in omega (arith, t, suc-mul h b)
+upper_less : (b h l k m : ℕ) → l < b → h < k → h * b + l < k * b + m
+upper_less b h l k m r d = let t = mul-le-mul_right b d in omega (arith, t, suc-mul h b)
 
 module _ (a b : Address) where
   -- the upper half less
-  pub most-above : a.low < 2 ^ 64 → a.high < b.high → ltb a.high b.high ≡ leb (value_of a) (value_of b)
-  most-above r d =
+  pub most_above : a.low < 2 ^ 64 → a.high < b.high → ltb a.high b.high ≡ leb (value_of a) (value_of b)
+  most_above r d =
       lt-ltb a.high b.high d
-      ∙ sym (le-leb (value_of a) (value_of b) (let t = upper-less (2 ^ 64) a.high a.low b.high b.low r d in omega (arith, t)))
+      ∙ sym (le-leb (value_of a) (value_of b) (let t = upper_less (2 ^ 64) a.high a.low b.high b.low r d in omega (arith, t)))
 
   -- the upper halves the same
-  pub most-level : a.high ≡ b.high → leb a.low b.low ≡ leb (value_of a) (value_of b)
-  most-level e =
+  pub most_level : a.high ≡ b.high → leb a.low b.low ≡ leb (value_of a) (value_of b)
+  most_level e =
       let p = ap (λ (n : ℕ). n * 2 ^ 64) e in
-      same-most a.low b.low (value_of a) (value_of b) (λ h. omega (arith, p, h)) (λ h. omega (arith, p, h))
+      same_most a.low b.low (value_of a) (value_of b) (λ h. omega (arith, p, h)) (λ h. omega (arith, p, h))
 
   -- the upper half greater
   pub most-under : b.low < 2 ^ 64 → b.high ≤ a.high → (a.high ≡ b.high → ⊥) → eqb a.high b.high ≡ leb (value_of a) (value_of b)
   most-under r d n =
       ne_eqb a.high b.high n
-      ∙ sym (lt-leb (value_of a) (value_of b) (upper-less (2 ^ 64) b.high b.low a.high a.low r (omega (arith, d, n))))
+      ∙ sym (lt-leb (value_of a) (value_of b) (upper_less (2 ^ 64) b.high b.low a.high a.low r (omega (arith, d, n))))
 
 -- ---- zeros
 
@@ -65,8 +65,8 @@ module _ (a : Address) where
   zero_high n = same-zero a.high (value_of a) (λ h. absurd (n h)) (λ h. omega (arith, h))
 
 -- a number of 64 bits is 0 where its lowest 64 are
-pub zeros-all : (x k : ℕ) → x < 2 ^ 64 → k ≡ 64 → eqb x 0 ≡ eqb (x % 2 ^ k) 0
-zeros-all x k h e = ap (λ (n : ℕ). eqb n 0) (sym (mod-eq_of_lt h) ∙ ap (λ (n : ℕ). x % 2 ^ n) (sym e))
+pub zeros_all : (x k : ℕ) → x < 2 ^ 64 → k ≡ 64 → eqb x 0 ≡ eqb (x % 2 ^ k) 0
+zeros_all x k h e = ap (λ (n : ℕ). eqb n 0) (sym (mod-eq_of_lt h) ∙ ap (λ (n : ℕ). x % 2 ^ n) (sym e))
 
 -- the lower half alone has the bits past a prefix longer than 64
 low_bits : (h l k : ℕ) → k ≤ 64 → (h * 2 ^ 64 + l) % 2 ^ k ≡ l % 2 ^ k
@@ -88,19 +88,19 @@ module _ (a : Address) (len : ℕ) where
   past-low h k = ap (λ (n : ℕ). eqb n 0) (sym (low_bits a.high a.low (128 - len) (omega arith)))
 
   -- past a shorter one, both halves
-  past-both : a.low < 2 ^ 64 → len ≤ 64 → value_of a % 2 ^ (128 - len) ≡ a.high % 2 ^ (64 - len) * 2 ^ 64 + a.low
-  past-both r h =
+  past_both : a.low < 2 ^ 64 → len ≤ 64 → value_of a % 2 ^ (128 - len) ≡ a.high % 2 ^ (64 - len) * 2 ^ 64 + a.low
+  past_both r h =
       let e : 128 - len ≡ (64 - len) + 64 = omega arith in
       ap (λ (n : ℕ). value_of a % 2 ^ n) e ∙ high_bits a.high a.low (64 - len) r
 
   -- a lower half of 0: the upper one decides
-  pub past-high : a.low < 2 ^ 64 → len ≤ 64 → a.low ≡ 0 → eqb (a.high % 2 ^ (64 - len)) 0 ≡ eqb (value_of a % 2 ^ (128 - len)) 0
-  past-high r h e =
+  pub past_high : a.low < 2 ^ 64 → len ≤ 64 → a.low ≡ 0 → eqb (a.high % 2 ^ (64 - len)) 0 ≡ eqb (value_of a % 2 ^ (128 - len)) 0
+  past_high r h e =
       same-zero (a.high % 2 ^ (64 - len)) (value_of a % 2 ^ (128 - len))
-      (λ z. past-both r h ∙ let y = ap (λ (n : ℕ). n * 2 ^ 64) z in omega (arith, y, e))
-      (λ z. let y = sym (past-both r h) ∙ z in omega (arith, y))
+      (λ z. past_both r h ∙ let y = ap (λ (n : ℕ). n * 2 ^ 64) z in omega (arith, y, e))
+      (λ z. let y = sym (past_both r h) ∙ z in omega (arith, y))
 
   -- a one in the lower half is past the prefix
   pub past_ones : a.low < 2 ^ 64 → len ≤ 64 → (a.low ≡ 0 → ⊥) → eqb a.low 0 ≡ eqb (value_of a % 2 ^ (128 - len)) 0
   past_ones r h n =
-      same-zero a.low (value_of a % 2 ^ (128 - len)) (λ z. absurd (n z)) (λ z. let y = sym (past-both r h) ∙ z in omega (arith, y))
+      same-zero a.low (value_of a % 2 ^ (128 - len)) (λ z. absurd (n z)) (λ z. let y = sym (past_both r h) ∙ z in omega (arith, y))

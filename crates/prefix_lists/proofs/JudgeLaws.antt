@@ -10,7 +10,7 @@ use borrow.Author.Tests.{eq-eqb, ne_eqb}
 use Rattle.byte_numbers.specs.Numbers.{number4}
 use Rattle.prefix_lists.specs.declared.Judged.{Judged}
 use Rattle.prefix_lists.specs.declared.Judged.TheVariants.{Listed, Refused}
-use Rattle.prefix_lists.specs.List.{count_of, piece_at, fits, is_number, need, judgeFrom, judge}
+use Rattle.prefix_lists.specs.List.{count_of, piece_at, fits, is_number, need, judge_from, judge}
 
 -- what is said of the given number, after the records
 abbrev pub closing : ℕ → Judged
@@ -18,19 +18,19 @@ closing given = need (is_number given) 22 Listed
 
 -- what is left to judge of n records, from record i on
 abbrev pub left : ℕ → List ℕ → ℕ → ℕ → ℕ → Judged
-left w l given n i = judgeFrom w l (n - i) i (closing given)
+left w l given n i = judge_from w l (n - i) i (closing given)
 
 -- ---- the length first
 
 -- bytes that are no multiple of 24
-pub judge-uneven : (w : ℕ) (l : List ℕ) (given : ℕ) → (length l % 24 ≡ 0 → ⊥) → Refused 21 ≡ judge w l given
+pub judge_uneven : (w : ℕ) (l : List ℕ) (given : ℕ) → (length l % 24 ≡ 0 → ⊥) → Refused 21 ≡ judge w l given
 unfolding judge need
-judge-uneven w l given h = rw (ne_eqb (length l % 24) 0 h)
+judge_uneven w l given h = rw (ne_eqb (length l % 24) 0 h)
 
 -- a multiple: all records are left
-pub judge-even : (w : ℕ) (l : List ℕ) (given : ℕ) → length l % 24 ≡ 0 → judge w l given ≡ left w l given (count_of l) 0
+pub judge_even : (w : ℕ) (l : List ℕ) (given : ℕ) → length l % 24 ≡ 0 → judge w l given ≡ left w l given (count_of l) 0
 unfolding judge need
-judge-even w l given h =
+judge_even w l given h =
     let e : count_of l - 0 ≡ count_of l = omega arith in
     rw (eq-eqb (length l % 24) 0 h, e)
 
@@ -44,16 +44,16 @@ number_read l i = refl
 module _ (w : ℕ) (l : List ℕ) (given n i : ℕ) (more : i < n) where
   -- record i, and what is left behind it
   one : left w l given n i ≡ need (fits w l i) 21 (need (is_number (piece_at l i).number) 22 (left w l given n (i + 1)))
-  unfolding judgeFrom
+  unfolding judge_from
   one =
       let e : n - i ≡ suc (n - (i + 1)) = omega (arith, more) in
-      ap (λ (m : ℕ). judgeFrom w l m i (closing given)) e
-      ∙ ap (λ (j : ℕ). need (fits w l i) 21 (need (is_number (piece_at l i).number) 22 (judgeFrom w l (n - (i + 1)) j (closing given)))) (sym (add-one i))
+      ap (λ (m : ℕ). judge_from w l m i (closing given)) e
+      ∙ ap (λ (j : ℕ). need (fits w l i) 21 (need (is_number (piece_at l i).number) 22 (judge_from w l (n - (i + 1)) j (closing given)))) (sym (add-one i))
 
   -- a record that does not fit
-  pub judge-unfit : fits w l i ≡ false → left w l given n i ≡ Refused 21
+  pub judge_unfit : fits w l i ≡ false → left w l given n i ≡ Refused 21
   unfolding need
-  judge-unfit h = one ∙ rw h
+  judge_unfit h = one ∙ rw h
 
   -- one that fits, with a wrong number
   pub judge-number : fits w l i ≡ true → is_number (piece_at l i).number ≡ false → left w l given n i ≡ Refused 22
@@ -68,17 +68,17 @@ module _ (w : ℕ) (l : List ℕ) (given n i : ℕ) (more : i < n) where
 -- ---- the given number
 
 -- no record is left
-pub judge-closing : (w : ℕ) (l : List ℕ) (given n i : ℕ) → n ≤ i → left w l given n i ≡ closing given
-unfolding judgeFrom
-judge-closing w l given n i h =
+pub judge_closing : (w : ℕ) (l : List ℕ) (given n i : ℕ) → n ≤ i → left w l given n i ≡ closing given
+unfolding judge_from
+judge_closing w l given n i h =
     let e : n - i ≡ 0 = omega (arith, h) in
-    ap (λ (m : ℕ). judgeFrom w l m i (closing given)) e
+    ap (λ (m : ℕ). judge_from w l m i (closing given)) e
 
 -- a wrong number given, and a right one
-pub closing-no : (given : ℕ) → is_number given ≡ false → closing given ≡ Refused 22
+pub closing_no : (given : ℕ) → is_number given ≡ false → closing given ≡ Refused 22
 unfolding need
-closing-no given h = rw h
+closing_no given h = rw h
 
-pub closing-yes : (given : ℕ) → is_number given ≡ true → closing given ≡ Listed
+pub closing_yes : (given : ℕ) → is_number given ≡ true → closing given ≡ Listed
 unfolding need
-closing-yes given h = rw h
+closing_yes given h = rw h

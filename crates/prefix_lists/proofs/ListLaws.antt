@@ -14,9 +14,9 @@ use Rattle.prefix_records.specs.Tiling.{first_of, past_of}
 use Rattle.prefix_records.proofs.TilingLaws.{some}
 use Rattle.prefix_lists.specs.declared.Judged.{Judged}
 use Rattle.prefix_lists.specs.declared.Judged.TheVariants.{Listed, Refused}
-use Rattle.prefix_lists.specs.List.{count_of, piece_at, fits, is_number, need, judgeFrom, judge}
+use Rattle.prefix_lists.specs.List.{count_of, piece_at, fits, is_number, need, judge_from, judge}
 use Rattle.prefix_lists.specs.models.Listed.{Number, Rising}
-use Rattle.prefix_lists.proofs.FitLaws.{Bytes, Fitting, fitting, and-true, clean-first, clean-inside}
+use Rattle.prefix_lists.proofs.FitLaws.{Bytes, Fitting, fitting, and-true, clean-first, clean_inside}
 
 -- ---- a list that is not refused
 
@@ -50,14 +50,14 @@ front w l n i g more zero d = subst (Passes w l) (omega arith) g
 front w l n i g more (suc k) d = subst (Passes w l) (omega arith) (more k (omega (arith, d)))
 
 -- each of n records from record i on, and what was said later
-judged-from : (w : ℕ) (l : List ℕ) (n i : ℕ) (later : Judged) → judgeFrom w l n i later ≡ Listed
+judged_from : (w : ℕ) (l : List ℕ) (n i : ℕ) (later : Judged) → judge_from w l n i later ≡ Listed
     → ((k : ℕ) → k < n → Passes w l (i + k)) × (later ≡ Listed)
-unfolding judgeFrom
-judged-from w l zero i later h = (λ k d. absurd (omega (arith, d)), h)
-judged-from w l (suc n) i later h =
+unfolding judge_from
+judged_from w l zero i later h = (λ k d. absurd (omega (arith, d)), h)
+judged_from w l (suc n) i later h =
     let a = needed _ 21 _ h in
     let b = needed _ 22 _ a.1 in
-    let r = judged-from w l n (suc i) later b.1 in
+    let r = judged_from w l n (suc i) later b.1 in
     (front w l n i (a.0, b.0) r.0, r.1)
 
 -- what is so of a list that is not refused, test by test
@@ -70,7 +70,7 @@ pub judged : (w : ℕ) (l : List ℕ) (given : ℕ) → judge w l given ≡ List
 unfolding judge
 judged w l given e =
     let a = needed _ 21 _ e in
-    let r = judged-from w l (count_of l) 0 _ a.1 in
+    let r = judged_from w l (count_of l) 0 _ a.1 in
     record {
       whole = eqb-true (length l % 24) 0 a.0;
       each = λ i d. subst (Passes w l) (omega arith) (r.0 i d);
@@ -78,65 +78,65 @@ judged w l given e =
     }
 
 -- and a list of which all of it is so is not refused
-passed-from : (w : ℕ) (l : List ℕ) (n i : ℕ) (later : Judged) → ((k : ℕ) → k < n → Passes w l (i + k)) → judgeFrom w l n i later ≡ later
-unfolding judgeFrom need
-passed-from w l zero i later h = refl
-passed-from w l (suc n) i later h =
+passed_from : (w : ℕ) (l : List ℕ) (n i : ℕ) (later : Judged) → ((k : ℕ) → k < n → Passes w l (i + k)) → judge_from w l n i later ≡ later
+unfolding judge_from need
+passed_from w l zero i later h = refl
+passed_from w l (suc n) i later h =
     let g : Passes w l i = subst (Passes w l) (omega arith) (h 0 (omega arith)) in
-    rw (g.0, g.1) (passed-from w l n (suc i) later (λ k d. subst (Passes w l) (omega arith) (h (suc k) (omega (arith, d)))))
+    rw (g.0, g.1) (passed_from w l n (suc i) later (λ k d. subst (Passes w l) (omega arith) (h (suc k) (omega (arith, d)))))
 
-pub all-passed : (w : ℕ) (l : List ℕ) (given : ℕ) → Judgement w l given → judge w l given ≡ Listed
+pub all_passed : (w : ℕ) (l : List ℕ) (given : ℕ) → Judgement w l given → judge w l given ≡ Listed
 unfolding judge need
-all-passed w l given j =
-    rw (eq-eqb (length l % 24) 0 j.whole) (passed-from w l (count_of l) 0 (need (is_number given) 22 Listed) (λ k d. subst (Passes w l) (omega arith) (j.each k d)) ∙ rw j.last)
+all_passed w l given j =
+    rw (eq-eqb (length l % 24) 0 j.whole) (passed_from w l (count_of l) 0 (need (is_number given) 22 Listed) (λ k d. subst (Passes w l) (omega arith) (j.each k d)) ∙ rw j.last)
 
 -- ---- rising
 
 -- prefixes of which each begins behind the one before it rise
 module _ (w : ℕ) (l : List ℕ) (good : (i : ℕ) → i < count_of l → Fitting w l i) where
   -- a record's first address is not below the end of the one before it
-  next-behind : (i : ℕ) → suc i < count_of l → past_of 128 (piece_at l i) ≤ first_of 128 (piece_at l (suc i))
-  next-behind i h =
+  next_behind : (i : ℕ) → suc i < count_of l → past_of 128 (piece_at l i) ≤ first_of 128 (piece_at l (suc i))
+  next_behind i h =
       let g = good (suc i) h in
       subst (λ (n : ℕ). past_of 128 (piece_at l i) ≤ n) (sym (clean-first l (suc i) g.clean)) g.behind
 
   -- k records further on
-  rising-by : (i k : ℕ) → suc (i + k) < count_of l → past_of 128 (piece_at l i) ≤ first_of 128 (piece_at l (suc (i + k)))
-  rising-by i zero h = subst (λ (n : ℕ). suc n < count_of l → past_of 128 (piece_at l i) ≤ first_of 128 (piece_at l (suc n))) (omega arith) (next-behind i) h
-  rising-by i (suc k) h =
+  rising_by : (i k : ℕ) → suc (i + k) < count_of l → past_of 128 (piece_at l i) ≤ first_of 128 (piece_at l (suc (i + k)))
+  rising_by i zero h = subst (λ (n : ℕ). suc n < count_of l → past_of 128 (piece_at l i) ≤ first_of 128 (piece_at l (suc n))) (omega arith) (next_behind i) h
+  rising_by i (suc k) h =
       let e = add-suc i k in
       let m : suc (suc (i + k)) < count_of l = omega (arith, h) in
-      let r = rising-by i k (omega (arith, m)) in
+      let r = rising_by i k (omega (arith, m)) in
       let s = some 128 (piece_at l (suc (i + k))) in
-      let t = next-behind (suc (i + k)) m in
+      let t = next_behind (suc (i + k)) m in
       subst (λ (n : ℕ). past_of 128 (piece_at l i) ≤ first_of 128 (piece_at l (suc n))) (sym e) (omega (arith, r, s, t))
 
   -- of any two records
-  rising-all : (i j : ℕ) → i < j → j < count_of l → past_of 128 (piece_at l i) ≤ first_of 128 (piece_at l j)
-  rising-all i j d h =
+  rising_all : (i j : ℕ) → i < j → j < count_of l → past_of 128 (piece_at l i) ≤ first_of 128 (piece_at l j)
+  rising_all i j d h =
       let e : suc (i + (j - suc i)) ≡ j = omega (arith, d) in
-      subst (λ (n : ℕ). past_of 128 (piece_at l i) ≤ first_of 128 (piece_at l n)) e (rising-by i (j - suc i) (omega (arith, e, h)))
+      subst (λ (n : ℕ). past_of 128 (piece_at l i) ≤ first_of 128 (piece_at l n)) e (rising_by i (j - suc i) (omega (arith, e, h)))
 
 -- the length of a record's prefix
-short-piece : (w : ℕ) (l : List ℕ) (i : ℕ) → Fitting w l i → (piece_at l i).length ≤ w
+short_piece : (w : ℕ) (l : List ℕ) (i : ℕ) → Fitting w l i → (piece_at l i).length ≤ w
 unfolding piece_at
-short-piece w l i g = g.short
+short_piece w l i g = g.short
 
 -- records that pass
 rise : (w : ℕ) (l : List ℕ) → Bytes l → ((i : ℕ) → i < count_of l → Passes w l i) → Rising w l
 rise w l bytes pass =
     let fit : (i : ℕ) → i < count_of l → Fitting w l i = λ i d. fitting w l i (pass i d).0 in
     record {
-      short = λ i d. short-piece w l i (fit i d);
+      short = λ i d. short_piece w l i (fit i d);
       first = λ i d. clean-first l i (fit i d).clean;
-      inside = λ i d. clean-inside l i bytes (fit i d).clean;
-      rising = rising-all w l fit;
+      inside = λ i d. clean_inside l i bytes (fit i d).clean;
+      rising = rising_all w l fit;
       numbers = λ i d. number (piece_at l i).number (pass i d).1;
     }
 
 -- a list that is not refused rises, and the given number is one that a RETURN can have
-pub judged-rising : (w : ℕ) (l : List ℕ) (given : ℕ) → ((i : ℕ) → get_or l i 0 < 256) → judge w l given ≡ Listed → Rising w l × Number given
-judged-rising w l given bytes e = let j = judged w l given e in (rise w l bytes j.each, number given j.last)
+pub judged_rising : (w : ℕ) (l : List ℕ) (given : ℕ) → ((i : ℕ) → get_or l i 0 < 256) → judge w l given ≡ Listed → Rising w l × Number given
+judged_rising w l given bytes e = let j = judged w l given e in (rise w l bytes j.each, number given j.last)
 
 -- ---- a list that is refused
 
@@ -146,30 +146,30 @@ Told Listed = Unit {0}
 Told (Refused n) = (21 ≤ n) × (n ≤ 22)
 
 -- a test that refuses with 21 or 22
-need-told : (b : Bool) (n : ℕ) (later : Judged) → (21 ≤ n) × (n ≤ 22) → Told later → Told (need b n later)
+need_told : (b : Bool) (n : ℕ) (later : Judged) → (21 ≤ n) × (n ≤ 22) → Told later → Told (need b n later)
 unfolding need
-need-told true n later h t = t
-need-told false n later h t = h
+need_told true n later h t = t
+need_told false n later h t = h
 
 -- the tests of the records
-from_told : (w : ℕ) (l : List ℕ) (n i : ℕ) (later : Judged) → Told later → Told (judgeFrom w l n i later)
-unfolding judgeFrom
+from_told : (w : ℕ) (l : List ℕ) (n i : ℕ) (later : Judged) → Told later → Told (judge_from w l n i later)
+unfolding judge_from
 from_told w l zero i later t = t
 from_told w l (suc n) i later t =
-    need-told _ 21 _ (omega arith, omega arith) (need-told _ 22 _ (omega arith, omega arith) (from_told w l n (suc i) later t))
+    need_told _ 21 _ (omega arith, omega arith) (need_told _ 22 _ (omega arith, omega arith) (from_told w l n (suc i) later t))
 
 -- a refusal is 21 or 22
-pub judged-refused : (w : ℕ) (l : List ℕ) (given n : ℕ) → judge w l given ≡ Refused n → (21 ≤ n) × (n ≤ 22)
+pub judged_refused : (w : ℕ) (l : List ℕ) (given n : ℕ) → judge w l given ≡ Refused n → (21 ≤ n) × (n ≤ 22)
 unfolding judge
-judged-refused w l given n e =
+judged_refused w l given n e =
     subst Told e
-    (need-told _ 21 _ (omega arith, omega arith) (from_told w l (count_of l) 0 _ (need-told (is_number given) 22 Listed (omega arith, omega arith) tt)))
+    (need_told _ 21 _ (omega arith, omega arith) (from_told w l (count_of l) 0 _ (need_told (is_number given) 22 Listed (omega arith, omega arith) tt)))
 
 -- ---- a greater width
 
 -- what rises at a width rises at a greater one
-pub rising-wider : {w v : ℕ} {l : List ℕ} → w ≤ v → Rising w l → Rising v l
-rising-wider h r =
+pub rising_wider : {w v : ℕ} {l : List ℕ} → w ≤ v → Rising w l → Rising v l
+rising_wider h r =
     record {
       short = λ i d. omega (arith, h, r.short i d);
       first = r.first;

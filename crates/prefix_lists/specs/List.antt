@@ -19,15 +19,15 @@ abbrev pub count_of : List ℕ → ℕ
 count_of l = length l / 24
 
 -- Of record i: its address of 16 bytes as a number, and its prefix length.
-abbrev pub addressAt : List ℕ → ℕ → ℕ
-addressAt l i = big 16 l (24 * i)
+abbrev pub address_at : List ℕ → ℕ → ℕ
+address_at l i = big 16 l (24 * i)
 
 abbrev pub length_at : List ℕ → ℕ → ℕ
 length_at l i = get_or l (24 * i + 16) 0
 
 -- The prefix of record i, with its number: the first bits of its address, as many as the length says.
 unfoldable pub piece_at : List ℕ → ℕ → Piece
-piece_at l i = record { prefix = addressAt l i / 2 ^ (128 - length_at l i); length = length_at l i; number = number4 l (24 * i + 20) }
+piece_at l i = record { prefix = address_at l i / 2 ^ (128 - length_at l i); length = length_at l i; number = number4 l (24 * i + 20) }
 
 -- ---- the number of an address
 
@@ -40,8 +40,8 @@ number_at w ps given (suc n) x = cond (holds w x (ps n)) (ps n).number (number_a
 -- ---- what is wrong
 
 -- "wrong zeros": the three bytes behind the length.
-abbrev pub zerosAt : List ℕ → ℕ → Bool
-zerosAt l i = eqb (get_or l (24 * i + 17) 0) 0 && eqb (get_or l (24 * i + 18) 0) 0 && eqb (get_or l (24 * i + 19) 0) 0
+abbrev pub zeros_at : List ℕ → ℕ → Bool
+zeros_at l i = eqb (get_or l (24 * i + 17) 0) 0 && eqb (get_or l (24 * i + 18) 0) 0 && eqb (get_or l (24 * i + 19) 0) 0
 
 -- Where record i may begin at the earliest: behind the one before it.
 abbrev pub earliest : List ℕ → ℕ → ℕ
@@ -51,7 +51,7 @@ earliest l (suc i) = past_of 128 (piece_at l i)
 -- Record i has a prefix that may stand there: not "longer than the width", no "wrong zeros", no "ones past the prefix", not "out of order" and
 -- not "overlapping" the one before it.
 unfoldable pub fits : ℕ → List ℕ → ℕ → Bool
-fits w l i = leb (length_at l i) w && zerosAt l i && eqb (addressAt l i % 2 ^ (128 - length_at l i)) 0 && leb (earliest l i) (addressAt l i)
+fits w l i = leb (length_at l i) w && zeros_at l i && eqb (address_at l i % 2 ^ (128 - length_at l i)) 0 && leb (earliest l i) (address_at l i)
 
 -- A number that a RETURN can have, "1 to 33,521,664".
 abbrev pub is_number : ℕ → Bool
@@ -63,11 +63,11 @@ need true n later = later
 need false n later = Refused n
 
 -- n records from record i on, "21 before 22 in each record"; the first wrong one is refused.
-unfoldable pub judgeFrom : ℕ → List ℕ → ℕ → ℕ → Judged → Judged
-judgeFrom w l zero i later = later
-judgeFrom w l (suc n) i later = need (fits w l i) 21 (need (is_number (piece_at l i).number) 22 (judgeFrom w l n (suc i) later))
+unfoldable pub judge_from : ℕ → List ℕ → ℕ → ℕ → Judged → Judged
+judge_from w l zero i later = later
+judge_from w l (suc n) i later = need (fits w l i) 21 (need (is_number (piece_at l i).number) 22 (judge_from w l n (suc i) later))
 
 -- A list at the width w, with the given number: "21 for record bytes no multiple of 24", "the length first", then the records, "the given number
 -- after the records".
 unfoldable pub judge : ℕ → List ℕ → ℕ → Judged
-judge w l given = need (eqb (length l % 24) 0) 21 (judgeFrom w l (count_of l) 0 (need (is_number given) 22 Listed))
+judge w l given = need (eqb (length l % 24) 0) 21 (judge_from w l (count_of l) 0 (need (is_number given) 22 Listed))

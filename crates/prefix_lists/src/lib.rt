@@ -1,8 +1,8 @@
 // Lists of prefixes as records of 24 bytes (document 02, CR 8), read: the fields of a record, and whether a list may be built from.
 ghost use Rattle.std.specs.Prelude.{◌≡◌, ◌+◌, ◌-◌, ◌*◌, ◌%◌, ◌^◌, ◌≤◌, eqb, leb, length};
 ghost use Rattle.prefix_records.specs.models.Cursor.{value_of};
-ghost use Rattle.prefix_lists.specs.List.{big, zerosAt, earliest, fits, is_number, judge};
-ghost use Rattle.prefix_lists.specs.models.End.{Ends, mayBegin};
+ghost use Rattle.prefix_lists.specs.List.{big, zeros_at, earliest, fits, is_number, judge};
+ghost use Rattle.prefix_lists.specs.models.End.{Ends, may_begin};
 
 use prefix_records::Address;
 
@@ -101,7 +101,7 @@ fn zeros_past(a: Address, length: u8) -> bool
 
 // Whether record i may begin at an address. The end is the address behind the record before it; 0 stands there for the one behind all addresses.
 fn may_begin(i: usize, end: Address, a: Address) -> bool
-    ensures { result ≡ mayBegin i (value_of end) (value_of a) }
+    ensures { result ≡ may_begin i (value_of end) (value_of a) }
 {
     i == 0 || (!is_zero(end) && at_most(end, a))
 }
@@ -109,7 +109,7 @@ fn may_begin(i: usize, end: Address, a: Address) -> bool
 // Whether the three bytes behind the length of record i are zeros.
 fn zeros_at(records: &[u8], i: usize) -> bool
     requires { 24 * i + 24 ≤ length records.now }
-    ensures { result ≡ zerosAt records.now i }
+    ensures { result ≡ zeros_at records.now i }
 {
     let at = 24 * i;
     records[at + 17] == 0 && (records[at + 18] == 0 && records[at + 19] == 0)

@@ -5,11 +5,11 @@ use native.Mathlib.Nat.{mod_self}
 use Rattle.prefix_records.specs.declared.Address.{Address}
 use Rattle.prefix_records.specs.models.Cursor.{value_of, Behind}
 
-pub power-of : (k : ℕ) → k < 64 → 1 * 2 ^ k % 2 ^ 64 ≡ 2 ^ k
-power-of k h = shl_exact {a = 1} 1 k 64 (omega arith) (omega arith) ∙ omega arith
+pub power_of : (k : ℕ) → k < 64 → 1 * 2 ^ k % 2 ^ 64 ≡ 2 ^ k
+power_of k h = shl_exact {a = 1} 1 k 64 (omega arith) (omega arith) ∙ omega arith
 
-high-power : (l : ℕ) → l ≤ 64 → 2 ^ (128 - l) ≡ 2 ^ (64 - l) * 18446744073709551616
-high-power l h =
+high_power : (l : ℕ) → l ≤ 64 → 2 ^ (128 - l) ≡ 2 ^ (64 - l) * 18446744073709551616
+high_power l h =
     let e : 128 - l ≡ (64 - l) + 64 = omega arith in
     ap (λ (n : ℕ). 2 ^ n) e ∙ pow-add 2 (64 - l) 64
 
@@ -62,17 +62,17 @@ at_top b x y h e = go (ltb x b) refl (ltb b x) refl
 to-zero : (b x s : ℕ) → 0 < b → s ≡ x % b → x ≡ b → s ≡ 0
 to-zero b x s h e f = e ∙ ap (λ (v : ℕ). v % b) f ∙ mod_self b
 
-high-top : (b h l p s q : ℕ) → l < b → s ≡ (h + p) % b → q ≡ p * b → h * b + l + q ≡ b * b → s * b + l ≡ 0
-high-top b h l p s q r e f k =
+high_top : (b h l p s q : ℕ) → l < b → s ≡ (h + p) % b → q ≡ p * b → h * b + l + q ≡ b * b → s * b + l ≡ 0
+high_top b h l p s q r e f k =
     let t = at_top b (h + p) l r (omega (arith, add-mul h p b)) in
     let z = to-zero b (h + p) s (omega arith) e t.0 in
     ap (λ (v : ℕ). v * b + l) z ∙ omega (arith, t.1)
 
-carry-top : (b h l p s t : ℕ) → t < b → s ≡ (h + 1) % b → t + b ≡ l + p → h * b + l + p ≡ b * b → s * b + t ≡ 0
-carry-top b h l p s t r e f k = high-top b h t 1 s b r e (omega arith) (omega arith)
+carry_top : (b h l p s t : ℕ) → t < b → s ≡ (h + 1) % b → t + b ≡ l + p → h * b + l + p ≡ b * b → s * b + t ≡ 0
+carry_top b h l p s t r e f k = high_top b h t 1 s b r e (omega arith) (omega arith)
 
-never-top : (b h l p : ℕ) → l + p < b → 0 < p → h * b + l + p ≡ b * b → ⊥
-never-top b h l p r z k = let t = at_top b h (l + p) r (omega arith) in omega (arith, t.1)
+never_top : (b h l p : ℕ) → l + p < b → 0 < p → h * b + l + p ≡ b * b → ⊥
+never_top b h l p r z k = let t = at_top b h (l + p) r (omega arith) in omega (arith, t.1)
 
 module _ (a : Address) (l : ℕ) (half : a.low < 2 ^ 64) where
   pub behind-whole : l ≡ 0 → Behind a l (record { high = a.high; low = a.low })
@@ -82,18 +82,18 @@ module _ (a : Address) (l : ℕ) (half : a.low < 2 ^ 64) where
     λ h. from_zero (value_of a) (2 ^ 128) (subst (λ (n : ℕ). value_of a + 2 ^ (128 - n) ≡ 2 ^ 128) e h),
   )
 
-  pub behind-high : (p s : ℕ) → l ≤ 64 → p ≡ 2 ^ (64 - l) → s ≡ (a.high + p) % 2 ^ 64 → Behind a l (record { high = s; low = a.low })
-  behind-high p s h e f =
-      let q : 2 ^ (128 - l) ≡ p * 2 ^ 64 = high-power l h ∙ ap (λ (n : ℕ). n * 2 ^ 64) (sym e) in
-      (λ k. high_sum (2 ^ 64) a.high a.low p s (2 ^ (128 - l)) f q k, half, λ k. high-top (2 ^ 64) a.high a.low p s (2 ^ (128 - l)) half f q k)
+  pub behind_high : (p s : ℕ) → l ≤ 64 → p ≡ 2 ^ (64 - l) → s ≡ (a.high + p) % 2 ^ 64 → Behind a l (record { high = s; low = a.low })
+  behind_high p s h e f =
+      let q : 2 ^ (128 - l) ≡ p * 2 ^ 64 = high_power l h ∙ ap (λ (n : ℕ). n * 2 ^ 64) (sym e) in
+      (λ k. high_sum (2 ^ 64) a.high a.low p s (2 ^ (128 - l)) f q k, half, λ k. high_top (2 ^ 64) a.high a.low p s (2 ^ (128 - l)) half f q k)
 
-  pub behind-carry : (p s t : ℕ) → p ≡ 2 ^ (128 - l) → p < 2 ^ 64 → t ≡ (a.low + p) % 2 ^ 64 → s ≡ (a.high + 1) % 2 ^ 64 → 18446744073709551615 - a.low < p
+  pub behind_carry : (p s t : ℕ) → p ≡ 2 ^ (128 - l) → p < 2 ^ 64 → t ≡ (a.low + p) % 2 ^ 64 → s ≡ (a.high + 1) % 2 ^ 64 → 18446744073709551615 - a.low < p
       → Behind a l (record { high = s; low = t })
-  behind-carry p s t e g f y c =
+  behind_carry p s t e g f y c =
       let r = wrapped (a.low + p) t f (omega arith) (omega arith) in (
         λ k. subst (λ (n : ℕ). s * 2 ^ 64 + t ≡ value_of a + n) e (carry (2 ^ 64) a.high a.low p s t y r (subst (λ (n : ℕ). value_of a + n < 2 ^ 128) (sym e) k)),
         omega (arith, f),
-        λ k. carry-top (2 ^ 64) a.high a.low p s t (omega (arith, f)) y r (subst (λ (n : ℕ). value_of a + n ≡ 2 ^ 128) (sym e) k),
+        λ k. carry_top (2 ^ 64) a.high a.low p s t (omega (arith, f)) y r (subst (λ (n : ℕ). value_of a + n ≡ 2 ^ 128) (sym e) k),
       )
 
   pub behind-low : (p t : ℕ) → p ≡ 2 ^ (128 - l) → t ≡ (a.low + p) % 2 ^ 64 → p ≤ 18446744073709551615 - a.low
@@ -102,5 +102,5 @@ module _ (a : Address) (l : ℕ) (half : a.low < 2 ^ 64) where
       let r : t ≡ a.low + p = omega (arith, f) in (
         λ k. ap (λ (n : ℕ). a.high * 2 ^ 64 + n) r ∙ sym (add_assoc (a.high * 2 ^ 64) a.low p) ∙ ap (λ (n : ℕ). value_of a + n) e,
         omega (arith, r),
-        λ k. absurd (never-top (2 ^ 64) a.high a.low p (omega (arith, r, f)) (subst (λ (n : ℕ). 0 < n) (sym e) (pow_pos (128 - l))) (subst (λ (n : ℕ). value_of a + n ≡ 2 ^ 128) (sym e) k)),
+        λ k. absurd (never_top (2 ^ 64) a.high a.low p (omega (arith, r, f)) (subst (λ (n : ℕ). 0 < n) (sym e) (pow_pos (128 - l))) (subst (λ (n : ℕ). value_of a + n ≡ 2 ^ 128) (sym e) k)),
       )

@@ -2,7 +2,7 @@
 // each where the one before it ends, so whoever writes them carries one address along and no prefix.
 ghost use Rattle.std.specs.Prelude.{◌≡◌, ◌+◌, ◌^◌, ◌<◌, ◌≤◌, length};
 ghost use Rattle.std.proofs.lemmas.List.Edits.{sets};
-ghost use Rattle.prefix_records.specs.models.Cursor.{Behind, recordAt};
+ghost use Rattle.prefix_records.specs.models.Cursor.{Behind, record_at};
 
 // An address of 128 bits.
 #[derive(Drop)]
@@ -57,7 +57,7 @@ pub fn behind(a: Address, length: u8) -> Address
 // The record of a piece that begins at an address. The length goes out as a number of four bytes: the upper three are the record's zeros.
 pub fn put_record(out: &mut [u8], at: usize, a: Address, len: u8, number: u32)
     requires { at + 24 ≤ length out.old }
-    ensures { out.new ≡ sets out.old at (recordAt a len number) }
+    ensures { out.new ≡ sets out.old at (record_at a len number) }
 {
     let high = a.high;
     let low = a.low;

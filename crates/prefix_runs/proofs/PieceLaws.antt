@@ -13,13 +13,13 @@ use Rattle.prefix_records.specs.declared.Address.{Address}
 use Rattle.prefix_records.specs.Tiling.{first_of, past_of}
 use Rattle.prefix_records.specs.models.Cursor.{value_of, Behind}
 use Rattle.prefix_records.proofs.TilingLaws.{some}
-use Rattle.prefix_lists.specs.List.{count_of, addressAt, length_at, piece_at}
+use Rattle.prefix_lists.specs.List.{count_of, address_at, length_at, piece_at}
 use Rattle.prefix_lists.specs.models.Listed.{Rising}
 use Rattle.prefix_runs.specs.declared.Run.{Run}
 use Rattle.prefix_runs.specs.models.Runs.{Cut, numbers, RunBelow}
 use Rattle.prefix_runs.specs.models.Pieces.{top, Joined}
-use Rattle.prefix_runs.proofs.RunLaws.{past-of, piece-record, piece-gap, cut_record}
-use Rattle.prefix_runs.proofs.EndLaws.{Held, end-some, end-all, held-end, gap}
+use Rattle.prefix_runs.proofs.RunLaws.{past_of_lem, piece-record, piece_gap, cut_record}
+use Rattle.prefix_runs.proofs.EndLaws.{Held, end-some, end_all, held_end, gap}
 
 -- ---- the fields of a record
 
@@ -37,15 +37,15 @@ piece-number l j = refl
 
 module _ (l : List ℕ) (given u : ℕ) where
   -- below the first prefix: the gap from 0 on
-  pub first-gap : Cut l (top u) 0 → Joined l given (top u) (record { first = record { high = 0; low = 0 }; number = given; under = 0 })
-  first-gap c = record {
+  pub first_gap : Cut l (top u) 0 → Joined l given (top u) (record { first = record { high = 0; low = 0 }; number = given; under = 0 })
+  first_gap c = record {
     some = end-some u;
-    same = λ a h k. piece-gap l given (top u) 0 0 c (λ i h. absurd (omega arith)) a h k;
+    same = λ a h k. piece_gap l given (top u) 0 0 c (λ i h. absurd (omega arith)) a h k;
     cut = record { some = omega arith; below = λ i h. absurd (omega arith); above = λ i h k. omega arith };
   }
 
   module _ (r : Rising 128 l) (j : ℕ) (c : Cut l (top u) (suc j)) (first past : Address)
-      (reads : value_of first ≡ addressAt l j) (behind : Behind first (length_at l j) past) where
+      (reads : value_of first ≡ address_at l j) (behind : Behind first (length_at l j) past) where
     -- there is such a record
     inside : j < count_of l
     inside = omega (arith, c.some)
@@ -56,7 +56,7 @@ module _ (l : List ℕ) (given u : ℕ) where
 
     -- and so the prefix ends where the code says
     ends : past_of 128 (piece_at l j) ≡ value_of first + 2 ^ (128 - length_at l j)
-    ends = past-of (piece_at l j) ∙ ap (λ (n : ℕ). n + 2 ^ (128 - (piece_at l j).length)) (sym begins) ∙ ap (λ (n : ℕ). value_of first + 2 ^ (128 - n)) (piece-length l j)
+    ends = past_of_lem (piece_at l j) ∙ ap (λ (n : ℕ). n + 2 ^ (128 - (piece_at l j).length)) (sym begins) ∙ ap (λ (n : ℕ). value_of first + 2 ^ (128 - n)) (piece-length l j)
 
     -- the address behind the prefix stands for its end
     held : Held (2 ^ 128) (value_of past) (past_of 128 (piece_at l j))
@@ -69,7 +69,7 @@ module _ (l : List ℕ) (given u : ℕ) where
     pub record-piece : (number : ℕ) → value_of past ≡ u → number ≡ number4 l (24 * j + 20)
         → Joined l given (top u) (record { first = first; number = number; under = j })
     record-piece number e n =
-        let q : past_of 128 (piece_at l j) ≡ top u = sym (held-end (value_of past) (past_of 128 (piece_at l j)) held (r.inside j inside) (not-zero (some 128 (piece_at l j)))) ∙ ap top e in
+        let q : past_of 128 (piece_at l j) ≡ top u = sym (held_end (value_of past) (past_of 128 (piece_at l j)) held (r.inside j inside) (not-zero (some 128 (piece_at l j)))) ∙ ap top e in
         record {
           some = subst (λ (x : ℕ). value_of first < x) q (subst (λ (x : ℕ). x < past_of 128 (piece_at l j)) (sym begins) (some 128 (piece_at l j)));
           same = λ a h k. piece-record l given (top u) j c q a (subst (λ (x : ℕ). x ≤ a) begins h) k ∙ piece-number l j ∙ sym n;
@@ -85,7 +85,7 @@ module _ (l : List ℕ) (given u : ℕ) where
         let g = gap (value_of past) (past_of 128 (piece_at l j)) u held (c.below j (omega arith)) d b in
         record {
           some = subst (λ (x : ℕ). x < top u) (sym g.1) g.0;
-          same = λ a h k. piece-gap l given (top u) (suc j) (value_of past) c (under g.1) a h k;
+          same = λ a h k. piece_gap l given (top u) (suc j) (value_of past) c (under g.1) a h k;
           cut = record { some = c.some; below = under g.1; above = λ i h k. later g.0 g.1 i (c.above i h k) };
         }
       where
@@ -103,7 +103,7 @@ module _ (l : List ℕ) (given u : ℕ) where
 
 -- all prefixes lie below the end of all addresses
 pub cut_all : (l : List ℕ) → Rising 128 l → Cut l (top 0) (count_of l)
-cut_all l r = subst (λ (e : ℕ). Cut l e (count_of l)) (sym end-all) (record { some = omega arith; below = r.inside; above = λ i h k. absurd (omega arith) })
+cut_all l r = subst (λ (e : ℕ). Cut l e (count_of l)) (sym end_all) (record { some = omega arith; below = r.inside; above = λ i h k. absurd (omega arith) })
 
 -- ---- pieces joined
 

@@ -10,7 +10,7 @@ use lib.Dec.{eqb, leb}
 use borrow.Author.Tests.{eqb-true, eqb-false, lt-leb, le-ltb}
 use Rattle.prefix_records.specs.Tiling.{Piece, first_of, past_of, holds}
 use Rattle.prefix_records.proofs.TilingLaws.{and-false, some}
-use Rattle.prefix_records.proofs.PlaceLaws.{held-if}
+use Rattle.prefix_records.proofs.PlaceLaws.{held_if}
 use Rattle.prefix_lists.specs.List.{count_of, piece_at, number_at}
 use Rattle.prefix_lists.specs.models.Listed.{Rising}
 use Rattle.prefix_runs.specs.models.Runs.{Cut, numbers}
@@ -18,16 +18,16 @@ use Rattle.prefix_runs.specs.models.Runs.{Cut, numbers}
 -- ---- prefixes
 
 -- the address behind a prefix, from its first one
-pub past-of : (p : Piece) → past_of 128 p ≡ first_of 128 p + 2 ^ (128 - p.length)
-past-of p = omega (arith, suc-mul p.prefix (2 ^ (128 - p.length)))
+pub past_of_lem : (p : Piece) → past_of 128 p ≡ first_of 128 p + 2 ^ (128 - p.length)
+past_of_lem p = omega (arith, suc-mul p.prefix (2 ^ (128 - p.length)))
 
 -- an address before a prefix does not lie in it
-before-it : (x : ℕ) (p : Piece) → x < first_of 128 p → holds 128 x p ≡ false
-before-it x p h = rw (lt-leb (first_of 128 p) x h)
+before_it : (x : ℕ) (p : Piece) → x < first_of 128 p → holds 128 x p ≡ false
+before_it x p h = rw (lt-leb (first_of 128 p) x h)
 
 -- and neither does one behind it
-past-it : (x : ℕ) (p : Piece) → past_of 128 p ≤ x → holds 128 x p ≡ false
-past-it x p h = rw (le-ltb x (past_of 128 p) h, and-false (leb (first_of 128 p) x))
+past_it : (x : ℕ) (p : Piece) → past_of 128 p ≤ x → holds 128 x p ≡ false
+past_it x p h = rw (le-ltb x (past_of 128 p) h, and-false (leb (first_of 128 p) x))
 
 -- ---- the number of an address
 
@@ -43,18 +43,18 @@ module _ (ps : ℕ → Piece) (given : ℕ) where
       go true q more = let z : j ≡ suc m = eqb-true j (suc m) q in rw z
       go false q more =
           let y = eqb-false j (suc m) q in
-          rw (before-it a (ps m) (omega (arith, above m (omega (arith, y, k)) (omega arith)))) (more (omega (arith, y, k)))
+          rw (before_it a (ps m) (omega (arith, above m (omega (arith, y, k)) (omega arith)))) (more (omega (arith, y, k)))
 
   -- none of the first j prefixes has an address past them all
-  above-all : (j c : ℕ) → ((i : ℕ) → i < j → past_of 128 (ps i) ≤ c) → (a : ℕ) → c ≤ a → number_at 128 ps given j a ≡ given
+  above_all : (j c : ℕ) → ((i : ℕ) → i < j → past_of 128 (ps i) ≤ c) → (a : ℕ) → c ≤ a → number_at 128 ps given j a ≡ given
   unfolding number_at
-  above-all zero c b a g = refl
-  above-all (suc j) c b a g = rw (past-it a (ps j) (omega (arith, b j (omega arith)))) (above-all j c (λ i q. b i (omega arith)) a g)
+  above_all zero c b a g = refl
+  above_all (suc j) c b a g = rw (past_it a (ps j) (omega (arith, b j (omega arith)))) (above_all j c (λ i q. b i (omega arith)) a g)
 
   -- the last of the first j prefixes has its addresses
-  in-last : (j a : ℕ) → first_of 128 (ps j) ≤ a → a < past_of 128 (ps j) → number_at 128 ps given (suc j) a ≡ (ps j).number
+  in_last : (j a : ℕ) → first_of 128 (ps j) ≤ a → a < past_of 128 (ps j) → number_at 128 ps given (suc j) a ≡ (ps j).number
   unfolding number_at
-  in-last j a h k = rw (held-if 128 a (ps j) h k)
+  in_last j a h k = rw (held_if 128 a (ps j) h k)
 
 -- ---- pieces
 
@@ -64,14 +64,14 @@ module _ (l : List ℕ) (given : ℕ) where
       → (a : ℕ) → first_of 128 (piece_at l j) ≤ a → a < e → numbers l given a ≡ (piece_at l j).number
   piece-record e j c q a h g =
       below-cut (piece_at l) given (count_of l) e (suc j) (count_of l) (omega arith) c.some c.above a g
-      ∙ in-last (piece_at l) given j a h (omega (arith, q, g))
+      ∙ in_last (piece_at l) given j a h (omega (arith, q, g))
 
   -- the piece below e is a gap
-  pub piece-gap : (e j from : ℕ) → Cut l e j → ((i : ℕ) → i < j → past_of 128 (piece_at l i) ≤ from)
+  pub piece_gap : (e j from : ℕ) → Cut l e j → ((i : ℕ) → i < j → past_of 128 (piece_at l i) ≤ from)
       → (a : ℕ) → from ≤ a → a < e → numbers l given a ≡ given
-  piece-gap e j from c b a h g =
+  piece_gap e j from c b a h g =
       below-cut (piece_at l) given (count_of l) e j (count_of l) (omega arith) c.some c.above a g
-      ∙ above-all (piece_at l) given j from b a h
+      ∙ above_all (piece_at l) given j from b a h
 
 module _ (l : List ℕ) (r : Rising 128 l) where
   -- below a prefix: the list is cut at its first address

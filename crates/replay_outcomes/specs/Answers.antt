@@ -7,26 +7,26 @@ use Rattle.replay_outcomes.specs.declared.Seen.TheVariants.{Same, Differs}
 use Rattle.replay_outcomes.specs.declared.Out.{Out}
 
 -- An answer of ours is its first n bytes. A byte more stands behind them; no answer has more than 40.
-abbrev pub withByte : Out → ℕ → Out
-withByte out x = cond (ltb out.n 40) (record { bytes = set out.bytes out.n x; n = out.n + 1 }) out
+abbrev pub with_byte : Out → ℕ → Out
+with_byte out x = cond (ltb out.n 40) (record { bytes = set out.bytes out.n x; n = out.n + 1 }) out
 
 -- A number more, little-endian, in so many bytes.
 unfoldable pub with_number : ℕ → Out → ℕ → Out
 with_number zero out x = out
-with_number (suc k) out x = with_number k (withByte out (x % 256)) (x / 256)
+with_number (suc k) out x = with_number k (with_byte out (x % 256)) (x / 256)
 
 -- An answer begins with a byte: the refusal's number, or 0 of a call that is done; its results come behind it.
-abbrev pub begunWith : ℕ → Out
-begunWith x = withByte (record { bytes = replicate 40 0; n = 0 }) x
+abbrev pub begun_with : ℕ → Out
+begun_with x = with_byte (record { bytes = replicate 40 0; n = 0 }) x
 
-abbrev pub seenAs : Bool → Seen
-seenAs true = Same
-seenAs false = Differs
+abbrev pub seen_as : Bool → Seen
+seen_as true = Same
+seen_as false = Differs
 
 -- Our answer beside the list's: the same, byte for byte, or not.
-abbrev pub comparedTo : Out → List ℕ → Seen
-comparedTo out answer = cond (ltb 40 out.n) Differs (seenAs (same (take out.n out.bytes) answer))
+abbrev pub compared_to : Out → List ℕ → Seen
+compared_to out answer = cond (ltb 40 out.n) Differs (seen_as (same (take out.n out.bytes) answer))
 
 -- What came of an answer, with whether a call left its output as the list has it.
-abbrev pub andLeft : Seen → Bool → Seen
-andLeft seen left = cond left seen Differs
+abbrev pub and_left : Seen → Bool → Seen
+and_left seen left = cond left seen Differs

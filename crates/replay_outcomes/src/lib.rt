@@ -1,7 +1,7 @@
 // Answers as the list of answers has them, and what came of a line: our answer beside the one that the list has. It serves the program
 // `replay_vectors` alone; no contract can say what a program prints.
 ghost use Rattle.std.specs.Prelude.{◌≡◌, ◌%◌, length};
-ghost use Rattle.replay_outcomes.specs.Answers.{withByte, with_number, begunWith, seenAs, comparedTo, andLeft};
+ghost use Rattle.replay_outcomes.specs.Answers.{with_byte, with_number, begun_with, seen_as, compared_to, and_left};
 
 // What came of a line: our answer is the list's, it is another, the line has more words or fewer than its call, or it cannot be read.
 #[derive(Drop)]
@@ -29,7 +29,7 @@ impl Out {
 
     // A byte more.
     pub fn byte(mut self, x: u8) -> Out
-        ensures { result ≡ withByte self x }
+        ensures { result ≡ with_byte self x }
     {
         let n = self.n;
         if n < 40 {
@@ -63,7 +63,7 @@ fn low(x: u64) -> u8
 
 // A refusal is its number; a call that is done, 0 and its results.
 pub fn refused(reason: u8) -> Out
-    ensures { result ≡ begunWith reason }
+    ensures { result ≡ begun_with reason }
 {
     let out = Out {
         bytes: [0; 40],
@@ -73,13 +73,13 @@ pub fn refused(reason: u8) -> Out
 }
 
 pub fn done() -> Out
-    ensures { result ≡ begunWith 0 }
+    ensures { result ≡ begun_with 0 }
 {
     refused(0)
 }
 
 fn seen_as(same: bool) -> Seen
-    ensures { result ≡ seenAs same }
+    ensures { result ≡ seen_as same }
 {
     if same {
         return Seen::Same;
@@ -89,7 +89,7 @@ fn seen_as(same: bool) -> Seen
 
 // Our answer beside the list's.
 pub fn compared(out: Out, answer: &[u8]) -> Seen
-    ensures { result ≡ comparedTo out answer.now }
+    ensures { result ≡ compared_to out answer.now }
 {
     let n = out.taken();
     let bytes = out.bytes;
@@ -101,7 +101,7 @@ pub fn compared(out: Out, answer: &[u8]) -> Seen
 
 // What a call left in an output, beside what came of its answer.
 pub fn and_left(seen: Seen, left: bool) -> Seen
-    ensures { result ≡ andLeft seen left }
+    ensures { result ≡ and_left seen left }
 {
     if left {
         return seen;

@@ -1,7 +1,7 @@
 // The words of a line of the list of answers: where a line's words lie, their bytes, and the numbers that these are. How a line's text
 // becomes such words is in the program `replay_vectors`.
 ghost use Rattle.std.specs.Prelude.{◌≡◌, ◌%◌, ◌≤◌, ◌<◌, length, drop};
-ghost use Rattle.replay_words.specs.Words.{noWords, withWord, place_of, below, number_of, between, word_of};
+ghost use Rattle.replay_words.specs.Words.{no_words, with_word, place_of, below, number_of, between, word_of};
 
 // The place of a byte at or after `from`, or the end.
 pub fn find(text: &[u8], from: usize, byte: u8) -> usize
@@ -38,7 +38,7 @@ pub struct Words {
 impl Words {
     // No words yet.
     pub fn none() -> Words
-        ensures { result ≡ noWords }
+        ensures { result ≡ no_words }
     {
         Words {
             count: 0,
@@ -50,7 +50,7 @@ impl Words {
 
     // A word more.
     pub fn with(mut self, end: WordEnd) -> Words
-        ensures { result ≡ withWord self end }
+        ensures { result ≡ with_word self end }
     {
         let n = self.count;
         let WordEnd::At(place) = end else {

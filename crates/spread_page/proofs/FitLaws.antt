@@ -12,14 +12,14 @@ use lib.ListN.{length, take, drop, get_or, length-take, get_or-eq_default}
 use lib.Seq.{get_or-take, get_or-drop}
 use Rattle.asmap_program.specs.declared.Instruction.{Instruction}
 use Rattle.asmap_program.specs.declared.Walker.{Walker}
-use Rattle.asmap_program.specs.Map.{Map, Fetched, Whole, CutOpcode, CutOperand, length_of, addressBit}
-use Rattle.asmap_program.specs.Walk.{Walked, Turn, Goes, Stops, Compared, Equal, Different, enough, meeting, compared, goOn, turnWhole, turnOn, walkFrom, walk}
-use Rattle.asmap_codes.specs.Instruction.{mapOf}
+use Rattle.asmap_program.specs.Map.{Map, Fetched, Whole, CutOpcode, CutOperand, length_of, address_bit}
+use Rattle.asmap_program.specs.Walk.{Walked, Turn, Goes, Stops, Compared, Equal, Different, enough, meeting, compared, go_on, turn_whole, turn_on, walk_from, walk}
+use Rattle.asmap_codes.specs.Instruction.{map_of}
 use Rattle.asmap_walk_bits.specs.Walk.{walk_of}
 use Rattle.asmap_records.proofs.Reading.{stands}
 use Rattle.candidate_bytes.specs.Candidate.{family, address}
-use Rattle.peer_lists.specs.Candidates.{cut, candidatesOf}
-use Rattle.netgroup.specs.Group.{Numbering, byMap, byPrefixes, byOldPrefixes, prefix4, prefix6, ipv4, prefixGroup, oldPrefixGroup, group_of}
+use Rattle.peer_lists.specs.Candidates.{cut, candidates_of}
+use Rattle.netgroup.specs.Group.{Numbering, by_map, by_prefixes, by_old_prefixes, prefix4, prefix6, ipv4, prefix_group, old_prefix_group, group_of}
 use Rattle.netgroup.proofs.PrefixLaws.{Bytes, prefix4-below, prefix6-below}
 use Rattle.pick_passes.specs.Ranked.{groups_of}
 use Rattle.group_shares.specs.models.Sorted.{Below}
@@ -36,34 +36,34 @@ unfolding enough
 small-enough true s i t h = h
 small-enough false s i t h = omega arith
 
-small-meeting : (s : Walker) (i : Instruction) (c : Compared) → s.default < 4294967296 → Small (meeting s i c)
-small-meeting s i Equal h = h
-small-meeting s i (Different u) h = h
+small_meeting : (s : Walker) (i : Instruction) (c : Compared) → s.default < 4294967296 → Small (meeting s i c)
+small_meeting s i Equal h = h
+small_meeting s i (Different u) h = h
 
-small-on : (k : Walker → Walked) → ((s : Walker) → s.default < 4294967296 → (k s).number < 4294967296) → (t : Turn) → Small t → (goOn k t).number < 4294967296
-small-on k ih (Goes i s) h = ih s h
-small-on k ih (Stops r) h = h
+small_on : (k : Walker → Walked) → ((s : Walker) → s.default < 4294967296 → (k s).number < 4294967296) → (t : Turn) → Small t → (go_on k t).number < 4294967296
+small_on k ih (Goes i s) h = ih s h
+small_on k ih (Stops r) h = h
 
 module _ (a : ℕ → ℕ) (m : Map) (law : (p : ℕ) (i : Instruction) → m.fetch p ≡ Whole i → i.operand < 4294967296) where
-  small-whole : (s : Walker) (i : Instruction) → i.operand < 4294967296 → s.default < 4294967296 → (k : ℕ) → Small (turnWhole a m s i k)
+  small-whole : (s : Walker) (i : Instruction) → i.operand < 4294967296 → s.default < 4294967296 → (k : ℕ) → Small (turn_whole a m s i k)
   small-whole s i h d zero = h
   small-whole s i h d (suc zero) = small-enough _ s i _ d
-  small-whole s i h d (suc (suc zero)) = small-enough _ s i _ (small-meeting s i (compared a (length_of i.operand) i.operand s.used) d)
+  small-whole s i h d (suc (suc zero)) = small-enough _ s i _ (small_meeting s i (compared a (length_of i.operand) i.operand s.used) d)
   small-whole s i h d (suc (suc (suc n))) = h
 
-  small-turn : (s : Walker) (r : Fetched) → m.fetch s.at ≡ r → s.default < 4294967296 → Small (turnOn a m s r)
-  small-turn s (Whole i) f d = small-whole s i (law s.at i f) d i.opcode
-  small-turn s CutOpcode f d = omega arith
-  small-turn s (CutOperand op) f d = omega arith
+  small_turn : (s : Walker) (r : Fetched) → m.fetch s.at ≡ r → s.default < 4294967296 → Small (turn_on a m s r)
+  small_turn s (Whole i) f d = small-whole s i (law s.at i f) d i.opcode
+  small_turn s CutOpcode f d = omega arith
+  small_turn s (CutOperand op) f d = omega arith
 
-  small-walk : (f : ℕ) (s : Walker) → s.default < 4294967296 → (walkFrom a m f s).number < 4294967296
-  unfolding walkFrom
-  small-walk zero s d = omega arith
-  small-walk (suc f) s d = small-on _ (λ s' e. small-walk f s' e) (turnOn a m s (m.fetch s.at)) (small-turn s (m.fetch s.at) refl d)
+  small_walk : (f : ℕ) (s : Walker) → s.default < 4294967296 → (walk_from a m f s).number < 4294967296
+  unfolding walk_from
+  small_walk zero s d = omega arith
+  small_walk (suc f) s d = small_on _ (λ s' e. small_walk f s' e) (turn_on a m s (m.fetch s.at)) (small_turn s (m.fetch s.at) refl d)
 
 walk-number : (m a : List ℕ) (w : ℕ) → (walk_of m a w).number < 4294967296
-unfolding walk_of walk mapOf
-walk-number m a w = small-walk (addressBit a) (mapOf m) (λ p i f. (stands m p i f).operand) (mapOf m).bits _ (omega arith)
+unfolding walk_of walk map_of
+walk-number m a w = small_walk (address_bit a) (map_of m) (λ p i f. (stands m p i f).operand) (map_of m).bits _ (omega arith)
 
 -- ---- a group
 
@@ -78,10 +78,10 @@ old-prefix-number false c b = omega (arith, prefix6-below c b)
 
 -- of any map, accepted or not; and of any family
 group-number : (n : Numbering) (c : List ℕ) → Bytes c → group_of n c ≤ 4295032831
-unfolding prefixGroup oldPrefixGroup
-group-number (byMap m) c b = omega (arith, walk-number m (address c) 128)
-group-number byPrefixes c b = prefix-number (ipv4 c) c b
-group-number byOldPrefixes c b = old-prefix-number (eqb (family c) 4) c b
+unfolding prefix_group old_prefix_group
+group-number (by_map m) c b = omega (arith, walk-number m (address c) 128)
+group-number by_prefixes c b = prefix-number (ipv4 c) c b
+group-number by_old_prefixes c b = old-prefix-number (eqb (family c) 4) c b
 
 -- ---- the groups of a list of candidates
 
@@ -103,5 +103,5 @@ cut_below n zero bs b = tt
 cut_below n (suc k) bs b = (group-number n (take 20 bs) (bytes_take 20 bs b), cut_below n k (drop 20 bs) (bytes_drop 20 bs b))
 
 -- the greatest group is that of 255.255.0.0/16, in the number range of IPv4 prefixes
-pub groups-below : (n : Numbering) (bs : List ℕ) → Bytes bs → Below 4295032831 (groups_of n (candidatesOf bs))
+pub groups-below : (n : Numbering) (bs : List ℕ) → Bytes bs → Below 4295032831 (groups_of n (candidates_of bs))
 groups-below n bs b = cut_below n (length bs / 20) bs b

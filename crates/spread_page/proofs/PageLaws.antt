@@ -9,11 +9,11 @@ use lib.ListN.{length, take, get_or, set}
 use lib.Seq.{take-suc, take-suc-set}
 use Rattle.peer_lists.specs.declared.Refusal.{Refusal}
 use Rattle.peer_lists.specs.declared.Refusal.TheVariants.{None, Number}
-use Rattle.peer_lists.specs.Candidates.{candidatesOf}
-use Rattle.peer_lists.specs.Refusal.{listRefusal}
-use Rattle.peer_lists.proofs.Lists.{length-candidates}
+use Rattle.peer_lists.specs.Candidates.{candidates_of}
+use Rattle.peer_lists.specs.Refusal.{list_refusal}
+use Rattle.peer_lists.proofs.Lists.{length_candidates}
 use Rattle.netgroup.specs.Group.{Numbering}
-use Rattle.netgroup.specs.Refusal.{checkRefusal}
+use Rattle.netgroup.specs.Refusal.{check_refusal}
 use Rattle.netgroup.proofs.Walked.{ended}
 use Rattle.pick_passes.specs.Ranked.{groups_of}
 use Rattle.pick_passes.proofs.Lists.{length-groups}
@@ -24,8 +24,8 @@ use Rattle.group_shares.specs.models.Runs.{runs}
 use Rattle.group_shares.specs.models.Sorted.{Arranged}
 use Rattle.group_shares.proofs.RunLaws.{arranged-spread}
 use Rattle.page_lines.specs.Line.{lines, page_of}
-use Rattle.page_lines.proofs.TellLaws.{page-tells}
-use Rattle.spread_page.specs.Page.{pageCall}
+use Rattle.page_lines.proofs.TellLaws.{page_tells}
+use Rattle.spread_page.specs.Page.{page_call}
 use Rattle.spread_page.specs.Promise.{Told, Unaborted}
 use Rattle.netgroup.proofs.PrefixLaws.{Bytes}
 use Rattle.spread_page.proofs.FitLaws.{groups-below}
@@ -40,35 +40,35 @@ found-next gs groups i g h r e f =
 -- ---- the lines of a sorted list
 
 -- gs: the groups; ys: the same, sorted
-pub sorted-page : (gs ys : List ℕ) → Arranged gs ys → length ys ≡ length gs → lines (length ys) (runs ys) ≡ page_of gs
-sorted-page gs ys a e = ap (λ (n : ℕ). lines n (runs ys)) e ∙ ap (lines (length gs)) (arranged-spread gs ys a)
+pub sorted_page : (gs ys : List ℕ) → Arranged gs ys → length ys ≡ length gs → lines (length ys) (runs ys) ≡ page_of gs
+sorted_page gs ys a e = ap (λ (n : ℕ). lines n (runs ys)) e ∙ ap (lines (length gs)) (arranged-spread gs ys a)
 
 -- what is handed back of bytes, of the same bytes
-pub hands-same : {made other : Result} {o o' : List ℕ} {r : Answer} → made ≡ other → Hands made o o' r → Hands other o o' r
-hands-same {made} {other} {o} {o'} {r} e h = subst (λ (m : Result). Hands m o o' r) e h
+pub hands_same : {made other : Result} {o o' : List ℕ} {r : Answer} → made ≡ other → Hands made o o' r → Hands other o o' r
+hands_same {made} {other} {o} {o'} {r} e h = subst (λ (m : Result). Hands m o o' r) e h
 
 -- ---- the ways out of a call
 
-module _ (ofMap : Refusal) (n : Numbering) (bytes : List ℕ) where
-  pub list-refused : (k : ℕ) → listRefusal bytes [] ≡ Number k → pageCall ofMap n bytes ≡ No k
-  list-refused k e = rw e
+module _ (of_map : Refusal) (n : Numbering) (bytes : List ℕ) where
+  pub list_refused : (k : ℕ) → list_refusal bytes [] ≡ Number k → page_call of_map n bytes ≡ No k
+  list_refused k e = rw e
 
-  pub map-refused : (k : ℕ) → listRefusal bytes [] ≡ None → ofMap ≡ Number k → pageCall ofMap n bytes ≡ No k
-  map-refused k e f = rw (e, f)
+  pub map_refused : (k : ℕ) → list_refusal bytes [] ≡ None → of_map ≡ Number k → page_call of_map n bytes ≡ No k
+  map_refused k e f = rw (e, f)
 
-  pub page-made : listRefusal bytes [] ≡ None → ofMap ≡ None → pageCall ofMap n bytes ≡ Made (page_of (groups_of n (candidatesOf bytes)))
-  page-made e f = rw (e, f)
+  pub page_made : list_refusal bytes [] ≡ None → of_map ≡ None → page_call of_map n bytes ≡ Made (page_of (groups_of n (candidates_of bytes)))
+  page_made e f = rw (e, f)
 
 -- ---- what is promised of either answer
 
-pub told-either : (n : Numbering) (bytes : List ℕ) (r : Answer) → length bytes / 20 ≤ 4096 → Bytes bytes → Told n bytes r
+pub told_either : (n : Numbering) (bytes : List ℕ) (r : Answer) → length bytes / 20 ≤ 4096 → Bytes bytes → Told n bytes r
 unfolding Told
-told-either n bytes (Wrote k) few b =
-    let all = candidatesOf bytes in
-    page-tells (groups_of n all) (omega (arith, length-groups n all, length-candidates bytes)) (groups-below n bytes b)
-told-either n bytes (Refused k) few b = tt
+told_either n bytes (Wrote k) few b =
+    let all = candidates_of bytes in
+    page_tells (groups_of n all) (omega (arith, length-groups n all, length_candidates bytes)) (groups-below n bytes b)
+told_either n bytes (Refused k) few b = tt
 
-pub unaborted-either : (n : Numbering) (bytes : List ℕ) (r : Answer) → checkRefusal n ≡ None → Unaborted n bytes r
+pub unaborted_either : (n : Numbering) (bytes : List ℕ) (r : Answer) → check_refusal n ≡ None → Unaborted n bytes r
 unfolding Unaborted
-unaborted-either n bytes (Wrote k) h = λ i l. ended n (get_or (candidatesOf bytes) i []) h
-unaborted-either n bytes (Refused k) h = tt
+unaborted_either n bytes (Wrote k) h = λ i l. ended n (get_or (candidates_of bytes) i []) h
+unaborted_either n bytes (Refused k) h = tt

@@ -4,29 +4,29 @@
 use Rattle.std.specs.Prelude.{ℕ, List, []}
 use Rattle.peer_lists.specs.declared.Refusal.{Refusal}
 use Rattle.peer_lists.specs.declared.Refusal.TheVariants.{None, Number}
-use Rattle.peer_lists.specs.Candidates.{candidatesOf}
-use Rattle.peer_lists.specs.Refusal.{or_else, listRefusal}
-use Rattle.netgroup.specs.Group.{Numbering, byOldPrefixes}
-use Rattle.netgroup.specs.Refusal.{limitRefusal, checkRefusal}
+use Rattle.peer_lists.specs.Candidates.{candidates_of}
+use Rattle.peer_lists.specs.Refusal.{or_else, list_refusal}
+use Rattle.netgroup.specs.Group.{Numbering, by_old_prefixes}
+use Rattle.netgroup.specs.Refusal.{limit_refusal, check_refusal}
 use Rattle.pick_passes.specs.Ranked.{groups_of}
 use Rattle.asmap_records.specs.Output.{Result, Made, No}
 use Rattle.page_lines.specs.Line.{page_of}
 
 -- all: the candidates
-abbrev pub pageUnless : Refusal → Numbering → List (List ℕ) → Result
-pageUnless None n all = Made (page_of (groups_of n all))
-pageUnless (Number k) n all = No k
+abbrev pub page_unless : Refusal → Numbering → List (List ℕ) → Result
+page_unless None n all = Made (page_of (groups_of n all))
+page_unless (Number k) n all = No k
 
--- ofMap: what is wrong with the map. What the output has to be long enough for is 25 bytes a group: 14, by `asmap_records/specs/Output: within`
-abbrev pub pageCall : Refusal → Numbering → List ℕ → Result
-pageCall ofMap n bytes = pageUnless (or_else (listRefusal bytes []) ofMap) n (candidatesOf bytes)
+-- of_map: what is wrong with the map. What the output has to be long enough for is 25 bytes a group: 14, by `asmap_records/specs/Output: within`
+abbrev pub page_call : Refusal → Numbering → List ℕ → Result
+page_call of_map n bytes = page_unless (or_else (list_refusal bytes []) of_map) n (candidates_of bytes)
 
-unfoldable pub spreadPage : Numbering → List ℕ → Result
-spreadPage n bytes = pageCall (checkRefusal n) n bytes
+unfoldable pub spread_page : Numbering → List ℕ → Result
+spread_page n bytes = page_call (check_refusal n) n bytes
 
-unfoldable pub spreadUnchecked : Numbering → List ℕ → Result
-spreadUnchecked n bytes = pageCall (limitRefusal n) n bytes
+unfoldable pub spread_unchecked : Numbering → List ℕ → Result
+spread_unchecked n bytes = page_call (limit_refusal n) n bytes
 
 -- "The old numbering stays callable" (document 02, CR 7)
-unfoldable pub oldPrefixPage : List ℕ → Result
-oldPrefixPage bytes = pageCall None byOldPrefixes bytes
+unfoldable pub old_prefix_page : List ℕ → Result
+old_prefix_page bytes = page_call None by_old_prefixes bytes

@@ -3,15 +3,15 @@
 // Each candidate is walked once. Its group is kept in a local array, which is sorted by bits: with 4,096 candidates that takes less time than
 // their walks (docs/BENCHMARKS.md). Nothing is written before all lines are known to fit.
 ghost use Rattle.std.specs.Prelude.{◌≡◌, [], ◌/◌, ◌≤◌, length, take};
-ghost use Rattle.peer_lists.specs.Candidates.{candidatesOf};
-ghost use Rattle.peer_lists.specs.Refusal.{listRefusal};
-ghost use Rattle.netgroup.specs.Group.{byOldPrefixes, numbering};
-ghost use Rattle.netgroup.specs.Refusal.{limitRefusal, checkRefusal};
+ghost use Rattle.peer_lists.specs.Candidates.{candidates_of};
+ghost use Rattle.peer_lists.specs.Refusal.{list_refusal};
+ghost use Rattle.netgroup.specs.Group.{by_old_prefixes, numbering};
+ghost use Rattle.netgroup.specs.Refusal.{limit_refusal, check_refusal};
 ghost use Rattle.pick_passes.specs.Ranked.{groups_of};
 ghost use Rattle.asmap_records.specs.Output.{Hands, Result};
 ghost use Rattle.group_shares.specs.models.Runs.{runs};
 ghost use Rattle.page_lines.specs.Line.{lines, page_of};
-ghost use Rattle.spread_page.specs.Page.{spreadPage, spreadUnchecked, oldPrefixPage};
+ghost use Rattle.spread_page.specs.Page.{spread_page, spread_unchecked, old_prefix_page};
 ghost use Rattle.spread_page.specs.Promise.{Told, Unaborted};
 
 use asmap_records::Answer;
@@ -28,7 +28,7 @@ fn no_groups() -> [u64; 4096]
 
 // Why a list of candidates is refused: 13 for the length, 12, 13. No group is occupied.
 fn candidates_refusal(candidates: &[u8]) -> Refusal
-    ensures { result ≡ listRefusal candidates.now [] }
+    ensures { result ≡ list_refusal candidates.now [] }
 {
     let occupied = [0u64; 1];
     peer_lists::list_refusal(candidates, &occupied[..0])
@@ -36,8 +36,8 @@ fn candidates_refusal(candidates: &[u8]) -> Refusal
 
 // The groups of candidates, in their order, at the front of a room for them.
 fn find_groups(candidates: &[u8], grouping: Grouping, map: &[u8], groups: &mut [u64])
-    requires { (length candidates.now / 20 ≤ length groups.old) × (limitRefusal (numbering grouping map.now) ≡ Refusal.None) }
-    ensures { take (length candidates.now / 20) groups.new ≡ groups_of (numbering grouping map.now) (candidatesOf candidates.now) }
+    requires { (length candidates.now / 20 ≤ length groups.old) × (limit_refusal (numbering grouping map.now) ≡ Refusal.None) }
+    ensures { take (length candidates.now / 20) groups.new ≡ groups_of (numbering grouping map.now) (candidates_of candidates.now) }
 {
     let n = candidates.len() / 20;
     let mut i: usize = 0;
@@ -72,8 +72,8 @@ fn sort_page(groups: &mut [u64], spare: &mut [u64], out: &mut [u8]) -> Answer
 
 // The page of candidates that are not refused, with a map that is within the limit. Refusal 14.
 fn make_page(candidates: &[u8], grouping: Grouping, map: &[u8], out: &mut [u8]) -> Answer
-    requires { (length candidates.now / 20 ≤ 4096) × (limitRefusal (numbering grouping map.now) ≡ Refusal.None) }
-    ensures { Hands (Result.Made (page_of (groups_of (numbering grouping map.now) (candidatesOf candidates.now)))) out.old out.new result }
+    requires { (length candidates.now / 20 ≤ 4096) × (limit_refusal (numbering grouping map.now) ≡ Refusal.None) }
+    ensures { Hands (Result.Made (page_of (groups_of (numbering grouping map.now) (candidates_of candidates.now)))) out.old out.new result }
 {
     let mut groups = no_groups();
     let mut spare = no_groups();
@@ -85,9 +85,9 @@ fn make_page(candidates: &[u8], grouping: Grouping, map: &[u8], out: &mut [u8]) 
 // The page over a map taken as it is, for callers who checked it when they loaded it. Refusals 13, 12, 13, with a map 1, then 14; a refusal
 // writes nothing. Of a map that the check refuses a walk may abort: its candidate is counted for group 0 then.
 pub fn page_unchecked(candidates: &[u8], grouping: Grouping, map: &[u8], out: &mut [u8]) -> Answer
-    ensures hands { Hands (spreadUnchecked (numbering grouping map.now) candidates.now) out.old out.new result }
+    ensures hands { Hands (spread_unchecked (numbering grouping map.now) candidates.now) out.old out.new result }
     ensures told { Told (numbering grouping map.now) candidates.now result }
-    ensures unaborted { checkRefusal (numbering grouping map.now) ≡ Refusal.None → Unaborted (numbering grouping map.now) candidates.now result }
+    ensures unaborted { check_refusal (numbering grouping map.now) ≡ Refusal.None → Unaborted (numbering grouping map.now) candidates.now result }
 {
     let listed = candidates_refusal(candidates);
     if let Refusal::Number(number) = listed {
@@ -103,7 +103,7 @@ pub fn page_unchecked(candidates: &[u8], grouping: Grouping, map: &[u8], out: &m
 // The page of a list of candidates, with a map or none: a line of 25 bytes for each group, groups rising. 25 bytes for each candidate are
 // always enough. Refusals 13, 12, 13, with a map the check's, 1 to 10 and 19, then 14; a refusal writes nothing.
 pub fn page(candidates: &[u8], grouping: Grouping, map: &[u8], out: &mut [u8]) -> Answer
-    ensures hands { Hands (spreadPage (numbering grouping map.now) candidates.now) out.old out.new result }
+    ensures hands { Hands (spread_page (numbering grouping map.now) candidates.now) out.old out.new result }
     ensures told { Told (numbering grouping map.now) candidates.now result }
     ensures unaborted { Unaborted (numbering grouping map.now) candidates.now result }
 {
@@ -120,8 +120,8 @@ pub fn page(candidates: &[u8], grouping: Grouping, map: &[u8], out: &mut [u8]) -
 
 // The page without a map in the old numbering, for callers who keep such groups. Refusals 13, 12, 13, 14 in this order; a refusal writes nothing.
 pub fn old_prefix_page(candidates: &[u8], out: &mut [u8]) -> Answer
-    ensures hands { Hands (oldPrefixPage candidates.now) out.old out.new result }
-    ensures told { Told byOldPrefixes candidates.now result }
+    ensures hands { Hands (old_prefix_page candidates.now) out.old out.new result }
+    ensures told { Told by_old_prefixes candidates.now result }
 {
     let no_map = [0u8; 1];
     page_unchecked(candidates, Grouping::OldPrefixes, &no_map[..0], out)

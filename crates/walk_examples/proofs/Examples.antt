@@ -4,20 +4,20 @@ use Prim.Native.Nat.{ℕ}
 use mathlib.Core.Path.{◌≡◌, refl}
 use mathlib.Core.List.{List, map}
 use Rattle.asmap_program.specs.declared.Verdict.{Verdict}
-use Rattle.asmap_program.specs.Map.{lengthIn, length_of}
-use Rattle.asmap_program.specs.Check.{stopOf}
-use Rattle.asmap_program.specs.Walk.{compared, enough, walkFrom, walk}
-use Rattle.asmap_codes.specs.Instruction.{fetchAt, mapOf}
-use Rattle.asmap_check.specs.Check.{checkOf}
+use Rattle.asmap_program.specs.Map.{length_in, length_of}
+use Rattle.asmap_program.specs.Check.{stop_of}
+use Rattle.asmap_program.specs.Walk.{compared, enough, walk_from, walk}
+use Rattle.asmap_codes.specs.Instruction.{fetch_at, map_of}
+use Rattle.asmap_check.specs.Check.{check_of}
 use Rattle.asmap_check.specs.Examples.{examples}
-use Rattle.asmap_check.proofs.Examples.{examples-hold}
+use Rattle.asmap_check.proofs.Examples.{examples_hold}
 use Rattle.asmap_walk_bits.specs.Walk.{walk_of}
 use Rattle.walk_examples.specs.Walks.{pairs, walks, computed, expected}
 
 all-walks : map computed walks ≡ map expected walks
-unfolding walk_of walk walkFrom compared enough mapOf fetchAt length_of lengthIn pairs
+unfolding walk_of walk walk_from compared enough map_of fetch_at length_of length_in pairs
 all-walks = refl
 
-pub together : (map {B = Verdict × ℕ} (λ (e : List ℕ × (Verdict × ℕ)). (checkOf e.0 128, stopOf (mapOf e.0) 128)) examples ≡ map {B = Verdict × ℕ} (λ (e : List ℕ × (Verdict × ℕ)). e.1) examples)
+pub together : (map {B = Verdict × ℕ} (λ (e : List ℕ × (Verdict × ℕ)). (check_of e.0 128, stop_of (map_of e.0) 128)) examples ≡ map {B = Verdict × ℕ} (λ (e : List ℕ × (Verdict × ℕ)). e.1) examples)
     × (map computed walks ≡ map expected walks)
-together = (examples-hold, all-walks)
+together = (examples_hold, all-walks)

@@ -4,8 +4,8 @@
 use Rattle.std.specs.Prelude.{ℕ, zero, suc, List, [], ◌∷◌}
 use Rattle.asmap_program.specs.declared.Kind.{Kind}
 use Rattle.asmap_program.specs.declared.Kind.TheVariants.{Returned, Differed, OpcodeCut, OperandCut}
-use Rattle.asmap_program.specs.Map.{ipv4Mapped}
-use Rattle.asmap_walk.specs.Interpret.{interpretOf}
+use Rattle.asmap_program.specs.Map.{ipv4_mapped}
+use Rattle.asmap_walk.specs.Interpret.{interpret_of}
 use Rattle.asmap_walk.specs.declared.Interpreted.{Interpreted}
 use Rattle.asmap_walk.specs.declared.Interpreted.TheVariants.{Ended}
 
@@ -21,8 +21,8 @@ pub record Example : Type 0 where
 abbrev pub zeros : List ℕ
 zeros = 0x00 ∷ 0x00 ∷ 0x00 ∷ 0x00 ∷ 0x00 ∷ 0x00 ∷ 0x00 ∷ 0x00 ∷ 0x00 ∷ 0x00 ∷ 0x00 ∷ 0x00 ∷ 0x00 ∷ 0x00 ∷ 0x00 ∷ 0x00 ∷ []
 
-abbrev pub twoPrefix : List ℕ
-twoPrefix = 0xfb ∷ 0x03 ∷ 0xec ∷ 0x0f ∷ 0xb0 ∷ 0x3f ∷ 0xc0 ∷ 0xfe ∷ 0x00 ∷ 0xfb ∷ 0x03 ∷ 0xec ∷ 0x0f ∷ 0xb0 ∷ 0x3f ∷ 0xc0 ∷ 0xfe ∷ 0x00 ∷ 0xfb ∷ 0x03 ∷ 0xec ∷ 0x0f ∷ 0xb0 ∷ 0xff ∷ 0xff ∷ 0xfe ∷ 0xff ∷ 0xfb ∷ 0x80 ∷ 0x00 ∷ 0x00 ∷ 0x00 ∷ 0x00 ∷ 0x00 ∷ 0x01 ∷ []
+abbrev pub two_prefix : List ℕ
+two_prefix = 0xfb ∷ 0x03 ∷ 0xec ∷ 0x0f ∷ 0xb0 ∷ 0x3f ∷ 0xc0 ∷ 0xfe ∷ 0x00 ∷ 0xfb ∷ 0x03 ∷ 0xec ∷ 0x0f ∷ 0xb0 ∷ 0x3f ∷ 0xc0 ∷ 0xfe ∷ 0x00 ∷ 0xfb ∷ 0x03 ∷ 0xec ∷ 0x0f ∷ 0xb0 ∷ 0xff ∷ 0xff ∷ 0xfe ∷ 0xff ∷ 0xfb ∷ 0x80 ∷ 0x00 ∷ 0x00 ∷ 0x00 ∷ 0x00 ∷ 0x00 ∷ 0x01 ∷ []
 
 -- n times DEFAULT 1 and a MATCH of one bit, 0, then RETURN 1
 unfoldable pub pairs : ℕ → List ℕ
@@ -35,15 +35,15 @@ walks =
     ∷ record { bytes = 0x8b ∷ []; address = zeros; kind = OpcodeCut; number = 0; count = 1; bits = 2 }
     ∷ record { bytes = 0xfb ∷ []; address = zeros; kind = OperandCut; number = 0; count = 0; bits = 0 }
     ∷ record { bytes = 0x00 ∷ 0x00 ∷ 0x00 ∷ []; address = zeros; kind = Returned; number = 1; count = 1; bits = 0 }
-    ∷ record { bytes = twoPrefix; address = ipv4Mapped (1 ∷ 2 ∷ 0 ∷ 0 ∷ []); kind = Returned; number = 1; count = 15; bits = 103 }
-    ∷ record { bytes = twoPrefix; address = ipv4Mapped (3 ∷ 4 ∷ 0 ∷ 0 ∷ []); kind = Returned; number = 2; count = 15; bits = 103 }
-    ∷ record { bytes = twoPrefix; address = ipv4Mapped (8 ∷ 8 ∷ 8 ∷ 8 ∷ []); kind = Differed; number = 0; count = 13; bits = 101 }
+    ∷ record { bytes = two_prefix; address = ipv4_mapped (1 ∷ 2 ∷ 0 ∷ 0 ∷ []); kind = Returned; number = 1; count = 15; bits = 103 }
+    ∷ record { bytes = two_prefix; address = ipv4_mapped (3 ∷ 4 ∷ 0 ∷ 0 ∷ []); kind = Returned; number = 2; count = 15; bits = 103 }
+    ∷ record { bytes = two_prefix; address = ipv4_mapped (8 ∷ 8 ∷ 8 ∷ 8 ∷ []); kind = Differed; number = 0; count = 13; bits = 101 }
     ∷ record { bytes = pairs 128; address = zeros; kind = Returned; number = 1; count = 257; bits = 128 }
     ∷ []
 
 -- what the definition hands back, and what the list says
 abbrev pub computed : Example → Interpreted
-computed x = interpretOf x.bytes x.address
+computed x = interpret_of x.bytes x.address
 
 abbrev pub expected : Example → Interpreted
 expected x = Ended (record { kind = x.kind; number = x.number; count = x.count; bits = x.bits })

@@ -1,7 +1,7 @@
 -- By the two cases of what was got.
 -- Assumes nothing.
 use Rattle.answer_outcome.specs.Outcome.{handed}
-use Rattle.answer_codes.specs.Codes.{codeRead}
+use Rattle.answer_codes.specs.Codes.{code_read}
 use borrow.Author.Rules.{rules}
 use Rattle.answer_codes.proofs.hand_code.Statement.{statement}
 use Rattle.answer_codes.proofs.hand_code.Tie as tie
@@ -13,11 +13,11 @@ enum-known-got-2 : tie.Need-enum-known-got-2
 enum-known-got-2 c = search rules
 
 returns : tie.Need-returns
-unfolding handed codeRead
+unfolding handed code_read
 returns c = rw c.before.got.given.1
 
 returns-2 : tie.Need-returns-2
-unfolding handed codeRead
+unfolding handed code_read
 returns-2 c = rw c.before.got2.given.1
 
 pub hand-code-spec : {M : Type 1} → statement M

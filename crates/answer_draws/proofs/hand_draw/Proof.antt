@@ -1,7 +1,7 @@
 -- By the two cases of what was got.
 -- Assumes nothing.
 use Rattle.answer_outcome.specs.Outcome.{handed}
-use Rattle.answer_draws.specs.Draws.{numberDrawn}
+use Rattle.answer_draws.specs.Draws.{number_drawn}
 use borrow.Author.Rules.{rules}
 use Rattle.answer_draws.proofs.hand_draw.Statement.{statement}
 use Rattle.answer_draws.proofs.hand_draw.Tie as tie
@@ -13,11 +13,11 @@ enum-known-got-2 : tie.Need-enum-known-got-2
 enum-known-got-2 c = search rules
 
 returns : tie.Need-returns
-unfolding handed numberDrawn
+unfolding handed number_drawn
 returns c = rw c.before.got.given.1
 
 returns-2 : tie.Need-returns-2
-unfolding handed numberDrawn
+unfolding handed number_drawn
 returns-2 c = rw c.before.got2.given.1
 
 pub hand-draw-spec : {M : Type 1} → statement M

@@ -4,17 +4,17 @@ use Prim.Native.Nat.{ℕ, zero, suc}
 use mathlib.Core.Path.{◌≡◌, refl}
 use mathlib.Core.Logic.{◌≢◌}
 use Rattle.netgroup.specs.declared.Grouping.TheVariants.{Map}
-use Rattle.answer_groups.specs.Groups.{groupingOf}
+use Rattle.answer_groups.specs.Groups.{grouping_of}
 use Rattle.answer_groups.proofs.grouping_of.Statement.{statement}
 use Rattle.answer_groups.proofs.grouping_of.Tie as tie
 
-with-map : (n : ℕ) → n ≢ 0 → Map ≡ groupingOf n
-unfolding groupingOf
+with-map : (n : ℕ) → n ≢ 0 → Map ≡ grouping_of n
+unfolding grouping_of
 with-map zero h = absurd (h refl)
 with-map (suc n) h = refl
 
 returns : tie.Need-returns
-unfolding groupingOf
+unfolding grouping_of
 returns c = rw c.if1.true
 
 returns-2 : tie.Need-returns-2

@@ -1,7 +1,7 @@
 -- By the two cases of what was got.
 -- Assumes nothing.
 use Rattle.answer_outcome.specs.Outcome.{handed}
-use Rattle.answer_groups.specs.Groups.{groupFound}
+use Rattle.answer_groups.specs.Groups.{group_found}
 use borrow.Author.Rules.{rules}
 use Rattle.answer_groups.proofs.hand_group.Statement.{statement}
 use Rattle.answer_groups.proofs.hand_group.Tie as tie
@@ -13,11 +13,11 @@ enum-known-got-2 : tie.Need-enum-known-got-2
 enum-known-got-2 c = search rules
 
 returns : tie.Need-returns
-unfolding handed groupFound
+unfolding handed group_found
 returns c = rw c.before.got.given.1
 
 returns-2 : tie.Need-returns-2
-unfolding handed groupFound
+unfolding handed group_found
 returns-2 c = rw c.before.got2.given.1
 
 pub hand-group-spec : {M : Type 1} → statement M

@@ -1,7 +1,7 @@
 -- By the two cases of what was got.
 -- Assumes nothing.
 use Rattle.answer_outcome.specs.Outcome.{handed}
-use Rattle.answer_groups.specs.Groups.{pickMade}
+use Rattle.answer_groups.specs.Groups.{pick_made}
 use borrow.Author.Rules.{rules}
 use Rattle.answer_groups.proofs.hand_pick.Statement.{statement}
 use Rattle.answer_groups.proofs.hand_pick.Tie as tie
@@ -13,11 +13,11 @@ enum-known-got-2 : tie.Need-enum-known-got-2
 enum-known-got-2 c = search rules
 
 returns : tie.Need-returns
-unfolding handed pickMade
+unfolding handed pick_made
 returns c = rw c.before.got.given.1
 
 returns-2 : tie.Need-returns-2
-unfolding handed pickMade
+unfolding handed pick_made
 returns-2 c = rw c.before.got2.given.1
 
 pub hand-pick-spec : {M : Type 1} → statement M

@@ -1,12 +1,12 @@
--- All bits are equal (same_low), or those at the front (front_same) and not the next (front-differs).
+-- All bits are equal (same_low), or those at the front (front_same) and not the next (front_differs).
 -- Assumes nothing.
 use native.Mathlib.Omega.{arith}
 use mathlib.Core.Path.{◌≡◌, ◌∙◌, sym, ap}
 use Prim.Native.Nat.{◌+◌, ◌-◌, ◌%◌, ◌^◌}
 use borrow.Author.Rules.{rules}
 use borrow.Author.Tests.{eqb-true}
-use Rattle.asmap_program.specs.Map.{addressBit}
-use Rattle.asmap_address.proofs.AddressLaws.{same_low, front_same, front-differs}
+use Rattle.asmap_program.specs.Map.{address_bit}
+use Rattle.asmap_address.proofs.AddressLaws.{same_low, front_same, front_differs}
 use Rattle.asmap_address.proofs.equal_front.Statement.{statement}
 use Rattle.asmap_address.proofs.equal_front.Tie as tie
 
@@ -40,7 +40,7 @@ returns-2 c =
       same = λ k h l. sym (front_same y.result a.operand a.n r.result r.ensures.1 k h l) ∙ y.ensures k h;
       differs = λ h e.
           let z : a.at + (a.n - 1 - (a.n - 1 - r.result)) ≡ a.at + r.result = omega arith in
-          front-differs y.result a.operand a.n r.result r.ensures.1 h (y.ensures (a.n - 1 - r.result) (omega arith) ∙ ap (addressBit a.address.now) z ∙ sym e);
+          front_differs y.result a.operand a.n r.result r.ensures.1 h (y.ensures (a.n - 1 - r.result) (omega arith) ∙ ap (address_bit a.address.now) z ∙ sym e);
     }
 
 pub equal-front-spec : {M : Type 1} → statement M

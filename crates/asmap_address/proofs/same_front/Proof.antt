@@ -1,4 +1,4 @@
--- What differs of n bits is at most n wide (width-most).
+-- What differs of n bits is at most n wide (width_most).
 -- Assumes nothing.
 use native.Mathlib.Omega.{arith}
 use native.Mathlib.Nat.{mod-lt}
@@ -7,7 +7,7 @@ use Prim.Native.Nat.{ℕ, ◌-◌, ◌%◌, ◌^◌, ◌≤◌}
 use lib.Bits.{bit_xor}
 use lib.Pow.{pow_pos}
 use Rattle.asmap_program.specs.Map.{Width}
-use Rattle.asmap_address.proofs.AddressLaws.{width-most}
+use Rattle.asmap_address.proofs.AddressLaws.{width_most}
 use borrow.Author.Rules.{rules}
 use Rattle.asmap_address.proofs.same_front.Statement.{statement}
 use Rattle.asmap_address.proofs.same_front.Tie as tie
@@ -21,7 +21,7 @@ wide c =
 most : (c : tie.After-bit-width) → c.bit-width.result ≤ c.before.before.args.n
 most c =
     let s = c.before.before.args in
-    width-most _ s.n _ (wide c) (mod-lt (bit_xor s.a s.b) (pow_pos s.n))
+    width_most _ s.n _ (wide c) (mod-lt (bit_xor s.a s.b) (pow_pos s.n))
 
 power-requires : tie.Need-power-requires
 power-requires c κs = search rules

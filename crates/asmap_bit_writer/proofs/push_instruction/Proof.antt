@@ -1,10 +1,10 @@
--- `asmap_bit_writer::push_instruction` meets its contract: the word that is pushed holds the instruction's bits (written-some), and an
--- instruction in range is not refused (written-never). Assumes nothing.
+-- `asmap_bit_writer::push_instruction` meets its contract: the word that is pushed holds the instruction's bits (written_some), and an
+-- instruction in range is not refused (written_never). Assumes nothing.
 use borrow.Author.Rules.{rules}
 use mathlib.Core.Path.{◌∙◌, sym}
 use native.Mathlib.Omega.{arith}
 use Rattle.asmap_bit_writer.proofs.WriterLaws.{moved_as}
-use Rattle.asmap_bit_writer.proofs.WrittenLaws.{Holding, written-some, written-never}
+use Rattle.asmap_bit_writer.proofs.WrittenLaws.{Holding, written_some, written_never}
 use Rattle.asmap_bit_writer.proofs.push_instruction.Statement.{statement}
 use Rattle.asmap_bit_writer.proofs.push_instruction.Tie as tie
 
@@ -20,11 +20,11 @@ enum_told c = search rules
 returns : tie.Need-returns
 returns c =
     let s = c.before.before.before.before in
-    absurd (written-never s.args.opcode s.args.operand _ s.requires.1 (sym c.before.before.encode-instruction.ensures ∙ c.enum_told.given.1))
+    absurd (written_never s.args.opcode s.args.operand _ s.requires.1 (sym c.before.before.encode-instruction.ensures ∙ c.enum_told.given.1))
 
 -- the word that was written
 the_word : (c : tie.After-known-told) → Holding c.before.before.before.before.before.args.opcode c.before.before.before.before.before.args.operand c.before.written.given.0.0
-the_word c = written-some _ _ c.before.written.given.0.0 (sym c.before.before.before.encode-instruction.ensures ∙ c.before.written.given.1)
+the_word c = written_some _ _ c.before.written.given.0.0 (sym c.before.before.before.encode-instruction.ensures ∙ c.before.written.given.1)
 
 push-word-requires : tie.Need-push-word-requires
 push-word-requires c κs =

@@ -1,5 +1,5 @@
 -- `asmap_bit_writer::push_word` meets its contract: the word is put above the bits held (stream-push), and 64 bits go out
--- (stream-full); what will be written in the end stays the same. Assumes nothing.
+-- (stream_full); what will be written in the end stays the same. Assumes nothing.
 use borrow.Author.Rules.{rules}
 use mathlib.Core.Path.{◌∙◌, refl, sym, ap}
 use mathlib.Core.List.{List, ◌++◌}
@@ -9,10 +9,10 @@ use lib.ListN.{length}
 use lib.Seq.{sets}
 use Rattle.asmap_codes.specs.Bits.{low}
 use Rattle.asmap_codes.proofs.BitLaws.{length-low}
-use Rattle.asmap_encode.proofs.WordLaws.{shifted, window-lt}
+use Rattle.asmap_encode.proofs.WordLaws.{shifted, window_lt}
 use Rattle.asmap_bit_writer.specs.Bytes.{bytes_of}
 use Rattle.asmap_bit_writer.specs.models.Stream.{stream}
-use Rattle.asmap_bit_writer.proofs.WriterLaws.{stream-push, stream-full, shifted_fits, rest_lt, length-put}
+use Rattle.asmap_bit_writer.proofs.WriterLaws.{stream-push, stream_full, shifted_fits, rest_lt, length-put}
 use Rattle.asmap_bit_writer.proofs.push_word.Statement.{statement}
 use Rattle.asmap_bit_writer.proofs.push_word.Tie as tie
 
@@ -38,7 +38,7 @@ returns c =
     let p = c.before.before.before.before.before.requires in
     let e = shifted x.bits x.len w.held p.1 (omega arith) in
     rw e record {
-      ready = record { small = window-lt w.bits w.held x.bits x.len p.0.small p.1; short = c.if1.true };
+      ready = record { small = window_lt w.bits w.held x.bits x.len p.0.small p.1; short = c.if1.true };
       placed = omega (arith, length-low x.len x.bits);
       kept = refl;
       streams = λ rest. stream-push o w.place w.held x.len w.bits x.bits rest p.0.small;
@@ -75,7 +75,7 @@ returns-2 c =
       placed = omega (arith, h, length-low x.len x.bits);
       kept = ap length e ∙ length-put 8 o w.place (w.bits + x.bits * 2 ^ w.held % 2 ^ 64);
       streams = λ rest.
-          stream-full x.bits w.held f o w.place x.len w.bits rest p.0.small h
+          stream_full x.bits w.held f o w.place x.len w.bits rest p.0.small h
           ∙ ap (λ (y : List ℕ). sets y (w.place + 8) (bytes_of (low (w.held + x.len - 64) (x.bits / 2 ^ (64 - w.held)) ++ rest))) (sym e);
     }
 

@@ -4,13 +4,13 @@ use mathlib.Core.Path.{◌≡◌, ◌∙◌, refl, sym, ap}
 use Prim.Native.Nat.{ℕ, suc, ◌+◌, ◌-◌, ◌%◌, ◌≤◌}
 use native.Mathlib.Omega.{arith}
 use lib.ListN.{length, length-set}
-use Rattle.asmap_bit_writer.specs.models.Stream.{putBytes}
+use Rattle.asmap_bit_writer.specs.models.Stream.{put_bytes}
 use Rattle.asmap_bit_writer.proofs.put_bytes.Statement.{statement}
 use Rattle.asmap_bit_writer.proofs.put_bytes.Tie as tie
 
 abbrev invariant-loop : tie.invariant-loop
 invariant-loop out₀ from number count place₀ bits₀ left₀ out place bits left =
-    (place + left ≤ length out) × (length out ≡ length out₀) × (putBytes count out₀ from number ≡ putBytes left out place bits)
+    (place + left ≤ length out) × (length out ≡ length out₀) × (put_bytes count out₀ from number ≡ put_bytes left out place bits)
 
 abbrev decreases-loop : tie.decreases-loop
 decreases-loop out₀ from number count place₀ bits₀ left₀ out place bits left = left
@@ -38,7 +38,7 @@ loop-again c =
     let l = c.before.loop in
     let k = length-set l.out l.place (l.bits % 256) in
     let e : l.left ≡ suc (l.left - 1) = omega arith in
-    (omega (arith, k, l.invariant.0), k ∙ l.invariant.1, l.invariant.2 ∙ ap (λ (n : ℕ). putBytes n l.out l.place l.bits) e)
+    (omega (arith, k, l.invariant.0), k ∙ l.invariant.1, l.invariant.2 ∙ ap (λ (n : ℕ). put_bytes n l.out l.place l.bits) e)
 
 same_length : tie.Need-same-length invariant-loop decreases-loop
 same_length c = c.before.loop.invariant.1
@@ -47,7 +47,7 @@ returns : tie.Need-returns invariant-loop decreases-loop
 returns c =
     let l = c.before.loop in
     let z : l.left ≡ 0 = omega arith in
-    sym (l.invariant.2 ∙ ap (λ (n : ℕ). putBytes n l.out l.place l.bits) z)
+    sym (l.invariant.2 ∙ ap (λ (n : ℕ). put_bytes n l.out l.place l.bits) z)
 
 pub put-bytes-spec : {M : Type 1} → statement M
 put-bytes-spec =

@@ -15,9 +15,9 @@ unfoldable pub stream : List ℕ → BitWriter → List ℕ → List ℕ
 stream o w rest = sets o w.place (bytes_of (low w.held w.bits ++ rest))
 
 -- The output o with n bytes of the number a from place p on, the lowest first.
-abbrev pub putBytes : ℕ → List ℕ → ℕ → ℕ → List ℕ
-putBytes zero o p a = o
-putBytes (suc n) o p a = putBytes n (set o p (a % 256)) (p + 1) (a / 256)
+abbrev pub put_bytes : ℕ → List ℕ → ℕ → ℕ → List ℕ
+put_bytes zero o p a = o
+put_bytes (suc n) o p a = put_bytes n (set o p (a % 256)) (p + 1) (a / 256)
 
 -- Bits were pushed to the writer w, of the output o: the writer w' and the output o' after it. What comes later stands where it
 -- would have stood after the bits.

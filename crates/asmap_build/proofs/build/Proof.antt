@@ -3,8 +3,8 @@ use borrow.Author.Rules.{rules}
 use mathlib.Core.Path.{◌∙◌, sym}
 use native.Mathlib.Omega.{arith}
 use Rattle.asmap_program.proofs.Widths.{narrow}
-use Rattle.asmap_records.proofs.OutputLaws.{hands-at, hands-no-width}
-use Rattle.asmap_build.specs.Build.{buildOf}
+use Rattle.asmap_records.proofs.OutputLaws.{hands_at, hands_no_width}
+use Rattle.asmap_build.specs.Build.{build_of}
 use Rattle.asmap_build.proofs.CallLaws.{refused_none}
 use Rattle.asmap_build.proofs.build.Statement.{statement}
 use Rattle.asmap_build.proofs.build.Tie as tie
@@ -24,14 +24,14 @@ same_length c = search rules
 returns : tie.Need-returns
 returns c =
     let a = c.before.before.before.before.before.before.before.before.args in (
-      hands-at a.width (buildOf a.records.now a.given a.width) a.out.now _ _ (sym c.before.before.before.before.before.is-width.ensures ∙ c.before.before.before.before.if1.true) c.before.before.build-over.ensures.0,
+      hands_at a.width (build_of a.records.now a.given a.width) a.out.now _ _ (sym c.before.before.before.before.before.is-width.ensures ∙ c.before.before.before.before.if1.true) c.before.before.build-over.ensures.0,
       c.before.before.build-over.ensures.1,
     )
 
 returns-2 : tie.Need-returns-2
 returns-2 c =
     let a = c.before.before.before.before.args in (
-      hands-no-width a.width (buildOf a.records.now a.given a.width) a.out.now (sym c.before.is-width.ensures ∙ c.if1.false),
+      hands_no_width a.width (build_of a.records.now a.given a.width) a.out.now (sym c.before.is-width.ensures ∙ c.if1.false),
       refused_none a.records.now a.given a.width a.out.now 18,
     )
 

@@ -10,10 +10,10 @@ use lib.Seq.{sets}
 use Rattle.asmap_bit_writer.specs.Bytes.{bytes_of}
 use Rattle.asmap_records.specs.Output.{Hands}
 use Rattle.asmap_records.specs.declared.Answer.{Answer}
-use Rattle.asmap_build.specs.Build.{treeBits}
+use Rattle.asmap_build.specs.Build.{tree_bits}
 use Rattle.asmap_build.specs.declared.Size.{Size}
 use Rattle.asmap_build.specs.models.Size.{Sized, WriteReady, Filled}
-use Rattle.asmap_build.proofs.CallLaws.{made, hands-over, hands-no-room, hands-bits}
+use Rattle.asmap_build.proofs.CallLaws.{made, hands_over, hands_no_room, hands-bits}
 use Rattle.asmap_build.proofs.build_listed.Statement.{statement}
 use Rattle.asmap_build.proofs.build_listed.Tie as tie
 
@@ -33,7 +33,7 @@ unwritten : {bits o o' : List ℕ} {r : Answer} → Filled false bits o o' → H
 unwritten {bits} {o} {o'} {r} f h = subst (λ (x : List ℕ). Hands (made bits o) o x r) (sym (f.idle refl)) h
 
 pass-requires : tie.Need-pass-requires
-pass-requires c κs = let a = c.before.before.before.args in (c.before.before.before.requires.0, c.before.before.before.requires.1, to-count (treeBits a.records.now a.given 128) a.out.now)
+pass-requires c κs = let a = c.before.before.before.args in (c.before.before.before.requires.0, c.before.before.before.requires.1, to-count (tree_bits a.records.now a.given 128) a.out.now)
 
 enum-known-total : tie.Need-enum-known-total
 enum-known-total c = search rules
@@ -47,13 +47,13 @@ same_length c = search rules
 returns : tie.Need-returns
 returns c =
     let a = c.before.before.before.before.before.before.before.before.args in
-    let bits = treeBits a.records.now a.given 128 in
-    unwritten c.before.before.before.before.pass.ensures.1 (hands-over bits a.out.now (sized bits c.enum_told.given.1 c.before.before.before.before.pass.ensures.0))
+    let bits = tree_bits a.records.now a.given 128 in
+    unwritten c.before.before.before.before.pass.ensures.1 (hands_over bits a.out.now (sized bits c.enum_told.given.1 c.before.before.before.before.pass.ensures.0))
 
 -- how many bits the first pass counted
 counted : (c : tie.After-known-told) → let a = c.before.before.before.before.before.before.before.before.before.args in
-    (c.before.total.given.0.0 ≡ length (treeBits a.records.now a.given 128)) × (length (treeBits a.records.now a.given 128) ≤ 134217728)
-counted c = let a = c.before.before.before.before.before.before.before.before.before.args in sized (treeBits a.records.now a.given 128) c.before.total.given.1 c.before.before.before.before.before.pass.ensures.0
+    (c.before.total.given.0.0 ≡ length (tree_bits a.records.now a.given 128)) × (length (tree_bits a.records.now a.given 128) ≤ 134217728)
+counted c = let a = c.before.before.before.before.before.before.before.before.before.args in sized (tree_bits a.records.now a.given 128) c.before.total.given.1 c.before.before.before.before.before.pass.ensures.0
 
 add-bytes : tie.Need-overflow-add-bytes
 add-bytes c = let k = counted c in record { fits = omega (arith, k.0, k.1) }
@@ -64,10 +64,10 @@ same-length-2 c = search rules
 returns-2 : tie.Need-returns-2
 returns-2 c =
     let a = c.before.before.before.before.before.before.before.before.before.before.args in
-    let bits = treeBits a.records.now a.given 128 in
+    let bits = tree_bits a.records.now a.given 128 in
     let k = counted c.before in
     let l = ap length (c.before.before.before.before.before.before.pass.ensures.1.idle refl) in
-    unwritten c.before.before.before.before.before.before.pass.ensures.1 (hands-no-room bits a.out.now _ k.1 (ap (λ (x : ℕ). (x + 7) / 8) k.0) (omega (arith, c.if1.true, l)))
+    unwritten c.before.before.before.before.before.before.pass.ensures.1 (hands_no_room bits a.out.now _ k.1 (ap (λ (x : ℕ). (x + 7) / 8) k.0) (omega (arith, c.if1.true, l)))
 
 pass-requires-2 : tie.Need-pass-requires-2
 pass-requires-2 c κs =
@@ -81,7 +81,7 @@ same-length-3 c = search rules
 returns-3 : tie.Need-returns-3
 returns-3 c =
     let a = c.before.before.before.before.before.before.before.before.before.before.before.before.before.before.args in
-    let bits = treeBits a.records.now a.given 128 in
+    let bits = tree_bits a.records.now a.given 128 in
     let k = counted c.before.before.before.before.before in
     let e = c.before.before.before.before.before.before.before.before.before.before.pass.ensures.1.idle refl in
     let l = ap length e in

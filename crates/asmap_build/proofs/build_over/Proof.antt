@@ -4,8 +4,8 @@ use mathlib.Core.Path.{◌≡◌, ◌∙◌, sym}
 use native.Mathlib.Omega.{arith}
 use Rattle.prefix_lists.specs.List.{judge}
 use Rattle.prefix_lists.specs.declared.Judged.TheVariants as judged
-use Rattle.prefix_lists.proofs.ListLaws.{judged-rising, rising-wider}
-use Rattle.asmap_build.proofs.CallLaws.{build-refused, build-listed}
+use Rattle.prefix_lists.proofs.ListLaws.{judged_rising, rising_wider}
+use Rattle.asmap_build.proofs.CallLaws.{build_refused, build_listed_lem}
 use Rattle.asmap_build.proofs.build_over.Statement.{statement}
 use Rattle.asmap_build.proofs.build_over.Tie as tie
 
@@ -25,13 +25,13 @@ fine c = sym c.before.before.judge-list.ensures ∙ c.enum_told.given.1
 build-listed-requires : tie.Need-build-listed-requires
 build-listed-requires c κs =
     let a = c.before.before.before.before.before.before.args in
-    let r = judged-rising a.bits a.records.now a.given (λ i. omega (arith, c.before.before.before.before.before.shared-slice-known.given i)) (fine c.before) in
-    (rising-wider c.before.before.before.before.before.before.requires r.0, r.1)
+    let r = judged_rising a.bits a.records.now a.given (λ i. omega (arith, c.before.before.before.before.before.shared-slice-known.given i)) (fine c.before) in
+    (rising_wider c.before.before.before.before.before.before.requires r.0, r.1)
 
 returns : tie.Need-returns
 returns c =
     let a = c.before.before.before.before.before.before.args in
-    build-refused a.records.now a.given a.bits a.out.now c.before.reason.given.0.0 (sym c.before.before.before.judge-list.ensures ∙ c.before.reason.given.1)
+    build_refused a.records.now a.given a.bits a.out.now c.before.reason.given.0.0 (sym c.before.before.before.judge-list.ensures ∙ c.before.reason.given.1)
 
 same_length : tie.Need-same-length
 same_length c = search rules
@@ -39,7 +39,7 @@ same_length c = search rules
 returns-2 : tie.Need-returns-2
 returns-2 c =
     let a = c.before.before.before.before.before.before.before.before.before.args in
-    build-listed a.records.now a.given a.bits a.out.now c.before.before.before.before.before.before.before.before.before.requires (λ i. omega (arith, c.before.before.before.before.before.before.before.before.shared-slice-known.given i)) (fine c.before.before.before.before) _ _ c.before.before.build-listed.ensures
+    build_listed_lem a.records.now a.given a.bits a.out.now c.before.before.before.before.before.before.before.before.before.requires (λ i. omega (arith, c.before.before.before.before.before.before.before.before.shared-slice-known.given i)) (fine c.before.before.before.before) _ _ c.before.before.build_listed_lem.ensures
 
 pub build-over-spec : {M : Type 1} → statement M
 build-over-spec =

@@ -11,9 +11,9 @@ use Rattle.prefix_runs.specs.models.Runs.{Cut}
 use Rattle.tree_turns.specs.declared.Turn.{Turn}
 use Rattle.tree_turns.specs.models.Turns.{TurnOf}
 use Rattle.asmap_build.specs.Build.{number_in}
-use Rattle.asmap_build.proofs.BuildLaws.{number-at}
+use Rattle.asmap_build.proofs.BuildLaws.{number_at_lem}
 use Rattle.asmap_build.proofs.Passing.{Passing, starting}
-use Rattle.asmap_build.proofs.Turns.{left, turn-deep, turn-down, less-down, return-ready, turn-return, less-return, over-return, close-note, close-ready, turn-close, less-close, over-close, cross-run, turn-cross, less-cross, over-filled, turn_end}
+use Rattle.asmap_build.proofs.Turns.{left, turn_deep, turn-down, less-down, return_ready, turn-return, less-return, over-return, close_note, close_ready, turn_close, less_close, over_close, cross-run, turn_cross, less_cross, over_filled, turn_end}
 use Rattle.asmap_build.proofs.pass.Statement.{statement}
 use Rattle.asmap_build.proofs.pass.Tie as tie
 
@@ -25,7 +25,7 @@ abbrev K : List ℕ → ℕ → ℕ → Type 0
 K R = Cut R
 
 nums : (R : List ℕ) (g : ℕ) → Rising 128 R → Number g → (a : ℕ) → Number (F R g a)
-nums R g h k = number-at 128 (piece_at R) g (count_of R) h.numbers k
+nums R g h k = number_at_lem 128 (piece_at R) g (count_of R) h.numbers k
 
 small : 128 ≤ 128
 small = omega arith
@@ -79,8 +79,8 @@ one-half-requires : tie.Need-one-half-requires invariant-loop decreases-loop
 one-half-requires c κs =
     let a = c.before.before.before.before.before.before.before.before.before.before.args in
     let l = c.before.before.before.before.loop in
-    let t = shows l.todo (value_of l.first) l.depth (value_of l.run.first) c.enum_told.given.1 c.before.before.turn-of.ensures in
-    turn-deep (F a.records.now a.given) (K a.records.now) 128 small (nums a.records.now a.given c.before.before.before.before.before.before.before.before.before.before.requires.0 c.before.before.before.before.before.before.before.before.before.before.requires.1) l.invariant t.0 t.1
+    let t = shows l.todo (value_of l.first) l.depth (value_of l.run.first) c.enum_told.given.1 c.before.before.turn_of.ensures in
+    turn_deep (F a.records.now a.given) (K a.records.now) 128 small (nums a.records.now a.given c.before.before.before.before.before.before.before.before.before.before.requires.0 c.before.before.before.before.before.before.before.before.before.before.requires.1) l.invariant t.0 t.1
 
 add-depth : tie.Need-overflow-add-depth invariant-loop decreases-loop
 add-depth c = omega (arith, c.before.before.before.before.before.loop.invariant.deep)
@@ -89,7 +89,7 @@ loop-less : tie.Need-loop-smaller invariant-loop decreases-loop
 loop-less c =
     let a = c.before.before.before.before.before.before.before.before.before.before.before.args in
     let l = c.before.before.before.before.before.loop in
-    let t = shows l.todo (value_of l.first) l.depth (value_of l.run.first) c.before.enum_told.given.1 c.before.before.before.turn-of.ensures in
+    let t = shows l.todo (value_of l.first) l.depth (value_of l.run.first) c.before.enum_told.given.1 c.before.before.before.turn_of.ensures in
     less-down (F a.records.now a.given) (K a.records.now) 128 small (nums a.records.now a.given c.before.before.before.before.before.before.before.before.before.before.before.requires.0 c.before.before.before.before.before.before.before.before.before.before.before.requires.1) l.invariant t.0 t.1 (value_of c.one-half.result)
     (c.one-half.ensures ∙ lower l.depth (value_of l.first))
 
@@ -97,7 +97,7 @@ loop-again : tie.Need-loop-preserved invariant-loop decreases-loop
 loop-again c =
     let a = c.before.before.before.before.before.before.before.before.before.before.before.args in
     let l = c.before.before.before.before.before.loop in
-    let t = shows l.todo (value_of l.first) l.depth (value_of l.run.first) c.before.enum_told.given.1 c.before.before.before.turn-of.ensures in
+    let t = shows l.todo (value_of l.first) l.depth (value_of l.run.first) c.before.enum_told.given.1 c.before.before.before.turn_of.ensures in
     turn-down (F a.records.now a.given) (K a.records.now) 128 small (nums a.records.now a.given c.before.before.before.before.before.before.before.before.before.before.before.requires.0 c.before.before.before.before.before.before.before.before.before.before.before.requires.1) l.invariant t.0 t.1 (value_of c.one-half.result)
     (c.one-half.ensures ∙ lower l.depth (value_of l.first))
 
@@ -108,8 +108,8 @@ put-before-requires : tie.Need-put-before-requires invariant-loop decreases-loop
 put-before-requires c κs =
     let a = c.before.before.before.before.before.before.before.before.before.before.before.args in
     let l = c.before.before.before.before.before.loop in
-    let t = shows l.todo (value_of l.first) l.depth (value_of l.run.first) c.before.enum-told2.given.1 c.before.before.before.turn-of.ensures in
-    return-ready (F a.records.now a.given) (K a.records.now) 128 small (nums a.records.now a.given c.before.before.before.before.before.before.before.before.before.before.before.requires.0 c.before.before.before.before.before.before.before.before.before.before.before.requires.1) l.invariant t.0 t.1
+    let t = shows l.todo (value_of l.first) l.depth (value_of l.run.first) c.before.enum-told2.given.1 c.before.before.before.turn_of.ensures in
+    return_ready (F a.records.now a.given) (K a.records.now) 128 small (nums a.records.now a.given c.before.before.before.before.before.before.before.before.before.before.before.requires.0 c.before.before.before.before.before.before.before.before.before.before.before.requires.1) l.invariant t.0 t.1
 
 same_length : tie.Need-same-length invariant-loop decreases-loop
 same_length c = c.before.before.before.before.put-before.ensures.kept ∙ c.before.before.before.before.before.before.before.before.before.before.loop.invariant.kept
@@ -118,24 +118,24 @@ returns : tie.Need-returns invariant-loop decreases-loop
 returns c =
     let a = c.before.before.before.before.before.before.before.before.before.before.before.before.before.before.before.before.args in
     let l = c.before.before.before.before.before.before.before.before.before.before.loop in
-    let t = shows l.todo (value_of l.first) l.depth (value_of l.run.first) c.before.before.before.before.before.before.enum-told2.given.1 c.before.before.before.before.before.before.before.before.turn-of.ensures in
+    let t = shows l.todo (value_of l.first) l.depth (value_of l.run.first) c.before.before.before.before.before.before.enum-told2.given.1 c.before.before.before.before.before.before.before.before.turn_of.ensures in
     let m = c.before.before.before.before.put-before.ensures in
     let n = nums a.records.now a.given c.before.before.before.before.before.before.before.before.before.before.before.before.before.before.before.before.requires.0 c.before.before.before.before.before.before.before.before.before.before.before.before.before.before.before.before.requires.1 in
     let o = over-return (F a.records.now a.given) (K a.records.now) 128 small n l.invariant t.0 t.1 m c.if1.true in
-    (o, over-filled (F a.records.now a.given) (K a.records.now) 128 small n l.invariant c.before.before.before.before.before.before.before.before.before.before.before.before.before.before.before.before.requires.2 o m.idle)
+    (o, over_filled (F a.records.now a.given) (K a.records.now) 128 small n l.invariant c.before.before.before.before.before.before.before.before.before.before.before.before.before.before.before.before.requires.2 o m.idle)
 
 loop-less-2 : tie.Need-loop-smaller-2 invariant-loop decreases-loop
 loop-less-2 c =
     let a = c.before.before.before.before.before.before.before.before.before.before.before.before.before.before.before.before.args in
     let l = c.before.before.before.before.before.before.before.before.before.before.loop in
-    let t = shows l.todo (value_of l.first) l.depth (value_of l.run.first) c.before.before.before.before.before.before.enum-told2.given.1 c.before.before.before.before.before.before.before.before.turn-of.ensures in
+    let t = shows l.todo (value_of l.first) l.depth (value_of l.run.first) c.before.before.before.before.before.before.enum-told2.given.1 c.before.before.before.before.before.before.before.before.turn_of.ensures in
     less-return (F a.records.now a.given) (K a.records.now) 128 small (nums a.records.now a.given c.before.before.before.before.before.before.before.before.before.before.before.before.before.before.before.before.requires.0 c.before.before.before.before.before.before.before.before.before.before.before.before.before.before.before.before.requires.1) l.invariant t.0
 
 loop-again-2 : tie.Need-loop-preserved-2 invariant-loop decreases-loop
 loop-again-2 c =
     let a = c.before.before.before.before.before.before.before.before.before.before.before.before.before.before.before.before.args in
     let l = c.before.before.before.before.before.before.before.before.before.before.loop in
-    let t = shows l.todo (value_of l.first) l.depth (value_of l.run.first) c.before.before.before.before.before.before.enum-told2.given.1 c.before.before.before.before.before.before.before.before.turn-of.ensures in
+    let t = shows l.todo (value_of l.first) l.depth (value_of l.run.first) c.before.before.before.before.before.before.enum-told2.given.1 c.before.before.before.before.before.before.before.before.turn_of.ensures in
     turn-return (F a.records.now a.given) (K a.records.now) 128 small (nums a.records.now a.given c.before.before.before.before.before.before.before.before.before.before.before.before.before.before.before.before.requires.0 c.before.before.before.before.before.before.before.before.before.before.before.before.before.before.before.before.requires.1) l.invariant t.0 t.1 c.before.before.before.before.put-before.ensures (omega (arith, c.if1.false))
 
 enum-told-3 : tie.Need-enum-told-3 invariant-loop decreases-loop
@@ -151,8 +151,8 @@ sub-over : tie.Need-overflow-sub-over invariant-loop decreases-loop
 sub-over c =
     let a = c.before.before.before.before.before.before.before.before.before.before.before.args in
     let l = c.before.before.before.before.before.loop in
-    let t = shows l.todo (value_of l.first) l.depth (value_of l.run.first) c.before.enum-told3.given.1 c.before.before.before.turn-of.ensures in
-    (close-note (F a.records.now a.given) (K a.records.now) 128 small (nums a.records.now a.given c.before.before.before.before.before.before.before.before.before.before.before.requires.0 c.before.before.before.before.before.before.before.before.before.before.before.requires.1) l.invariant t.0 (omega (arith, t.0, c.before.before.before.before.loop-test.true))).0
+    let t = shows l.todo (value_of l.first) l.depth (value_of l.run.first) c.before.enum-told3.given.1 c.before.before.before.turn_of.ensures in
+    (close_note (F a.records.now a.given) (K a.records.now) 128 small (nums a.records.now a.given c.before.before.before.before.before.before.before.before.before.before.before.requires.0 c.before.before.before.before.before.before.before.before.before.before.before.requires.1) l.invariant t.0 (omega (arith, t.0, c.before.before.before.before.loop-test.true))).0
 
 cast-over : tie.Need-overflow-cast-over invariant-loop decreases-loop
 cast-over c = omega (arith, c.before.before.before.before.before.loop.invariant.counted, c.before.before.before.before.before.loop.invariant.few)
@@ -161,8 +161,8 @@ put-before-requires-2 : tie.Need-put-before-requires-2 invariant-loop decreases-
 put-before-requires-2 c κs =
     let a = c.before.before.before.before.before.before.before.before.before.before.before.before.args in
     let l = c.before.before.before.before.before.before.loop in
-    let t = shows l.todo (value_of l.first) l.depth (value_of l.run.first) c.before.before.enum-told3.given.1 c.before.before.before.before.turn-of.ensures in
-    close-ready (F a.records.now a.given) (K a.records.now) 128 small (nums a.records.now a.given c.before.before.before.before.before.before.before.before.before.before.before.before.requires.0 c.before.before.before.before.before.before.before.before.before.before.before.before.requires.1) l.invariant t.0 (omega (arith, t.0, c.before.before.before.before.before.loop-test.true)) t.1
+    let t = shows l.todo (value_of l.first) l.depth (value_of l.run.first) c.before.before.enum-told3.given.1 c.before.before.before.before.turn_of.ensures in
+    close_ready (F a.records.now a.given) (K a.records.now) 128 small (nums a.records.now a.given c.before.before.before.before.before.before.before.before.before.before.before.before.requires.0 c.before.before.before.before.before.before.before.before.before.before.before.before.requires.1) l.invariant t.0 (omega (arith, t.0, c.before.before.before.before.before.loop-test.true)) t.1
 
 same-length-2 : tie.Need-same-length-2 invariant-loop decreases-loop
 same-length-2 c = c.before.before.before.before.put-before2.ensures.kept ∙ c.before.before.before.before.before.before.before.before.before.before.before.loop.invariant.kept
@@ -171,31 +171,31 @@ returns-2 : tie.Need-returns-2 invariant-loop decreases-loop
 returns-2 c =
     let a = c.before.before.before.before.before.before.before.before.before.before.before.before.before.before.before.before.before.args in
     let l = c.before.before.before.before.before.before.before.before.before.before.before.loop in
-    let t = shows l.todo (value_of l.first) l.depth (value_of l.run.first) c.before.before.before.before.before.before.before.enum-told3.given.1 c.before.before.before.before.before.before.before.before.before.turn-of.ensures in
+    let t = shows l.todo (value_of l.first) l.depth (value_of l.run.first) c.before.before.before.before.before.before.before.enum-told3.given.1 c.before.before.before.before.before.before.before.before.before.turn_of.ensures in
     let m = c.before.before.before.before.put-before2.ensures in
     let n = nums a.records.now a.given c.before.before.before.before.before.before.before.before.before.before.before.before.before.before.before.before.before.requires.0 c.before.before.before.before.before.before.before.before.before.before.before.before.before.before.before.before.before.requires.1 in
-    let o = over-close (F a.records.now a.given) (K a.records.now) 128 small n l.invariant t.0 (omega (arith, t.0, c.before.before.before.before.before.before.before.before.before.before.loop-test.true)) t.1 m c.if2.true in
-    (o, over-filled (F a.records.now a.given) (K a.records.now) 128 small n l.invariant c.before.before.before.before.before.before.before.before.before.before.before.before.before.before.before.before.before.requires.2 o m.idle)
+    let o = over_close (F a.records.now a.given) (K a.records.now) 128 small n l.invariant t.0 (omega (arith, t.0, c.before.before.before.before.before.before.before.before.before.before.loop-test.true)) t.1 m c.if2.true in
+    (o, over_filled (F a.records.now a.given) (K a.records.now) 128 small n l.invariant c.before.before.before.before.before.before.before.before.before.before.before.before.before.before.before.before.before.requires.2 o m.idle)
 
 sub-depth : tie.Need-overflow-sub-depth invariant-loop decreases-loop
 sub-depth c =
     let l = c.before.before.before.before.before.before.before.before.before.before.before.loop in
-    let t = shows l.todo (value_of l.first) l.depth (value_of l.run.first) c.before.before.before.before.before.before.before.enum-told3.given.1 c.before.before.before.before.before.before.before.before.before.turn-of.ensures in
+    let t = shows l.todo (value_of l.first) l.depth (value_of l.run.first) c.before.before.before.before.before.before.before.enum-told3.given.1 c.before.before.before.before.before.before.before.before.before.turn_of.ensures in
     omega (arith, t.0, c.before.before.before.before.before.before.before.before.before.before.loop-test.true)
 
 loop-less-3 : tie.Need-loop-smaller-3 invariant-loop decreases-loop
 loop-less-3 c =
     let a = c.before.before.before.before.before.before.before.before.before.before.before.before.before.before.before.before.before.args in
     let l = c.before.before.before.before.before.before.before.before.before.before.before.loop in
-    let t = shows l.todo (value_of l.first) l.depth (value_of l.run.first) c.before.before.before.before.before.before.before.enum-told3.given.1 c.before.before.before.before.before.before.before.before.before.turn-of.ensures in
-    less-close (F a.records.now a.given) (K a.records.now) 128 small (nums a.records.now a.given c.before.before.before.before.before.before.before.before.before.before.before.before.before.before.before.before.before.requires.0 c.before.before.before.before.before.before.before.before.before.before.before.before.before.before.before.before.before.requires.1) l.invariant t.0 (omega (arith, t.0, c.before.before.before.before.before.before.before.before.before.before.loop-test.true))
+    let t = shows l.todo (value_of l.first) l.depth (value_of l.run.first) c.before.before.before.before.before.before.before.enum-told3.given.1 c.before.before.before.before.before.before.before.before.before.turn_of.ensures in
+    less_close (F a.records.now a.given) (K a.records.now) 128 small (nums a.records.now a.given c.before.before.before.before.before.before.before.before.before.before.before.before.before.before.before.before.before.requires.0 c.before.before.before.before.before.before.before.before.before.before.before.before.before.before.before.before.before.requires.1) l.invariant t.0 (omega (arith, t.0, c.before.before.before.before.before.before.before.before.before.before.loop-test.true))
 
 loop-again-3 : tie.Need-loop-preserved-3 invariant-loop decreases-loop
 loop-again-3 c =
     let a = c.before.before.before.before.before.before.before.before.before.before.before.before.before.before.before.before.before.args in
     let l = c.before.before.before.before.before.before.before.before.before.before.before.loop in
-    let t = shows l.todo (value_of l.first) l.depth (value_of l.run.first) c.before.before.before.before.before.before.before.enum-told3.given.1 c.before.before.before.before.before.before.before.before.before.turn-of.ensures in
-    turn-close (F a.records.now a.given) (K a.records.now) 128 small (nums a.records.now a.given c.before.before.before.before.before.before.before.before.before.before.before.before.before.before.before.before.before.requires.0 c.before.before.before.before.before.before.before.before.before.before.before.before.before.before.before.before.before.requires.1) l.invariant t.0 (omega (arith, t.0, c.before.before.before.before.before.before.before.before.before.before.loop-test.true)) t.1 c.before.before.before.before.put-before2.ensures (omega (arith, c.if2.false))
+    let t = shows l.todo (value_of l.first) l.depth (value_of l.run.first) c.before.before.before.before.before.before.before.enum-told3.given.1 c.before.before.before.before.before.before.before.before.before.turn_of.ensures in
+    turn_close (F a.records.now a.given) (K a.records.now) 128 small (nums a.records.now a.given c.before.before.before.before.before.before.before.before.before.before.before.before.before.before.before.before.before.requires.0 c.before.before.before.before.before.before.before.before.before.before.before.before.before.before.before.before.before.requires.1) l.invariant t.0 (omega (arith, t.0, c.before.before.before.before.before.before.before.before.before.before.loop-test.true)) t.1 c.before.before.before.before.put-before2.ensures (omega (arith, c.if2.false))
 
 enum-told-4 : tie.Need-enum-told-4 invariant-loop decreases-loop
 enum-told-4 c = search rules
@@ -210,29 +210,29 @@ run-before-requires : tie.Need-run-before-requires invariant-loop decreases-loop
 run-before-requires c κs =
     let a = c.before.before.before.before.before.before.before.before.before.before.args in
     let l = c.before.before.before.before.loop in
-    let t = shows l.todo (value_of l.first) l.depth (value_of l.run.first) c.enum-told4.given.1 c.before.before.turn-of.ensures in
+    let t = shows l.todo (value_of l.first) l.depth (value_of l.run.first) c.enum-told4.given.1 c.before.before.turn_of.ensures in
     let r = cross-run (F a.records.now a.given) (K a.records.now) 128 small (nums a.records.now a.given c.before.before.before.before.before.before.before.before.before.before.requires.0 c.before.before.before.before.before.before.before.before.before.before.requires.1) l.invariant t.0 (omega (arith, t.0, c.before.before.before.loop-test.true)) t.1 in
     (c.before.before.before.before.before.before.before.before.before.before.requires.0, r.0, r.1, r.2)
 
 zero-half-requires : tie.Need-zero-half-requires invariant-loop decreases-loop
 zero-half-requires c κs =
     let l = c.before.before.before.before.before.loop in
-    let t = shows l.todo (value_of l.first) l.depth (value_of l.run.first) c.before.enum-told4.given.1 c.before.before.before.turn-of.ensures in
+    let t = shows l.todo (value_of l.first) l.depth (value_of l.run.first) c.before.enum-told4.given.1 c.before.before.before.turn_of.ensures in
     (omega (arith, t.0, c.before.before.before.before.loop-test.true), c.before.before.before.before.before.loop.invariant.deep, t.1)
 
 loop-less-4 : tie.Need-loop-smaller-4 invariant-loop decreases-loop
 loop-less-4 c =
     let a = c.before.before.before.before.before.before.before.before.before.before.before.before.args in
     let l = c.before.before.before.before.before.before.loop in
-    let t = shows l.todo (value_of l.first) l.depth (value_of l.run.first) c.before.before.enum-told4.given.1 c.before.before.before.before.turn-of.ensures in
-    less-cross (F a.records.now a.given) (K a.records.now) 128 small (nums a.records.now a.given c.before.before.before.before.before.before.before.before.before.before.before.before.requires.0 c.before.before.before.before.before.before.before.before.before.before.before.before.requires.1) l.invariant t.0 (omega (arith, t.0, c.before.before.before.before.before.loop-test.true)) t.1 (value_of c.zero-half.result) c.zero-half.ensures
+    let t = shows l.todo (value_of l.first) l.depth (value_of l.run.first) c.before.before.enum-told4.given.1 c.before.before.before.before.turn_of.ensures in
+    less_cross (F a.records.now a.given) (K a.records.now) 128 small (nums a.records.now a.given c.before.before.before.before.before.before.before.before.before.before.before.before.requires.0 c.before.before.before.before.before.before.before.before.before.before.before.before.requires.1) l.invariant t.0 (omega (arith, t.0, c.before.before.before.before.before.loop-test.true)) t.1 (value_of c.zero_half_lem.result) c.zero_half_lem.ensures
 
 loop-again-4 : tie.Need-loop-preserved-4 invariant-loop decreases-loop
 loop-again-4 c =
     let a = c.before.before.before.before.before.before.before.before.before.before.before.before.args in
     let l = c.before.before.before.before.before.before.loop in
-    let t = shows l.todo (value_of l.first) l.depth (value_of l.run.first) c.before.before.enum-told4.given.1 c.before.before.before.before.turn-of.ensures in
-    turn-cross (F a.records.now a.given) (K a.records.now) 128 small (nums a.records.now a.given c.before.before.before.before.before.before.before.before.before.before.before.before.requires.0 c.before.before.before.before.before.before.before.before.before.before.before.before.requires.1) l.invariant t.0 (omega (arith, t.0, c.before.before.before.before.before.loop-test.true)) t.1 c.before.run-before.ensures.0 c.before.run-before.ensures.1 (value_of c.zero-half.result) c.zero-half.ensures
+    let t = shows l.todo (value_of l.first) l.depth (value_of l.run.first) c.before.before.enum-told4.given.1 c.before.before.before.before.turn_of.ensures in
+    turn_cross (F a.records.now a.given) (K a.records.now) 128 small (nums a.records.now a.given c.before.before.before.before.before.before.before.before.before.before.before.before.requires.0 c.before.before.before.before.before.before.before.before.before.before.before.before.requires.1) l.invariant t.0 (omega (arith, t.0, c.before.before.before.before.before.loop-test.true)) t.1 c.before.run-before.ensures.0 c.before.run-before.ensures.1 (value_of c.zero_half_lem.result) c.zero_half_lem.ensures
 
 same-length-3 : tie.Need-same-length-3 invariant-loop decreases-loop
 same-length-3 c = c.before.loop.invariant.kept

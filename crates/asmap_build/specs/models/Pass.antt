@@ -2,7 +2,7 @@
 -- Assumes nothing.
 use Rattle.std.specs.Prelude.{ℕ, zero, suc, ◌-◌, ◌/◌, ◌%◌, List, ◌++◌, eqb, length, get_or}
 use Rattle.asmap_program.specs.Map.{JUMP}
-use Rattle.asmap_codes.specs.Encode.{pickBits, instructionBits}
+use Rattle.asmap_codes.specs.Encode.{pick_bits, instruction_bits}
 use Rattle.asmap_shapes.specs.Shape.{shape, bits_of}
 
 module _ (f : ℕ → ℕ) (w : ℕ) where
@@ -17,6 +17,6 @@ module _ (f : ℕ → ℕ) (w : ℕ) where
   whole starts zero p behind = behind
   whole starts (suc d) p behind =
       whole starts d (p / 2)
-      (pickBits (eqb (p % 2) 0)
-      (instructionBits JUMP (length behind - get_or starts (suc d) 0) ++ behind)
-      (instructionBits JUMP (length (beside (suc d) p)) ++ (beside (suc d) p ++ behind)))
+      (pick_bits (eqb (p % 2) 0)
+      (instruction_bits JUMP (length behind - get_or starts (suc d) 0) ++ behind)
+      (instruction_bits JUMP (length (beside (suc d) p)) ++ (beside (suc d) p ++ behind)))

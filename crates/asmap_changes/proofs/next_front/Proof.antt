@@ -4,7 +4,7 @@ use borrow.Author.Rules.{rules}
 use mathlib.Core.Path.{◌≡◌, subst}
 use Rattle.asmap_list_step.specs.models.Step.{Passed}
 use Rattle.asmap_list_step.specs.declared.Next.{Next}
-use Rattle.asmap_changes.proofs.PairLaws.{coming-length, coming-front, coming-over}
+use Rattle.asmap_changes.proofs.PairLaws.{coming-length, coming_front, coming_over}
 use Rattle.asmap_changes.proofs.next_front.Statement.{statement}
 use Rattle.asmap_changes.proofs.next_front.Tie as tie
 
@@ -30,7 +30,7 @@ same-length-2 : tie.Need-same-length-2
 same-length-2 c = search rules
 
 returns : tie.Need-returns
-returns c = λ lo ps k. coming-over k (passed c.before.before.before.before.before.before _ c.enum_told.given.1)
+returns c = λ lo ps k. coming_over k (passed c.before.before.before.before.before.before _ c.enum_told.given.1)
 
 front-at-requires : tie.Need-front-at-requires
 front-at-requires c κs = coming-length c.before.before.before.before.before.before.before.before.before.before.before.before.before.requires.1.coming (passed c.before.before.before.before.before.before.before _ c.before.got.given.1)
@@ -42,7 +42,7 @@ same-length-4 : tie.Need-same-length-4
 same-length-4 c = search rules
 
 returns-2 : tie.Need-returns-2
-returns-2 c = λ lo ps k. coming-front k _ (passed c.before.before.before.before.before.before.before.before _ c.before.before.got.given.1) c.front_at.ensures
+returns-2 c = λ lo ps k. coming_front k _ (passed c.before.before.before.before.before.before.before.before _ c.before.before.got.given.1) c.front_at.ensures
 
 pub next-front-spec : {M : Type 1} → statement M
 next-front-spec =

@@ -1,12 +1,12 @@
 -- `asmap_changes::note` meets its contract.
 -- Assumes nothing.
 use borrow.Author.Rules.{rules}
-use Rattle.asmap_changes.proofs.NoteLaws.{noted-same, noted_other}
+use Rattle.asmap_changes.proofs.NoteLaws.{noted_same, noted_other}
 use Rattle.asmap_changes.proofs.note.Statement.{statement}
 use Rattle.asmap_changes.proofs.note.Tie as tie
 
 returns : tie.Need-returns
-returns c = noted-same c.before.before.before.before.args.writes c.before.before.before.before.args.o c.before.before.before.before.args.n c.before.before.before.before.args.found _ c.if1.true
+returns c = noted_same c.before.before.before.before.args.writes c.before.before.before.before.args.o c.before.before.before.before.args.n c.before.before.before.before.args.found _ c.if1.true
 
 shared-requires : tie.Need-shared-requires
 shared-requires c κs = search rules

@@ -7,7 +7,7 @@ use mathlib.Core.List.{List}
 use Rattle.prefix_records.specs.Tiling.{Piece}
 use Rattle.asmap_changes.specs.declared.Ahead.{Ahead}
 use Rattle.asmap_changes.specs.models.Side.{Coming, Fronted}
-use Rattle.asmap_changes.proofs.MergeLaws.{start-at, first-of, no_old, no-new}
+use Rattle.asmap_changes.proofs.MergeLaws.{start_at, first_of, no_old, no_new}
 use Rattle.asmap_changes.proofs.put_changes.Statement.{statement}
 use Rattle.asmap_changes.proofs.put_changes.Tie as tie
 
@@ -40,7 +40,7 @@ slice-aggregate-next-front-2 : tie.Need-slice-aggregate-next-front-2
 slice-aggregate-next-front-2 c = search rules
 
 next-front-requires : tie.Need-next-front-requires
-next-front-requires c κs = (c.before.before.before.before.before.before.before.before.before.before.requires.0.within, record { lo = _; pieces = _; coming = (start-at c.before.before.before.before.before.before.before.before.before.before.args.old.now _ _ _ c.before.before.before.before.before.before.before.before.before.before.requires.0 c.before.before.before.before.before.before.stack-bits.ensures c.before.before.before.before.before.stack-numbers.ensures c.before.before.start.ensures) })
+next-front-requires c κs = (c.before.before.before.before.before.before.before.before.before.before.requires.0.within, record { lo = _; pieces = _; coming = (start_at c.before.before.before.before.before.before.before.before.before.before.args.old.now _ _ _ c.before.before.before.before.before.before.before.before.before.before.requires.0 c.before.before.before.before.before.before.stack-bits.ensures c.before.before.before.before.before.stack-numbers.ensures c.before.before.start.ensures) })
 
 enum-known-first-old : tie.Need-enum-known-first-old
 enum-known-first-old c = search rules
@@ -52,7 +52,7 @@ nothing-requires : tie.Need-nothing-requires
 nothing-requires c κs = search rules
 
 returns : tie.Need-returns
-returns c = no_old c.before.before.before.before.before.before.before.before.before.before.before.before.before.before.before.before.args.old.now c.before.before.before.before.before.before.before.before.before.before.before.before.before.before.before.before.args.new.now _ _ _ (fronted-1 c.before.before.before.before.before _ c.before.enum_told.given.1 _ _ (start-at c.before.before.before.before.before.before.before.before.before.before.before.before.before.before.before.before.args.old.now _ _ _ c.before.before.before.before.before.before.before.before.before.before.before.before.before.before.before.before.requires.0 c.before.before.before.before.before.before.before.before.before.before.before.before.stack-bits.ensures c.before.before.before.before.before.before.before.before.before.before.before.stack-numbers.ensures c.before.before.before.before.before.before.before.before.start.ensures)) c.nothing.ensures
+returns c = no_old c.before.before.before.before.before.before.before.before.before.before.before.before.before.before.before.before.args.old.now c.before.before.before.before.before.before.before.before.before.before.before.before.before.before.before.before.args.new.now _ _ _ (fronted-1 c.before.before.before.before.before _ c.before.enum_told.given.1 _ _ (start_at c.before.before.before.before.before.before.before.before.before.before.before.before.before.before.before.before.args.old.now _ _ _ c.before.before.before.before.before.before.before.before.before.before.before.before.before.before.before.before.requires.0 c.before.before.before.before.before.before.before.before.before.before.before.before.stack-bits.ensures c.before.before.before.before.before.before.before.before.before.before.before.stack-numbers.ensures c.before.before.before.before.before.before.before.before.start.ensures)) c.nothing.ensures
 
 slice-aggregate-next-front-3 : tie.Need-slice-aggregate-next-front-3
 slice-aggregate-next-front-3 c = search rules
@@ -61,7 +61,7 @@ slice-aggregate-next-front-4 : tie.Need-slice-aggregate-next-front-4
 slice-aggregate-next-front-4 c = search rules
 
 next-front-requires-2 : tie.Need-next-front-requires-2
-next-front-requires-2 c κs = (c.before.before.before.before.before.before.before.before.before.before.before.before.before.before.before.before.before.before.requires.1.within, record { lo = _; pieces = _; coming = (start-at c.before.before.before.before.before.before.before.before.before.before.before.before.before.before.before.before.before.before.args.new.now _ _ _ c.before.before.before.before.before.before.before.before.before.before.before.before.before.before.before.before.before.before.requires.1 c.before.before.before.before.before.before.before.before.before.before.before.before.stack-bits2.ensures c.before.before.before.before.before.before.before.before.before.before.before.stack-numbers2.ensures c.before.before.before.before.before.before.before.before.before.before.start.ensures) })
+next-front-requires-2 c κs = (c.before.before.before.before.before.before.before.before.before.before.before.before.before.before.before.before.before.before.requires.1.within, record { lo = _; pieces = _; coming = (start_at c.before.before.before.before.before.before.before.before.before.before.before.before.before.before.before.before.before.before.args.new.now _ _ _ c.before.before.before.before.before.before.before.before.before.before.before.before.before.before.before.before.before.before.requires.1 c.before.before.before.before.before.before.before.before.before.before.before.before.stack-bits2.ensures c.before.before.before.before.before.before.before.before.before.before.before.stack-numbers2.ensures c.before.before.before.before.before.before.before.before.before.before.start.ensures) })
 
 enum-known-first-new : tie.Need-enum-known-first-new
 enum-known-first-new c = search rules
@@ -73,7 +73,7 @@ nothing-requires-2 : tie.Need-nothing-requires-2
 nothing-requires-2 c κs = search rules
 
 returns-2 : tie.Need-returns-2
-returns-2 c = no-new c.before.before.before.before.before.before.before.before.before.before.before.before.before.before.before.before.before.before.before.before.before.before.before.before.args.old.now c.before.before.before.before.before.before.before.before.before.before.before.before.before.before.before.before.before.before.before.before.before.before.before.before.args.new.now _ _ _ (fronted-2 c.before.before.before.before.before _ c.before.enum-told2.given.1 _ _ (start-at c.before.before.before.before.before.before.before.before.before.before.before.before.before.before.before.before.before.before.before.before.before.before.before.before.args.new.now _ _ _ c.before.before.before.before.before.before.before.before.before.before.before.before.before.before.before.before.before.before.before.before.before.before.before.before.requires.1 c.before.before.before.before.before.before.before.before.before.before.before.before.before.before.before.before.before.before.stack-bits2.ensures c.before.before.before.before.before.before.before.before.before.before.before.before.before.before.before.before.before.stack-numbers2.ensures c.before.before.before.before.before.before.before.before.before.before.before.before.before.before.before.before.start.ensures)) c.nothing2.ensures
+returns-2 c = no_new c.before.before.before.before.before.before.before.before.before.before.before.before.before.before.before.before.before.before.before.before.before.before.before.before.args.old.now c.before.before.before.before.before.before.before.before.before.before.before.before.before.before.before.before.before.before.before.before.before.before.before.before.args.new.now _ _ _ (fronted-2 c.before.before.before.before.before _ c.before.enum-told2.given.1 _ _ (start_at c.before.before.before.before.before.before.before.before.before.before.before.before.before.before.before.before.before.before.before.before.before.before.before.before.args.new.now _ _ _ c.before.before.before.before.before.before.before.before.before.before.before.before.before.before.before.before.before.before.before.before.before.before.before.before.requires.1 c.before.before.before.before.before.before.before.before.before.before.before.before.before.before.before.before.before.before.stack-bits2.ensures c.before.before.before.before.before.before.before.before.before.before.before.before.before.before.before.before.before.stack-numbers2.ensures c.before.before.before.before.before.before.before.before.before.before.before.before.before.before.before.before.start.ensures)) c.nothing2.ensures
 
 slice-aggregate-merge : tie.Need-slice-aggregate-merge
 slice-aggregate-merge c = search rules
@@ -88,7 +88,7 @@ slice-aggregate-merge-4 : tie.Need-slice-aggregate-merge-4
 slice-aggregate-merge-4 c = search rules
 
 merge-requires : tie.Need-merge-requires
-merge-requires c κs = (c.before.before.before.before.before.before.before.before.before.before.before.before.before.before.before.before.before.before.before.before.before.before.before.before.before.before.before.before.before.requires.0, c.before.before.before.before.before.before.before.before.before.before.before.before.before.before.before.before.before.before.before.before.before.before.before.before.before.before.before.before.before.requires.1, c.before.before.before.before.before.before.before.before.before.before.before.before.before.before.before.before.before.before.before.before.before.before.before.before.before.before.before.before.before.requires.2, record { old-split = first-of (fronted-1 c.before.before.before.before.before.before.before.before.before.before.before.before.before.before.before.before.before.before _ c.before.before.before.before.before.before.before.before.before.before.before.before.before.before.first-old.given.1 _ _ (start-at c.before.before.before.before.before.before.before.before.before.before.before.before.before.before.before.before.before.before.before.before.before.before.before.before.before.before.before.before.before.args.old.now _ _ _ c.before.before.before.before.before.before.before.before.before.before.before.before.before.before.before.before.before.before.before.before.before.before.before.before.before.before.before.before.before.requires.0 c.before.before.before.before.before.before.before.before.before.before.before.before.before.before.before.before.before.before.before.before.before.before.before.before.before.stack-bits.ensures c.before.before.before.before.before.before.before.before.before.before.before.before.before.before.before.before.before.before.before.before.before.before.before.before.stack-numbers.ensures c.before.before.before.before.before.before.before.before.before.before.before.before.before.before.before.before.before.before.before.before.before.start.ensures)); new_split = first-of (fronted-2 c.before.before.before.before.before.before.before.before.before.before _ c.before.before.before.before.before.before.first-new.given.1 _ _ (start-at c.before.before.before.before.before.before.before.before.before.before.before.before.before.before.before.before.before.before.before.before.before.before.before.before.before.before.before.before.before.args.new.now _ _ _ c.before.before.before.before.before.before.before.before.before.before.before.before.before.before.before.before.before.before.before.before.before.before.before.before.before.before.before.before.before.requires.1 c.before.before.before.before.before.before.before.before.before.before.before.before.before.before.before.before.before.before.before.before.before.before.before.stack-bits2.ensures c.before.before.before.before.before.before.before.before.before.before.before.before.before.before.before.before.before.before.before.before.before.before.stack-numbers2.ensures c.before.before.before.before.before.before.before.before.before.before.before.before.before.before.before.before.before.before.before.before.before.start.ensures)) })
+merge-requires c κs = (c.before.before.before.before.before.before.before.before.before.before.before.before.before.before.before.before.before.before.before.before.before.before.before.before.before.before.before.before.before.requires.0, c.before.before.before.before.before.before.before.before.before.before.before.before.before.before.before.before.before.before.before.before.before.before.before.before.before.before.before.before.before.requires.1, c.before.before.before.before.before.before.before.before.before.before.before.before.before.before.before.before.before.before.before.before.before.before.before.before.before.before.before.before.before.requires.2, record { old_split = first_of (fronted-1 c.before.before.before.before.before.before.before.before.before.before.before.before.before.before.before.before.before.before _ c.before.before.before.before.before.before.before.before.before.before.before.before.before.before.first_old.given.1 _ _ (start_at c.before.before.before.before.before.before.before.before.before.before.before.before.before.before.before.before.before.before.before.before.before.before.before.before.before.before.before.before.before.args.old.now _ _ _ c.before.before.before.before.before.before.before.before.before.before.before.before.before.before.before.before.before.before.before.before.before.before.before.before.before.before.before.before.before.requires.0 c.before.before.before.before.before.before.before.before.before.before.before.before.before.before.before.before.before.before.before.before.before.before.before.before.before.stack-bits.ensures c.before.before.before.before.before.before.before.before.before.before.before.before.before.before.before.before.before.before.before.before.before.before.before.before.stack-numbers.ensures c.before.before.before.before.before.before.before.before.before.before.before.before.before.before.before.before.before.before.before.before.before.start.ensures)); new_split = first_of (fronted-2 c.before.before.before.before.before.before.before.before.before.before _ c.before.before.before.before.before.before.first_new.given.1 _ _ (start_at c.before.before.before.before.before.before.before.before.before.before.before.before.before.before.before.before.before.before.before.before.before.before.before.before.before.before.before.before.before.args.new.now _ _ _ c.before.before.before.before.before.before.before.before.before.before.before.before.before.before.before.before.before.before.before.before.before.before.before.before.before.before.before.before.before.requires.1 c.before.before.before.before.before.before.before.before.before.before.before.before.before.before.before.before.before.before.before.before.before.before.before.stack-bits2.ensures c.before.before.before.before.before.before.before.before.before.before.before.before.before.before.before.before.before.before.before.before.before.before.stack-numbers2.ensures c.before.before.before.before.before.before.before.before.before.before.before.before.before.before.before.before.before.before.before.before.before.start.ensures)) })
 
 same_length : tie.Need-same-length
 same_length c = search rules

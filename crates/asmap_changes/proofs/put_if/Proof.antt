@@ -2,7 +2,7 @@
 -- Assumes nothing.
 use borrow.Author.Rules.{rules}
 use native.Mathlib.Omega.{arith}
-use Rattle.asmap_changes.proofs.NoteLaws.{roomy, put-it}
+use Rattle.asmap_changes.proofs.NoteLaws.{roomy, put_it}
 use Rattle.asmap_changes.proofs.put_if.Statement.{statement}
 use Rattle.asmap_changes.proofs.put_if.Tie as tie
 
@@ -16,7 +16,7 @@ same_length : tie.Need-same-length
 same_length c = search rules
 
 returns : tie.Need-returns
-returns c = put-it _ _ _ _ _ c.before.before.before.before.before.if1.true c.before.before.put-change.ensures
+returns c = put_it _ _ _ _ _ c.before.before.before.before.before.if1.true c.before.before.put-change.ensures
 
 returns-2 : tie.Need-returns-2
 returns-2 c = search rules

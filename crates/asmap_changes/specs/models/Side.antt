@@ -5,15 +5,15 @@ use Rattle.std.specs.Prelude.{ℕ, zero, suc, ◌+◌, ◌*◌, ◌^◌, ◌≤�
 use Rattle.std.proofs.lemmas.List.Edits.{sets}
 use Rattle.byte_numbers.specs.Numbers.{big8, bytes4}
 use Rattle.asmap_program.specs.Map.{limit}
-use Rattle.asmap_codes.specs.Instruction.{mapOf}
+use Rattle.asmap_codes.specs.Instruction.{map_of}
 use Rattle.asmap_check_run.specs.models.State.{most}
 use Rattle.prefix_records.specs.Tiling.{Piece, first_of, past_of, Tiles}
 use Rattle.prefix_records.specs.declared.Address.{Address}
-use Rattle.prefix_records.specs.models.Cursor.{value_of, recordAt}
+use Rattle.prefix_records.specs.models.Cursor.{value_of, record_at}
 use Rattle.prefix_changes.specs.Change.{Change}
-use Rattle.prefix_changes.specs.Record.{changeRecordsOf, firstChanged}
+use Rattle.prefix_changes.specs.Record.{change_records_of, first_changed}
 use Rattle.asmap_listing.specs.Listing.{listing}
-use Rattle.asmap_listing.specs.models.Scan.{leaves, scanStart, scanned}
+use Rattle.asmap_listing.specs.models.Scan.{leaves, scan_start, scanned}
 use Rattle.asmap_list_step.specs.declared.Spot.{Spot}
 use Rattle.asmap_list_step.specs.models.Step.{rest, weight, Sane}
 use Rattle.asmap_changes.specs.declared.Front.{Front}
@@ -25,13 +25,13 @@ use Rattle.asmap_changes.specs.declared.Place.{Place}
 -- what the loop is told of a map: it is within the limit, its listing comes out of one pass, tiles, and can be counted
 pub record Ready (m : List ℕ) : Type 0 where
   pub within : length m ≤ limit
-  pub scans : scanned (mapOf m) 128 0 scanStart ≡ leaves (listing (mapOf m))
-  pub tiles : Tiles 128 0 (2 ^ 128) (listing (mapOf m))
-  pub few : length (listing (mapOf m)) ≤ most
+  pub scans : scanned (map_of m) 128 0 scan_start ≡ leaves (listing (map_of m))
+  pub tiles : Tiles 128 0 (2 ^ 128) (listing (map_of m))
+  pub few : length (listing (map_of m)) ≤ most
 
 -- no two maps have more changes than so many
-abbrev pub mostChanges : ℕ
-mostChanges = 2 * most
+abbrev pub most_changes : ℕ
+most_changes = 2 * most
 
 -- v is the address x; 0 stands for the one behind all addresses
 abbrev pub Stands : ℕ → ℕ → Type 0
@@ -45,7 +45,7 @@ pub record Fore (map : List ℕ) (f : Front) (bits numbers : List ℕ) (p : Piec
   pub begins : value_of f.begin ≡ first_of 128 p
   pub half : f.begin.low < 2 ^ 64
   pub ends : Stands (value_of f.end) (past_of 128 p)
-  pub end-half : f.end.low < 2 ^ 64
+  pub end_half : f.end.low < 2 ^ 64
   pub long : p.length ≡ f.len
   pub number : p.number ≡ f.number
 
@@ -84,36 +84,36 @@ pub record First (map : List ℕ) (ps : List Piece) (bits numbers : List ℕ) (f
 
 -- the foremost pieces of two listings
 pub record Paired (old new : List ℕ) (o n : Front) (old-bits old-numbers new-bits new-numbers : List ℕ) : Type 0 where
-  pub old-split : First old (listing (mapOf old)) old-bits old-numbers o
-  pub new_split : First new (listing (mapOf new)) new-bits new-numbers n
+  pub old_split : First old (listing (map_of old)) old-bits old-numbers o
+  pub new_split : First new (listing (map_of new)) new-bits new-numbers n
 
 -- where two foremost pieces overlap: the place of the one with the longer prefix
-abbrev pub placeIf : Bool → Front → Front → Place
-placeIf true o n = record { begin = n.begin; len = n.len }
-placeIf false o n = record { begin = o.begin; len = o.len }
+abbrev pub place_if : Bool → Front → Front → Place
+place_if true o n = record { begin = n.begin; len = n.len }
+place_if false o n = record { begin = o.begin; len = o.len }
 
 abbrev pub place_of : Front → Front → Place
-place_of o n = placeIf (ltb o.len n.len) o n
+place_of o n = place_if (ltb o.len n.len) o n
 
 -- bytes written where they are wanted
-abbrev pub putIf : Bool → List ℕ → ℕ → List ℕ → List ℕ
-putIf true o k bs = sets o k bs
-putIf false o k bs = o
+abbrev pub put_if : Bool → List ℕ → ℕ → List ℕ → List ℕ
+put_if true o k bs = sets o k bs
+put_if false o k bs = o
 
 -- one change more, which begins at a
-abbrev pub firstIf : ℕ → Address → Address → Address
-firstIf zero a b = a
-firstIf (suc k) a b = b
+abbrev pub first_if : ℕ → Address → Address → Address
+first_if zero a b = a
+first_if (suc k) a b = b
 
 abbrev pub added : Found → Address → Found
-added f a = record { pieces = f.pieces + 1; first = firstIf f.pieces a f.first }
+added f a = record { pieces = f.pieces + 1; first = first_if f.pieces a f.first }
 
 -- a pair noted, by whether its numbers are the same
 abbrev pub NotedIf : Bool → Bool → Front → Front → Found → Found → List ℕ → List ℕ → Type 0
 NotedIf true writes o n f f' out out' = (f' ≡ f) × (out' ≡ out)
 NotedIf false writes o n f f' out out' =
     (f' ≡ added f (place_of o n).begin)
-    × (out' ≡ putIf writes out (28 * f.pieces) (recordAt (place_of o n).begin (place_of o n).len o.number ++ bytes4 n.number))
+    × (out' ≡ put_if writes out (28 * f.pieces) (record_at (place_of o n).begin (place_of o n).len o.number ++ bytes4 n.number))
 
 abbrev pub Noted : Bool → Front → Front → Found → Found → List ℕ → List ℕ → Type 0
 Noted writes o n f f' out out' = NotedIf (eqb o.number n.number) writes o n f f' out out'
@@ -131,5 +131,5 @@ RoomFor false n out = Unit {0}
 -- what a comparison found in all, and what it left in the output
 pub record Whole (writes : Bool) (cs : List Change) (out out' : List ℕ) (r : Found) : Type 0 where
   pub pieces : r.pieces ≡ length cs
-  pub first : big8 r.first.high ++ big8 r.first.low ≡ firstChanged cs
-  pub output : out' ≡ putIf writes out 0 (changeRecordsOf cs)
+  pub first : big8 r.first.high ++ big8 r.first.low ≡ first_changed cs
+  pub output : out' ≡ put_if writes out 0 (change_records_of cs)

@@ -9,17 +9,17 @@ use Rattle.asmap_program.specs.Map.{limit}
 use Rattle.asmap_program.specs.declared.Verdict.{Verdict}
 use Rattle.asmap_program.specs.declared.Verdict.TheVariants.{Accepted, Refused}
 use Rattle.asmap_check.specs.declared.Counted.{Counted}
-use Rattle.asmap_check.specs.models.Counted.{countedAs, Few}
+use Rattle.asmap_check.specs.models.Counted.{counted_as, Few}
 use Rattle.asmap_check_run.specs.models.State.{most}
-use Rattle.asmap_check.proofs.Limit.{counted-long, counted-at}
+use Rattle.asmap_check.proofs.Limit.{counted_long, counted_at}
 use Rattle.asmap_check.proofs.sanity_check_pieces.Statement.{statement}
 use Rattle.asmap_check.proofs.sanity_check_pieces.Tie as tie
 
 -- an answer with few pieces
-few : (r : Counted) (n : ℕ) (v : Verdict) → r ≡ countedAs n v → n ≤ most → Few r
+few : (r : Counted) (n : ℕ) (v : Verdict) → r ≡ counted_as n v → n ≤ most → Few r
 few r n v e l = subst Few (sym e) (go v)
   where
-    go : (v : Verdict) → Few (countedAs n v)
+    go : (v : Verdict) → Few (counted_as n v)
     go (Accepted c d) = l
     go (Refused r) = tt
 
@@ -27,7 +27,7 @@ too-long-requires : tie.Need-too-long-requires
 too-long-requires c κs = search rules
 
 returns : tie.Need-returns
-returns c = let a = c.before.before.before.args in (counted-long a.map.now a.bits (ltb-true limit _ (sym c.before.too_long.ensures ∙ c.if1.true)), tt)
+returns c = let a = c.before.before.before.args in (counted_long a.map.now a.bits (ltb-true limit _ (sym c.before.too_long.ensures ∙ c.if1.true)), tt)
 
 run-check-requires : tie.Need-run-check-requires
 run-check-requires c κs = (ltb-false limit _ (sym c.before.too_long.ensures ∙ c.if1.false), omega arith)
@@ -39,7 +39,7 @@ returns-2 : tie.Need-returns-2
 returns-2 c =
     let j = c.before.run-check in (
       c.with-pieces.ensures
-          ∙ counted-at _ c.before.before.before.before.before.args.bits (ltb-false limit _ (sym c.before.before.before.too_long.ensures ∙ c.before.before.if1.false)) j.result j.ensures.0,
+          ∙ counted_at _ c.before.before.before.before.before.args.bits (ltb-false limit _ (sym c.before.before.before.too_long.ensures ∙ c.before.before.if1.false)) j.result j.ensures.0,
       few _ j.result.pieces j.result.verdict c.with-pieces.ensures j.ensures.1,
     )
 

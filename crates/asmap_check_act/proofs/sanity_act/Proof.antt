@@ -8,10 +8,10 @@ use lib.Dec.{lit<, lit≤}
 use lib.ListN.{length}
 use borrow.Author.Rules.{rules}
 use Rattle.asmap_program.specs.Map.{limit}
-use Rattle.asmap_codes.specs.Row.{typeRow, operand_row}
+use Rattle.asmap_codes.specs.Row.{type_row, operand_row}
 use Rattle.asmap_codes.specs.Code.{code_at}
 use Rattle.asmap_codes.specs.declared.Code.TheVariants.{Value}
-use Rattle.asmap_codes.proofs.Inside.{Inside, value-at}
+use Rattle.asmap_codes.proofs.Inside.{Inside, value_at}
 use Rattle.asmap_row_decoder.specs.models.InWindow.{Holds}
 use Rattle.asmap_row_decoder.proofs.WindowLaws.{row-window, window-holds}
 use Rattle.asmap_check_act.specs.models.Act.{refusing, on_operand, acts}
@@ -19,19 +19,19 @@ use Rattle.asmap_check_act.proofs.sanity_act.Statement.{statement}
 use Rattle.asmap_check_act.proofs.sanity_act.Tie as tie
 
 -- what was read is the opcode of the map
-typed : (k : tie.After-type-in) → code_at k.before.before.before.before.before.args.map.now k.before.before.before.before.before.args.pos typeRow ≡ k.type-in.result
-typed k = let a = k.before.before.before.before.before.args in sym (k.type-in.ensures ∙ row-window a.map.now a.pos _ typeRow (lit< tt) (window-holds a.map.now a.pos _ typeRow (lit≤ tt) k.before.window.ensures))
+typed : (k : tie.After-type-in) → code_at k.before.before.before.before.before.args.map.now k.before.before.before.before.before.args.pos type_row ≡ k.type-in.result
+typed k = let a = k.before.before.before.before.before.args in sym (k.type-in.ensures ∙ row-window a.map.now a.pos _ type_row (lit< tt) (window-holds a.map.now a.pos _ type_row (lit≤ tt) k.before.window.ensures))
 
 -- what is known once the opcode was read, and its operand's window made
 abbrev Opcode-read : Type 0
 Opcode-read =
     tie.After-operand-window
 
-read : (k : Opcode-read) → code_at k.before.before.before.before.before.before.before.before.before.args.map.now k.before.before.before.before.before.before.before.before.before.args.pos typeRow ≡ Value k.before.before.got.given.0.0 k.before.before.got.given.0.1.0
+read : (k : Opcode-read) → code_at k.before.before.before.before.before.before.before.before.before.args.map.now k.before.before.before.before.before.before.before.before.before.args.pos type_row ≡ Value k.before.before.got.given.0.0 k.before.before.got.given.0.1.0
 read k = typed k.before.before.before.before ∙ k.before.before.got.given.1
 
-opcode : (k : Opcode-read) → Inside k.before.before.before.before.before.before.before.before.before.args.map.now k.before.before.before.before.before.before.before.before.before.args.pos typeRow k.before.before.got.given.0.0 k.before.before.got.given.0.1.0
-opcode k = value-at _ _ typeRow _ _ (lit< tt) (read k)
+opcode : (k : Opcode-read) → Inside k.before.before.before.before.before.before.before.before.before.args.map.now k.before.before.before.before.before.before.before.before.before.args.pos type_row k.before.before.got.given.0.0 k.before.before.got.given.0.1.0
+opcode k = value_at _ _ type_row _ _ (lit< tt) (read k)
 
 -- the operand of an opcode o starts inside the map, or at its end, and stands in the window
 near : (k : Opcode-read) (o : ℕ) → k.before.before.got.given.0.0 ≡ o

@@ -2,7 +2,7 @@
 -- Assumes nothing.
 use mathlib.Core.Path.{◌≡◌, ◌∙◌, sym}
 use lib.Dec.{lit<}
-use Rattle.asmap_codes.specs.Row.{asnRow}
+use Rattle.asmap_codes.specs.Row.{asn_row}
 use Rattle.asmap_codes.specs.Code.{code_at}
 use Rattle.asmap_check_act.specs.models.Act.{refusing}
 use Rattle.asmap_row_decoder.proofs.WindowLaws.{row-window}
@@ -11,8 +11,8 @@ use Rattle.asmap_check_act.proofs.sanity_default.Statement.{statement}
 use Rattle.asmap_check_act.proofs.sanity_default.Tie as tie
 
 -- what was read is the code of the map
-code : (k : tie.After-asn-in) → code_at k.before.before.before.before.args.map.now k.before.before.before.before.args.at asnRow ≡ k.asn-in.result
-code k = let a = k.before.before.before.before.args in sym (k.asn-in.ensures ∙ row-window a.map.now a.at a.w asnRow (lit< tt) k.before.before.before.before.requires.2)
+code : (k : tie.After-asn-in) → code_at k.before.before.before.before.args.map.now k.before.before.before.before.args.at asn_row ≡ k.asn-in.result
+code k = let a = k.before.before.before.before.args in sym (k.asn-in.ensures ∙ row-window a.map.now a.at a.w asn_row (lit< tt) k.before.before.before.before.requires.2)
 
 is-default-requires : tie.Need-is-default-requires
 is-default-requires c κs = search rules

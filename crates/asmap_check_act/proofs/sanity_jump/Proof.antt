@@ -3,7 +3,7 @@
 use native.Mathlib.Omega.{arith}
 use mathlib.Core.Path.{◌≡◌, ◌∙◌, sym}
 use Rattle.asmap_codes.specs.Row.{jump_row}
-use Rattle.asmap_codes.proofs.Inside.{Inside, value-at}
+use Rattle.asmap_codes.proofs.Inside.{Inside, value_at}
 use lib.Dec.{lit<}
 use Rattle.asmap_row_decoder.proofs.WindowLaws.{row-window}
 use borrow.Author.Rules.{rules}
@@ -26,7 +26,7 @@ operand : (k : Operand-read) → code_at k.before.before.before.before.before.ar
 operand k = code k.before.before.before ∙ k.before.got.given.1
 
 inside : (k : Operand-read) → Inside k.before.before.before.before.before.args.map.now k.before.before.before.before.before.args.at jump_row k.before.got.given.0.0 k.before.got.given.0.1.0
-inside k = value-at _ _ jump_row _ _ (lit< tt) (operand k)
+inside k = value_at _ _ jump_row _ _ (lit< tt) (operand k)
 
 mul-jump-in : tie.Need-overflow-mul-jump-in
 mul-jump-in c = search rules

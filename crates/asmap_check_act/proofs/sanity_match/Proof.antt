@@ -2,8 +2,8 @@
 -- Assumes nothing.
 use native.Mathlib.Omega.{arith}
 use mathlib.Core.Path.{◌≡◌, ◌∙◌, sym}
-use Rattle.asmap_codes.specs.Row.{matchRow}
-use Rattle.asmap_codes.proofs.Inside.{Inside, value-at}
+use Rattle.asmap_codes.specs.Row.{match_row}
+use Rattle.asmap_codes.proofs.Inside.{Inside, value_at}
 use lib.Dec.{lit<}
 use Rattle.asmap_row_decoder.proofs.WindowLaws.{row-window}
 use borrow.Author.Rules.{rules}
@@ -15,18 +15,18 @@ use Rattle.asmap_check_act.proofs.sanity_match.Statement.{statement}
 use Rattle.asmap_check_act.proofs.sanity_match.Tie as tie
 
 -- what was read is the code of the map
-code : (k : tie.After-match-in) → code_at k.before.before.args.map.now k.before.before.args.at matchRow ≡ k.match-in.result
-code k = let a = k.before.before.args in sym (k.match-in.ensures ∙ row-window a.map.now a.at a.w matchRow (lit< tt) k.before.before.requires.2)
+code : (k : tie.After-match-in) → code_at k.before.before.args.map.now k.before.before.args.at match_row ≡ k.match-in.result
+code k = let a = k.before.before.args in sym (k.match-in.ensures ∙ row-window a.map.now a.at a.w match_row (lit< tt) k.before.before.requires.2)
 
 -- what is known once the operand was read
 abbrev Operand-read : Type 0
 Operand-read = tie.After-known-told
 
-operand : (k : Operand-read) → code_at k.before.before.before.before.before.args.map.now k.before.before.before.before.before.args.at matchRow ≡ Value k.before.got.given.0.0 k.before.got.given.0.1.0
+operand : (k : Operand-read) → code_at k.before.before.before.before.before.args.map.now k.before.before.before.before.before.args.at match_row ≡ Value k.before.got.given.0.0 k.before.got.given.0.1.0
 operand k = code k.before.before.before ∙ k.before.got.given.1
 
-inside : (k : Operand-read) → Inside k.before.before.before.before.before.args.map.now k.before.before.before.before.before.args.at matchRow k.before.got.given.0.0 k.before.got.given.0.1.0
-inside k = value-at _ _ matchRow _ _ (lit< tt) (operand k)
+inside : (k : Operand-read) → Inside k.before.before.before.before.before.args.map.now k.before.before.before.before.before.args.at match_row k.before.got.given.0.0 k.before.got.given.0.1.0
+inside k = value_at _ _ match_row _ _ (lit< tt) (operand k)
 
 mul-match-in : tie.Need-overflow-mul-match-in
 mul-match-in c = search rules

@@ -2,8 +2,8 @@
 -- Assumes nothing.
 use native.Mathlib.Omega.{arith}
 use mathlib.Core.Path.{◌≡◌, ◌∙◌, sym}
-use Rattle.asmap_codes.specs.Row.{asnRow}
-use Rattle.asmap_codes.proofs.Inside.{Inside, value-at}
+use Rattle.asmap_codes.specs.Row.{asn_row}
+use Rattle.asmap_codes.proofs.Inside.{Inside, value_at}
 use lib.Dec.{lit<}
 use Rattle.asmap_row_decoder.proofs.WindowLaws.{row-window}
 use borrow.Author.Rules.{rules}
@@ -17,18 +17,18 @@ use Rattle.asmap_check_act.proofs.sanity_return.Statement.{statement}
 use Rattle.asmap_check_act.proofs.sanity_return.Tie as tie
 
 -- what was read is the code of the map
-code : (k : tie.After-asn-in) → code_at k.before.before.before.before.args.map.now k.before.before.before.before.args.at asnRow ≡ k.asn-in.result
-code k = let a = k.before.before.before.before.args in sym (k.asn-in.ensures ∙ row-window a.map.now a.at a.w asnRow (lit< tt) k.before.before.before.before.requires.2)
+code : (k : tie.After-asn-in) → code_at k.before.before.before.before.args.map.now k.before.before.before.before.args.at asn_row ≡ k.asn-in.result
+code k = let a = k.before.before.before.before.args in sym (k.asn-in.ensures ∙ row-window a.map.now a.at a.w asn_row (lit< tt) k.before.before.before.before.requires.2)
 
 -- what is known once the operand was read
 abbrev Operand-read : Type 0
 Operand-read = tie.After-known-told
 
-operand : (k : Operand-read) → code_at k.before.before.before.before.before.before.before.args.map.now k.before.before.before.before.before.before.before.args.at asnRow ≡ Value k.before.got.given.0.0 k.before.got.given.0.1.0
+operand : (k : Operand-read) → code_at k.before.before.before.before.before.before.before.args.map.now k.before.before.before.before.before.before.before.args.at asn_row ≡ Value k.before.got.given.0.0 k.before.got.given.0.1.0
 operand k = code k.before.before.before ∙ k.before.got.given.1
 
-inside : (k : Operand-read) → Inside k.before.before.before.before.before.before.before.args.map.now k.before.before.before.before.before.before.before.args.at asnRow k.before.got.given.0.0 k.before.got.given.0.1.0
-inside k = value-at _ _ asnRow _ _ (lit< tt) (operand k)
+inside : (k : Operand-read) → Inside k.before.before.before.before.before.before.before.args.map.now k.before.before.before.before.before.before.before.args.at asn_row k.before.got.given.0.0 k.before.got.given.0.1.0
+inside k = value_at _ _ asn_row _ _ (lit< tt) (operand k)
 
 other : (k : Operand-read) → is_default k.before.before.before.before.before.before.before.args.previous ≡ false
 other k = sym k.before.before.before.before.before.is-default.ensures ∙ k.before.before.before.before.if1.false

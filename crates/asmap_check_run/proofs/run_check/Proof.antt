@@ -11,9 +11,9 @@ use Rattle.asmap_check_run.specs.declared.Judged.{Judged}
 use Rattle.asmap_check_act.specs.declared.Act.TheVariants.{Opens, Closes, Uses}
 use Rattle.asmap_check_run.specs.models.State.{state_of}
 use Rattle.asmap_check_act.specs.models.Act.{acts}
-use Rattle.asmap_check_run.proofs.Standing.{Standing, standing-start, Counting, counting-start, count-few, pieces-few, standing-room}
-use Rattle.asmap_check_run.proofs.StateLaws.{length-opens}
-use Rattle.asmap_check_run.proofs.Turn.{Turn, Turned, turn_end, less, certain, room-opens, turn-opens, turn-closes, turn-uses, turn-keeps, turn-accepts, turn-refuses}
+use Rattle.asmap_check_run.proofs.Standing.{Standing, standing_start, Counting, counting_start, count-few, pieces-few, standing_room}
+use Rattle.asmap_check_run.proofs.StateLaws.{length_opens}
+use Rattle.asmap_check_run.proofs.Turn.{Turn, Turned, turn_end, less, certain, room_opens, turn_opens, turn_closes, turn_uses, turn_keeps, turn_accepts, turn_refuses}
 use Rattle.asmap_check_run.proofs.run_check.Statement.{statement}
 use Rattle.asmap_check_run.proofs.run_check.Tie as tie
 
@@ -38,7 +38,7 @@ turn k =
 
 -- the arrays have room for a jump that opens
 space : (k : tie.After-use-bits invariant-loop decreases-loop) → k.before.before.before.before.before.before.before.before.before.loop.state.depth < 128
-space k = omega (arith, room-opens (turn k.before.before.before.before) _ _ k.before.before.asked.given.1, k.before.before.before.before.before.before.before.before.before.before.before.before.requires.1)
+space k = omega (arith, room_opens (turn k.before.before.before.before) _ _ k.before.before.asked.given.1, k.before.before.before.before.before.before.before.before.before.before.before.before.requires.1)
 
 -- a jump has opened: `use_bits`, the stores, `open_jump`, `larger`
 opened : (k : tie.After-larger invariant-loop decreases-loop)
@@ -49,7 +49,7 @@ opened k =
     let used = k.before.before.use-bits.ensures in
     let made = k.before.open-jump.ensures in
     let d = space k.before.before in
-    turn-opens (turn k.before.before.before.before.before.before) _ _ k.before.before.before.before.asked.given.1 (omega (arith, d, used.1.0)) (omega (arith, d, used.1.1)) k.before.open-jump.result k.larger.result
+    turn_opens (turn k.before.before.before.before.before.before) _ _ k.before.before.before.before.asked.given.1 (omega (arith, d, used.1.0)) (omega (arith, d, used.1.1)) k.before.open-jump.result k.larger.result
     (made ∙ ap (λ (x : CheckState). record { targets = set x.targets l.state.depth target; saved = set x.saved l.state.depth x.bits; depth = x.depth + 1; bits = x.bits }) used.0)
     (k.larger.ensures ∙ ap (max l.deepest) (ap (λ (x : CheckState). x.depth) made ∙ ap (λ (x : CheckState). x.depth + 1) used.0))
 
@@ -63,13 +63,13 @@ little k =
 short : (k : tie.After-after-match invariant-loop decreases-loop) → k.before.before.before.asked3.given.0.1.0 ≤ 128
 short k =
     let l = k.before.before.before.before.before.before.before.before.before.before.loop in
-    omega (arith, certain (turn k.before.before.before.before.before) (Uses _ _) k.before.before.before.asked3.given.1, (standing-room _ _ _ l.invariant.0).now, k.before.before.before.before.before.before.before.before.before.before.before.before.before.requires.1)
+    omega (arith, certain (turn k.before.before.before.before.before) (Uses _ _) k.before.before.before.asked3.given.1, (standing_room _ _ _ l.invariant.0).now, k.before.before.before.before.before.before.before.before.before.before.before.before.before.requires.1)
 
 -- a MATCH has been passed: `use_bits`, `after_match`
 passed : (k : tie.After-after-match invariant-loop decreases-loop)
     → Turned k.before.before.before.before.before.before.before.before.before.before.before.before.before.args.map.now k.before.before.before.before.before.before.before.before.before.before.before.before.before.args.bits k.before.before.before.before.before.before.before.before.before.before.loop.pos (k.before.before.before.before.before.before.before.before.before.before.loop.pieces + k.before.before.before.asked3.given.0.1.0) (state_of k.before.use-bits2.result k.before.before.before.asked3.given.0.0 k.after-match.result (k.before.before.before.before.before.before.before.before.before.before.loop.count + 1) k.before.before.before.before.before.before.before.before.before.before.loop.deepest)
 passed k =
-    turn-uses (turn k.before.before.before.before.before) _ _ k.before.before.before.asked3.given.1 k.before.use-bits2.result k.after-match.result k.before.use-bits2.ensures.0 k.after-match.ensures (short k)
+    turn_uses (turn k.before.before.before.before.before) _ _ k.before.before.before.asked3.given.1 k.before.use-bits2.result k.after-match.result k.before.use-bits2.ensures.0 k.after-match.ensures (short k)
 
 mul-end : tie.Need-overflow-mul-end invariant-loop decreases-loop
 mul-end c = omega arith
@@ -78,12 +78,12 @@ new-requires : tie.Need-new-requires invariant-loop decreases-loop
 new-requires c κs = tt
 
 loop-holds : tie.Need-loop-init invariant-loop decreases-loop
-loop-holds c = rw (c.new.ensures.0, c.new.ensures.1) (standing-start _ _, counting-start _ _)
+loop-holds c = rw (c.new.ensures.0, c.new.ensures.1) (standing_start _ _, counting_start _ _)
 
 innermost-requires : tie.Need-innermost-requires invariant-loop decreases-loop
 innermost-requires c κs =
     let l = c.before.before.before.loop in
-    omega (arith, (standing-room _ _ _ l.invariant.0).now, length-opens l.state.targets l.state.saved l.state.depth)
+    omega (arith, (standing_room _ _ _ l.invariant.0).now, length_opens l.state.targets l.state.saved l.state.depth)
 
 sanity-act-requires : tie.Need-sanity-act-requires invariant-loop decreases-loop
 sanity-act-requires c κs = (omega arith, omega arith)
@@ -131,7 +131,7 @@ sub-saved c = certain (turn c.before.before.before) (Closes _) c.before.asked2.g
 element-copy-out-saved : tie.Need-element-copy-out-saved invariant-loop decreases-loop
 element-copy-out-saved c =
     let l = c.before.before.before.before.before.before.before.before.loop in
-    omega (arith, (standing-room _ _ _ l.invariant.0).now, length-opens l.state.targets l.state.saved l.state.depth, c.before.before.before.before.before.before.before.before.before.before.before.requires.1)
+    omega (arith, (standing_room _ _ _ l.invariant.0).now, length_opens l.state.targets l.state.saved l.state.depth, c.before.before.before.before.before.before.before.before.before.before.before.requires.1)
 
 close-jump-requires : tie.Need-close-jump-requires invariant-loop decreases-loop
 close-jump-requires c κs = certain (turn c.before.before.before.before) (Closes _) c.before.before.asked2.given.1
@@ -140,11 +140,11 @@ add-pieces : tie.Need-overflow-add-pieces invariant-loop decreases-loop
 add-pieces c = omega (arith, little c.before.before.before.before.before)
 
 loop-less-2 : tie.Need-loop-smaller-2 invariant-loop decreases-loop
-loop-less-2 c = less (turn c.before.before.before.before.before) (turn-closes (turn c.before.before.before.before.before) _ c.before.before.before.asked2.given.1 c.close-jump.result c.close-jump.ensures)
+loop-less-2 c = less (turn c.before.before.before.before.before) (turn_closes (turn c.before.before.before.before.before) _ c.before.before.before.asked2.given.1 c.close-jump.result c.close-jump.ensures)
 
 loop-again-2 : tie.Need-loop-preserved-2 invariant-loop decreases-loop
 loop-again-2 c =
-    let t = turn-closes (turn c.before.before.before.before.before) _ c.before.before.before.asked2.given.1 c.close-jump.result c.close-jump.ensures in
+    let t = turn_closes (turn c.before.before.before.before.before) _ c.before.before.before.asked2.given.1 c.close-jump.result c.close-jump.ensures in
     (t.standing, t.counting)
 
 -- ---- MATCH
@@ -176,10 +176,10 @@ enum-known-asked-4 : tie.Need-enum-known-asked-4 invariant-loop decreases-loop
 enum-known-asked-4 c = search rules
 
 loop-less-4 : tie.Need-loop-smaller-4 invariant-loop decreases-loop
-loop-less-4 c = less (turn c.before.before.before) (turn-keeps (turn c.before.before.before) _ c.before.asked4.given.1)
+loop-less-4 c = less (turn c.before.before.before) (turn_keeps (turn c.before.before.before) _ c.before.asked4.given.1)
 
 loop-again-4 : tie.Need-loop-preserved-4 invariant-loop decreases-loop
-loop-again-4 c = let t = turn-keeps (turn c.before.before.before) _ c.before.asked4.given.1 in (t.standing, t.counting)
+loop-again-4 c = let t = turn_keeps (turn c.before.before.before) _ c.before.asked4.given.1 in (t.standing, t.counting)
 
 -- ---- the answers
 
@@ -187,7 +187,7 @@ enum_told : tie.Need-enum-told invariant-loop decreases-loop
 enum_told c = search rules
 
 cast-greatest : tie.Need-overflow-cast-greatest invariant-loop decreases-loop
-cast-greatest c = omega (arith, (standing-room _ _ _ c.before.before.before.before.before.before.before.loop.invariant.0).deep, c.before.before.before.before.before.before.before.before.before.before.requires.1)
+cast-greatest c = omega (arith, (standing_room _ _ _ c.before.before.before.before.before.before.before.loop.invariant.0).deep, c.before.before.before.before.before.before.before.before.before.before.requires.1)
 
 add-judge : tie.Need-overflow-add-judge invariant-loop decreases-loop
 add-judge c = omega (arith, little c.before.before)
@@ -197,7 +197,7 @@ judge-requires c κs = tt
 
 returns : tie.Need-returns invariant-loop decreases-loop
 returns c =
-    (c.judge.ensures ∙ turn-accepts (turn c.before.before.before) c.before.enum_told.given.1, omega (arith, ap (λ (j : Judged). j.pieces) c.judge.ensures, little c.before.before.before))
+    (c.judge.ensures ∙ turn_accepts (turn c.before.before.before) c.before.enum_told.given.1, omega (arith, ap (λ (j : Judged). j.pieces) c.judge.ensures, little c.before.before.before))
 
 enum-known-asked-5 : tie.Need-enum-known-asked-5 invariant-loop decreases-loop
 enum-known-asked-5 c = search rules
@@ -207,7 +207,7 @@ judge-requires-2 c κs = tt
 
 returns-2 : tie.Need-returns-2 invariant-loop decreases-loop
 returns-2 c =
-    (c.judge2.ensures ∙ turn-refuses (turn c.before.before.before.before) _ c.before.before.asked5.given.1, omega (arith, ap (λ (j : Judged). j.pieces) c.judge2.ensures, little c.before.before.before.before))
+    (c.judge2.ensures ∙ turn_refuses (turn c.before.before.before.before) _ c.before.before.asked5.given.1, omega (arith, ap (λ (j : Judged). j.pieces) c.judge2.ensures, little c.before.before.before.before))
 
 judge-requires-3 : tie.Need-judge-requires-3 invariant-loop decreases-loop
 judge-requires-3 c κs = tt

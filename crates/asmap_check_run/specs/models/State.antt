@@ -2,9 +2,9 @@
 -- Assumes nothing.
 use Rattle.std.specs.Prelude.{ℕ, zero, suc, ◌-◌, ◌≡◌, List, [], ◌∷◌, length, get_or}
 use Rattle.asmap_program.specs.declared.Previous.{Previous}
-use Rattle.asmap_program.specs.Check.{Open, State, check, stopOf, unpacked}
-use Rattle.asmap_program.specs.models.Pieces.{countPieces}
-use Rattle.asmap_codes.specs.Instruction.{mapOf}
+use Rattle.asmap_program.specs.Check.{Open, State, check, stop_of, unpacked}
+use Rattle.asmap_program.specs.models.Pieces.{count_pieces}
+use Rattle.asmap_codes.specs.Instruction.{map_of}
 use Rattle.asmap_check_run.specs.declared.CheckState.{CheckState}
 use Rattle.asmap_check_run.specs.declared.Judged.{Judged}
 
@@ -30,7 +30,7 @@ state_of s at before count deepest = record { at = at; left = s.bits; before = b
 
 -- what the loop comes to over w address bits: the check's verdict, the place at which it stops, and the pieces of what it passes up to there
 abbrev pub judged : List ℕ → ℕ → Judged
-judged m w = record { verdict = check (mapOf m) w; place = stopOf (mapOf m) w; pieces = countPieces (unpacked (mapOf m) w) }
+judged m w = record { verdict = check (map_of m) w; place = stop_of (map_of m) w; pieces = count_pieces (unpacked (map_of m) w) }
 
 -- no map has more pieces than so many: 128 for each bit of the longest, and the last one
 abbrev pub most : ℕ

@@ -5,7 +5,7 @@ use mathlib.Core.Path.{◌≡◌, sym, subst}
 use Prim.Native.Nat.{ℕ}
 use native.Mathlib.Omega.{arith}
 use Rattle.asmap_codes.specs.Row.{Row, operand_row}
-use Rattle.asmap_codes.proofs.RowLaws.{asn-operand}
+use Rattle.asmap_codes.proofs.RowLaws.{asn_operand}
 use Rattle.asmap_code_parts.specs.models.Parts.{CodedAs}
 use Rattle.asmap_code_parts.proofs.operand_parts.Statement.{statement}
 use Rattle.asmap_code_parts.proofs.operand_parts.Tie as tie
@@ -34,7 +34,7 @@ asn-parts-requires c κs = search rules
 returns-3 : tie.Need-returns-3
 returns-3 c =
     let a = c.before.before.before.args in
-    let e = sym (asn-operand a.opcode c.before.before.if1.false c.before.if2.false) in
+    let e = sym (asn_operand a.opcode c.before.before.if1.false c.before.if2.false) in
     subst (λ (row : Row). CodedAs row a.operand c.asn-parts.result) e c.asn-parts.ensures
 
 pub operand-parts-spec : {M : Type 1} → statement M

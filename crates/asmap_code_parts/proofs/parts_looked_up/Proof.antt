@@ -7,11 +7,11 @@ use mathlib.Core.List.{List}
 use lib.ListN.{length, drop, get_or, drop_of_length-le}
 use Rattle.asmap_codes.specs.Row.{span}
 use Rattle.asmap_codes.specs.Encode.{encode}
-use Rattle.asmap_code_parts.specs.models.Parts.{onesThen, CodeParts}
+use Rattle.asmap_code_parts.specs.models.Parts.{ones_then, CodeParts}
 use Rattle.asmap_codes.proofs.CodeLaws.{span-drop, size_small}
-use Rattle.asmap_code_parts.proofs.EncodeLaws.{encode-more, encode-stop, encode-last}
-use Rattle.asmap_codes.proofs.GrownLaws.{stops-more, stops-last}
-use Rattle.asmap_code_parts.proofs.PartsLaws.{ones-more}
+use Rattle.asmap_code_parts.proofs.EncodeLaws.{encode_more, encode_stop, encode_last}
+use Rattle.asmap_codes.proofs.GrownLaws.{stops_more, stops_last}
+use Rattle.asmap_code_parts.proofs.PartsLaws.{ones_more}
 use Rattle.asmap_code_parts.proofs.parts_looked_up.Statement.{statement}
 use Rattle.asmap_code_parts.proofs.parts_looked_up.Tie as tie
 
@@ -21,7 +21,7 @@ Passed ss x rest i =
     (i < length ss)
     × (span (drop i ss) ≤ 2 ^ 31)
     × (rest < span (drop i ss))
-    × (encode ss x ≡ onesThen i (encode (drop i ss) rest))
+    × (encode ss x ≡ ones_then i (encode (drop i ss) rest))
 
 module _ (ss : List ℕ) (x rest i : ℕ) where
   passed : (step : ℕ) → i + 1 < length ss → Passed ss x rest i → step ≡ 2 ^ get_or ss i 0 → step ≤ rest → Passed ss x (rest - step) (i + 1)
@@ -30,7 +30,7 @@ module _ (ss : List ℕ) (x rest i : ℕ) where
         h,
         omega (arith, k.1, d),
         omega (arith, k.2, d),
-        k.3 ∙ ap (onesThen i) (encode-more ss rest i h (omega arith)) ∙ ones-more i (encode (drop (i + 1) ss) (rest - 2 ^ get_or ss i 0)) ∙ ap (λ (y : ℕ). onesThen (i + 1) (encode (drop (i + 1) ss) (rest - y))) (sym p),
+        k.3 ∙ ap (ones_then i) (encode_more ss rest i h (omega arith)) ∙ ones_more i (encode (drop (i + 1) ss) (rest - 2 ^ get_or ss i 0)) ∙ ap (λ (y : ℕ). ones_then (i + 1) (encode (drop (i + 1) ss) (rest - y))) (sym p),
       )
 
   stopped : i + 1 < length ss → Passed ss x rest i → rest < 2 ^ get_or ss i 0 → CodeParts ss x (record { ones = i; size = get_or ss i 0; rest = rest })
@@ -38,7 +38,7 @@ module _ (ss : List ℕ) (x rest i : ℕ) where
     inside = k.0;
     size = size_small ss i k.0 k.1;
     small = l;
-    code = rw (stops-more i (length ss) h) (k.3 ∙ ap (onesThen i) (encode-stop ss rest i h l));
+    code = rw (stops_more i (length ss) h) (k.3 ∙ ap (ones_then i) (encode_stop ss rest i h l));
   }
 
   last : length ss ≤ i + 1 → Passed ss x rest i → CodeParts ss x (record { ones = i; size = get_or ss i 0; rest = rest })
@@ -49,7 +49,7 @@ module _ (ss : List ℕ) (x rest i : ℕ) where
         inside = k.0;
         size = size_small ss i k.0 k.1;
         small = omega (arith, k.2, z, span-drop ss i k.0);
-        code = rw (stops-last i (length ss) h) (k.3 ∙ ap (onesThen i) (encode-last ss rest i n));
+        code = rw (stops_last i (length ss) h) (k.3 ∙ ap (ones_then i) (encode_last ss rest i n));
       }
 
 abbrev invariant-loop : tie.invariant-loop

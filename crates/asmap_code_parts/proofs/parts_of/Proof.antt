@@ -1,4 +1,4 @@
--- `parts_of` meets its contract: the ends of the row tell whether its sizes grow by one (grown-of, parts-grown).
+-- `parts_of` meets its contract: the ends of the row tell whether its sizes grow by one (grown_of, parts_grown).
 -- Assumes nothing.
 use borrow.Author.Rules.{rules}
 use borrow.Author.Tests.{eqb-true}
@@ -6,8 +6,8 @@ use mathlib.Core.Path.{◌∙◌, sym}
 use native.Mathlib.Omega.{arith}
 use lib.ListN.{get_or}
 use Rattle.asmap_codes.proofs.CodeLaws.{span-drop, size_small}
-use Rattle.asmap_codes.proofs.GrownLaws.{grown-of}
-use Rattle.asmap_code_parts.proofs.PartsLaws.{parts-grown}
+use Rattle.asmap_codes.proofs.GrownLaws.{grown_of}
+use Rattle.asmap_code_parts.proofs.PartsLaws.{parts_grown}
 use Rattle.asmap_code_parts.proofs.parts_of.Statement.{statement}
 use Rattle.asmap_code_parts.proofs.parts_of.Tie as tie
 
@@ -28,7 +28,7 @@ returns c =
     let a = c.before.before.before.before.before.args in
     let p = c.before.before.before.before.before.requires in
     let ss = a.sizes.now in
-    parts-grown ss (get_or ss 0 0) a.x _ p.0 p.1 p.2 (grown-of ss p.0 p.4 (eqb-true _ _ (sym c.before.before.before.grows.ensures ∙ c.before.before.if1.true))) c.parts-grown.ensures
+    parts_grown ss (get_or ss 0 0) a.x _ p.0 p.1 p.2 (grown_of ss p.0 p.4 (eqb-true _ _ (sym c.before.before.before.grows.ensures ∙ c.before.before.if1.true))) c.parts_grown.ensures
 
 parts-looked-up-requires : tie.Need-parts-looked-up-requires
 parts-looked-up-requires c κs = search rules

@@ -9,21 +9,21 @@ use Rattle.asmap_code_parts.specs.declared.Coded.{Coded}
 use Rattle.asmap_code_parts.specs.declared.Coded.TheVariants.{In, Out}
 
 -- So many ones, then bits.
-abbrev pub onesThen : ℕ → List ℕ → List ℕ
-onesThen zero bs = bs
-onesThen (suc n) bs = 1 ∷ onesThen n bs
+abbrev pub ones_then : ℕ → List ℕ → List ℕ
+ones_then zero bs = bs
+ones_then (suc n) bs = 1 ∷ ones_then n bs
 
 -- So many zeros, then bits.
-abbrev pub zerosThen : ℕ → List ℕ → List ℕ
-zerosThen zero bs = bs
-zerosThen (suc n) bs = 0 ∷ zerosThen n bs
+abbrev pub zeros_then : ℕ → List ℕ → List ℕ
+zeros_then zero bs = bs
+zeros_then (suc n) bs = 0 ∷ zeros_then n bs
 
 -- The parts of the code of x: ones, the zero that stops, and the number in the size's bits.
 pub record CodeParts (ss : List ℕ) (x : ℕ) (p : Parts) : Type 0 where
   pub inside : p.ones < length ss
   pub size : p.size ≤ 31
   pub small : p.rest < 2 ^ p.size
-  pub code : encode ss x ≡ onesThen p.ones (zerosThen (stops p.ones (length ss)) (high p.size p.rest))
+  pub code : encode ss x ≡ ones_then p.ones (zeros_then (stops p.ones (length ss)) (high p.size p.rest))
 
 -- The parts of the code of x over sizes that grow by one from s on: the size is that of the leading one of x + 2 ^ s.
 pub record GrownParts (s x : ℕ) (p : Parts) : Type 0 where

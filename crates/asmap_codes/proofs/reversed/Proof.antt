@@ -1,9 +1,9 @@
--- `reversed` meets its contract: the law of the six swaps (reverse-64).
+-- `reversed` meets its contract: the law of the six swaps (reverse_64).
 -- Assumes nothing.
 use borrow.Author.Rules.{rules}
 use mathlib.Core.Path.{◌∙◌, ap}
 use Rattle.asmap_codes.specs.models.Reverse.{swap}
-use Rattle.asmap_codes.proofs.ReverseLaws.{reverse-64}
+use Rattle.asmap_codes.proofs.ReverseLaws.{reverse_64}
 use Rattle.asmap_codes.proofs.reversed.Statement.{statement}
 use Rattle.asmap_codes.proofs.reversed.Tie as tie
 
@@ -33,7 +33,7 @@ returns c =
     ∙ ap (swap 8 71777214294589695) (c.before.before.before.swapped3.ensures
     ∙ ap (swap 4 1085102592571150095) (c.before.before.before.before.swapped2.ensures
     ∙ ap (swap 2 3689348814741910323) c.before.before.before.before.before.swapped.ensures))))
-    ∙ reverse-64 c.before.before.before.before.before.before.args.x c.before.before.before.before.before.before.ranges.x.fits
+    ∙ reverse_64 c.before.before.before.before.before.before.args.x c.before.before.before.before.before.before.ranges.x.fits
 
 pub reversed-spec : {M : Type 1} → statement M
 reversed-spec =

@@ -1,4 +1,4 @@
--- `reversed_bits` meets its contract: of the reversed word, the bits that are asked for (rev-from).
+-- `reversed_bits` meets its contract: of the reversed word, the bits that are asked for (rev_from).
 -- Assumes nothing.
 use borrow.Author.Rules.{rules}
 use mathlib.Core.Path.{◌≡◌, ◌∙◌, ap}
@@ -6,7 +6,7 @@ use Prim.Native.Nat.{ℕ, ◌-◌, ◌*◌, ◌/◌, ◌%◌, ◌^◌}
 use native.Mathlib.Omega.{arith}
 use lib.Pow.{pow_mono}
 use Rattle.asmap_codes.specs.models.Reverse.{rev}
-use Rattle.asmap_codes.proofs.ReverseLaws.{rev-from, rev-lt}
+use Rattle.asmap_codes.proofs.ReverseLaws.{rev_from, rev_lt}
 use Rattle.asmap_codes.proofs.reversed_bits.Statement.{statement}
 use Rattle.asmap_codes.proofs.reversed_bits.Tie as tie
 
@@ -15,7 +15,7 @@ known : (c : tie.After-reversed) → c.reversed.result * 2 ^ c.before.args.from 
 known c =
     let a = c.before.args in
     ap (λ (i : ℕ). i * 2 ^ a.from % 2 ^ 64 / 2 ^ 32 / 2 ^ (32 - a.size)) c.reversed.ensures
-    ∙ rev-from a.from a.size a.w c.before.requires.1 c.before.requires.2
+    ∙ rev_from a.from a.size a.w c.before.requires.1 c.before.requires.2
 
 reversed-requires : tie.Need-reversed-requires
 reversed-requires c κs = search rules
@@ -35,7 +35,7 @@ shr-result c = search rules
 cast-result-2 : tie.Need-overflow-cast-result-2
 cast-result-2 c =
     let a = c.before.args in
-    omega (arith, known c, rev-lt a.size (a.w / 2 ^ a.from), pow_mono {i = a.size} {j = 32} c.before.requires.2)
+    omega (arith, known c, rev_lt a.size (a.w / 2 ^ a.from), pow_mono {i = a.size} {j = 32} c.before.requires.2)
 
 returns : tie.Need-returns
 returns c = known c

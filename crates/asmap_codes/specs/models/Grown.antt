@@ -14,10 +14,10 @@ grown s zero = []
 grown s (suc n) = s ∷ grown (suc s) n
 
 -- How many zeros stop at a size of a row, by whether a size comes after it: one, but none at the last.
-abbrev pub stopIf : Bool → ℕ
-stopIf true = 1
-stopIf false = 0
+abbrev pub stop_if : Bool → ℕ
+stop_if true = 1
+stop_if false = 0
 
 -- The same for the size after so many ones, of a row of n sizes.
 abbrev pub stops : ℕ → ℕ → ℕ
-stops ones n = stopIf (ltb (ones + 1) n)
+stops ones n = stop_if (ltb (ones + 1) n)

@@ -4,9 +4,9 @@ use borrow.Author.Rules.{rules}
 use native.Mathlib.Omega.{arith}
 use mathlib.Core.Path.{sym, subst, ◌∙◌}
 use Rattle.asmap_check.specs.models.Counted.{Few}
-use Rattle.asmap_changes.specs.Changes.{changesOf}
+use Rattle.asmap_changes.specs.Changes.{changes_of}
 use Rattle.asmap_compare.specs.Compare.{Told, comparison}
-use Rattle.asmap_compare.proofs.CallLaws.{ready, accepts, refuses, small-reason, told-wide, old-refused, new-refused, finds-refused, finds-same}
+use Rattle.asmap_compare.proofs.CallLaws.{ready, accepts, refuses, small-reason, told_wide, old_refused, new_refused, finds_refused, finds_same}
 use Rattle.asmap_compare.proofs.bytes_over.Statement.{statement}
 use Rattle.asmap_compare.proofs.bytes_over.Tie as tie
 
@@ -47,7 +47,7 @@ returns c =
     let m = a.old.now in
     let n = a.new.now in
     let w = a.bits in
-    finds-refused (comparison m n w) a.first.now _ (old-refused m n w _ (refuses m w c.before.before.before.before.before.before.before.requires _ (sym c.before.old-counted.given.1 ∙ c.before.before.before.sanity-check-pieces.ensures.0)))
+    finds_refused (comparison m n w) a.first.now _ (old_refused m n w _ (refuses m w c.before.before.before.before.before.before.before.requires _ (sym c.before.old-counted.given.1 ∙ c.before.before.before.sanity-check-pieces.ensures.0)))
 
 returns-2 : tie.Need-returns-2
 returns-2 c =
@@ -56,7 +56,7 @@ returns-2 c =
     let n = a.new.now in
     let w = a.bits in
     let x = accepts m w c.before.before.before.before.before.before.before.before.before.before.requires _ (sym c.before.before.before.before.enum_told.given.1 ∙ c.before.before.before.before.before.before.sanity-check-pieces.ensures.0) in
-    finds-refused (comparison m n w) a.first.now _ (new-refused m n w _ _ _ x.2 (refuses n w c.before.before.before.before.before.before.before.before.before.before.requires _ (sym c.before.new-counted.given.1 ∙ c.before.before.before.sanity-check-pieces2.ensures.0)))
+    finds_refused (comparison m n w) a.first.now _ (new_refused m n w _ _ _ x.2 (refuses n w c.before.before.before.before.before.before.before.before.before.before.requires _ (sym c.before.new-counted.given.1 ∙ c.before.before.before.sanity-check-pieces2.ensures.0)))
 
 same_length : tie.Need-same-length
 same_length c = search rules
@@ -69,7 +69,7 @@ returns-3 c =
     let w = a.bits in
     let x = accepts m w c.before.before.before.before.before.before.before.before.before.before.before.before.before.requires _ (sym c.before.before.before.before.before.before.before.enum_told.given.1 ∙ c.before.before.before.before.before.before.before.before.before.sanity-check-pieces.ensures.0) in
     let y = accepts n w c.before.before.before.before.before.before.before.before.before.before.before.before.before.requires _ (sym c.before.before.before.before.enum-told2.given.1 ∙ c.before.before.before.before.before.before.sanity-check-pieces2.ensures.0) in
-    finds-same (comparison m n w) (Told (changesOf m n 128)) a.first.now _ _ (told-wide m n w c.before.before.before.before.before.before.before.before.before.before.before.before.before.requires _ _ _ _ x.2 y.2) c.before.before.find-changes.ensures
+    finds_same (comparison m n w) (Told (changes_of m n 128)) a.first.now _ _ (told_wide m n w c.before.before.before.before.before.before.before.before.before.before.before.before.before.requires _ _ _ _ x.2 y.2) c.before.before.find-changes.ensures
 
 pub bytes-over-spec : {M : Type 1} → statement M
 bytes-over-spec =

@@ -13,7 +13,7 @@ same_length c = search rules
 
 returns : tie.Need-returns
 returns c =
-    (c.before.before.compare-over.ensures, compared c.before.before.before.before.before.before.before.args.old.now c.before.before.before.before.before.before.before.args.new.now 128)
+    (c.before.before.compare_over_lem.ensures, compared c.before.before.before.before.before.before.before.args.old.now c.before.before.before.before.before.before.before.args.new.now 128)
 
 pub compare-spec : {M : Type 1} → statement M
 compare-spec = tie.close (tie.spec compare-over-requires same_length returns)

@@ -3,9 +3,9 @@
 use borrow.Author.Rules.{rules}
 use mathlib.Core.Path.{◌∙◌, sym}
 use native.Mathlib.Omega.{arith}
-use Rattle.asmap_program.proofs.Widths.{at_width, no-width, narrow}
+use Rattle.asmap_program.proofs.Widths.{at_width, no_width, narrow}
 use Rattle.asmap_compare.specs.Compare.{Refuses, comparison}
-use Rattle.asmap_compare.proofs.CallLaws.{hands-same, hands-refused, compared}
+use Rattle.asmap_compare.proofs.CallLaws.{hands_same, hands_refused, compared}
 use Rattle.asmap_compare.proofs.compare_bits.Statement.{statement}
 use Rattle.asmap_compare.proofs.compare_bits.Tie as tie
 
@@ -27,13 +27,13 @@ returns : tie.Need-returns
 returns c =
     let a = c.before.before.before.before.before.before.before.before.before.args in
     let x = comparison a.old.now a.new.now a.width in
-    (hands-same _ x a.out.now _ _ (at_width a.width Refuses x (sym c.before.before.before.before.before.is-width.ensures ∙ c.before.before.before.before.if1.true)) c.before.before.compare-over.ensures, compared a.old.now a.new.now a.width)
+    (hands_same _ x a.out.now _ _ (at_width a.width Refuses x (sym c.before.before.before.before.before.is-width.ensures ∙ c.before.before.before.before.if1.true)) c.before.before.compare_over_lem.ensures, compared a.old.now a.new.now a.width)
 
 returns-2 : tie.Need-returns-2
 returns-2 c =
     let a = c.before.before.before.before.before.args in
     let x = comparison a.old.now a.new.now a.width in
-    (hands-refused _ a.out.now 18 (no-width a.width Refuses x (sym c.before.is-width.ensures ∙ c.if1.false)), compared a.old.now a.new.now a.width)
+    (hands_refused _ a.out.now 18 (no_width a.width Refuses x (sym c.before.is-width.ensures ∙ c.if1.false)), compared a.old.now a.new.now a.width)
 
 pub compare-bits-spec : {M : Type 1} → statement M
 compare-bits-spec =

@@ -3,9 +3,9 @@
 use borrow.Author.Rules.{rules}
 use mathlib.Core.Path.{◌∙◌, sym}
 use native.Mathlib.Omega.{arith}
-use Rattle.asmap_program.proofs.Widths.{at_width, no-width, narrow}
+use Rattle.asmap_program.proofs.Widths.{at_width, no_width, narrow}
 use Rattle.asmap_compare.specs.Compare.{Refuses, comparison}
-use Rattle.asmap_compare.proofs.CallLaws.{finds-same, finds-refused, compared}
+use Rattle.asmap_compare.proofs.CallLaws.{finds_same, finds_refused, compared}
 use Rattle.asmap_compare.proofs.compare_bytes_bits.Statement.{statement}
 use Rattle.asmap_compare.proofs.compare_bytes_bits.Tie as tie
 
@@ -27,13 +27,13 @@ returns : tie.Need-returns
 returns c =
     let a = c.before.before.before.before.before.before.before.before.before.args in
     let x = comparison a.old.now a.new.now a.width in
-    (finds-same _ x a.first.now _ _ (at_width a.width Refuses x (sym c.before.before.before.before.before.is-width.ensures ∙ c.before.before.before.before.if1.true)) c.before.before.bytes-over.ensures, compared a.old.now a.new.now a.width)
+    (finds_same _ x a.first.now _ _ (at_width a.width Refuses x (sym c.before.before.before.before.before.is-width.ensures ∙ c.before.before.before.before.if1.true)) c.before.before.bytes-over.ensures, compared a.old.now a.new.now a.width)
 
 returns-2 : tie.Need-returns-2
 returns-2 c =
     let a = c.before.before.before.before.before.args in
     let x = comparison a.old.now a.new.now a.width in
-    (finds-refused _ a.first.now 18 (no-width a.width Refuses x (sym c.before.is-width.ensures ∙ c.if1.false)), compared a.old.now a.new.now a.width)
+    (finds_refused _ a.first.now 18 (no_width a.width Refuses x (sym c.before.is-width.ensures ∙ c.if1.false)), compared a.old.now a.new.now a.width)
 
 pub compare-bytes-bits-spec : {M : Type 1} → statement M
 compare-bytes-bits-spec =

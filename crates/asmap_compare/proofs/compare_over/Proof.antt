@@ -4,10 +4,10 @@ use borrow.Author.Rules.{rules}
 use native.Mathlib.Omega.{arith}
 use mathlib.Core.Path.{sym, subst, ◌∙◌}
 use Rattle.asmap_check.specs.models.Counted.{Few}
-use Rattle.asmap_changes.specs.Changes.{changesOf}
+use Rattle.asmap_changes.specs.Changes.{changes_of}
 use Rattle.asmap_compare.specs.Compare.{Told, comparison}
-use Rattle.asmap_compare.proofs.CallLaws.{ready, accepts, refuses, small-reason, told-wide, old-refused, new-refused, hands-refused, hands-same}
-use Rattle.asmap_changes.proofs.MergeLaws.{bounded-changes}
+use Rattle.asmap_compare.proofs.CallLaws.{ready, accepts, refuses, small-reason, told_wide, old_refused, new_refused, hands_refused, hands_same}
+use Rattle.asmap_changes.proofs.MergeLaws.{bounded_changes}
 use Rattle.asmap_compare.proofs.compare_over.Statement.{statement}
 use Rattle.asmap_compare.proofs.compare_over.Tie as tie
 
@@ -46,7 +46,7 @@ write-if-room-requires c κs =
     let w = a.bits in
     let x = ready m w c.before.before.before.before.before.before.before.before.before.before.before.before.requires _ (sym c.before.before.before.before.before.before.old-counted2.given.1 ∙ c.before.before.before.before.before.before.before.before.sanity-check-pieces.ensures.0) (subst Few c.before.before.before.before.before.before.old-counted2.given.1 c.before.before.before.before.before.before.before.before.sanity-check-pieces.ensures.1) in
     let y = ready n w c.before.before.before.before.before.before.before.before.before.before.before.before.requires _ (sym c.before.before.new-counted2.given.1 ∙ c.before.before.before.before.sanity-check-pieces2.ensures.0) (subst Few c.before.before.new-counted2.given.1 c.before.before.before.before.sanity-check-pieces2.ensures.1) in
-    (x.0, y.0, bounded-changes _ _ _ _ x.0 y.0 x.1 y.1)
+    (x.0, y.0, bounded_changes _ _ _ _ x.0 y.0 x.1 y.1)
 
 returns : tie.Need-returns
 returns c =
@@ -54,7 +54,7 @@ returns c =
     let m = a.old.now in
     let n = a.new.now in
     let w = a.bits in
-    hands-refused (comparison m n w) a.out.now _ (old-refused m n w _ (refuses m w c.before.before.before.before.before.before.before.requires _ (sym c.before.old-counted.given.1 ∙ c.before.before.before.sanity-check-pieces.ensures.0)))
+    hands_refused (comparison m n w) a.out.now _ (old_refused m n w _ (refuses m w c.before.before.before.before.before.before.before.requires _ (sym c.before.old-counted.given.1 ∙ c.before.before.before.sanity-check-pieces.ensures.0)))
 
 returns-2 : tie.Need-returns-2
 returns-2 c =
@@ -63,7 +63,7 @@ returns-2 c =
     let n = a.new.now in
     let w = a.bits in
     let x = accepts m w c.before.before.before.before.before.before.before.before.before.before.before.requires _ (sym c.before.before.before.before.before.old-counted2.given.1 ∙ c.before.before.before.before.before.before.before.sanity-check-pieces.ensures.0) in
-    hands-refused (comparison m n w) a.out.now _ (new-refused m n w _ _ _ x.2 (refuses n w c.before.before.before.before.before.before.before.before.before.before.before.requires _ (sym c.before.new-counted.given.1 ∙ c.before.before.before.sanity-check-pieces2.ensures.0)))
+    hands_refused (comparison m n w) a.out.now _ (new_refused m n w _ _ _ x.2 (refuses n w c.before.before.before.before.before.before.before.before.before.before.before.requires _ (sym c.before.new-counted.given.1 ∙ c.before.before.before.sanity-check-pieces2.ensures.0)))
 
 same_length : tie.Need-same-length
 same_length c = search rules
@@ -76,7 +76,7 @@ returns-3 c =
     let w = a.bits in
     let x = accepts m w c.before.before.before.before.before.before.before.before.before.before.before.before.before.before.before.requires _ (sym c.before.before.before.before.before.before.before.before.before.old-counted2.given.1 ∙ c.before.before.before.before.before.before.before.before.before.before.before.sanity-check-pieces.ensures.0) in
     let y = accepts n w c.before.before.before.before.before.before.before.before.before.before.before.before.before.before.before.requires _ (sym c.before.before.before.before.before.new-counted2.given.1 ∙ c.before.before.before.before.before.before.before.sanity-check-pieces2.ensures.0) in
-    hands-same (comparison m n w) (Told (changesOf m n 128)) a.out.now _ _ (told-wide m n w c.before.before.before.before.before.before.before.before.before.before.before.before.before.before.before.requires _ _ _ _ x.2 y.2) c.before.before.write-if-room.ensures
+    hands_same (comparison m n w) (Told (changes_of m n 128)) a.out.now _ _ (told_wide m n w c.before.before.before.before.before.before.before.before.before.before.before.before.before.before.before.requires _ _ _ _ x.2 y.2) c.before.before.write-if-room.ensures
 
 pub compare-over-spec : {M : Type 1} → statement M
 compare-over-spec =

@@ -3,13 +3,13 @@
 use Prim.Native.Nat.{ℕ, zero, suc}
 use mathlib.Core.Path.{◌≡◌, refl}
 use mathlib.Core.Logic.{◌≢◌}
-use Rattle.asmap_program.specs.Map.{Operand, cutReason}
-use Rattle.asmap_codes.specs.Code.{partFrom}
+use Rattle.asmap_program.specs.Map.{Operand, cut_reason}
+use Rattle.asmap_codes.specs.Code.{part_from}
 use borrow.Author.Rules.{rules}
 use Rattle.asmap_decode.proofs.cut_reason.Statement.{statement}
 use Rattle.asmap_decode.proofs.cut_reason.Tie as tie
 
-operand : (n : ℕ) → n ≢ 0 → cutReason Operand ≡ cutReason (partFrom n)
+operand : (n : ℕ) → n ≢ 0 → cut_reason Operand ≡ cut_reason (part_from n)
 operand zero h = absurd (h refl)
 operand (suc n) h = refl
 

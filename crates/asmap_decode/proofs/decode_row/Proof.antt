@@ -5,7 +5,7 @@ use native.Mathlib.Omega.{arith}
 use Rattle.asmap_codes.specs.Row.{Row}
 use Rattle.asmap_codes.specs.Code.{code_at}
 use Rattle.asmap_codes.specs.declared.Decoded.TheVariants.{Refused}
-use Rattle.asmap_codes.proofs.Inside.{past_end, read-long, read_at, read-cut}
+use Rattle.asmap_codes.proofs.Inside.{past_end, read_long, read_at, read_cut}
 use Rattle.asmap_row_decoder.proofs.WindowLaws.{row-window, window-holds}
 use borrow.Author.Rules.{rules}
 use Rattle.asmap_decode.proofs.decode_row.Statement.{statement}
@@ -21,7 +21,7 @@ read k =
     sym (k.decode-bits.ensures ∙ row-window a.map.now a.at _ row f.many (window-holds a.map.now a.at _ row f.short k.before.window.ensures))
 
 returns : tie.Need-returns
-returns c = let a = c.before.before.before.args in sym (read-long a.map.now a.at (record { least = a.least; sizes = a.sizes.now }) (omega arith))
+returns c = let a = c.before.before.before.args in sym (read_long a.map.now a.at (record { least = a.least; sizes = a.sizes.now }) (omega arith))
 
 mul-if2 : tie.Need-overflow-mul-if2
 mul-if2 c = search rules
@@ -34,7 +34,7 @@ returns-2 c =
     let a = c.before.before.before.before.before.args in
     let row : Row = record { least = a.least; sizes = a.sizes.now } in
     ap Refused c.cut-reason.ensures
-    ∙ sym (read-cut a.map.now a.at row (omega arith) (past_end a.map.now a.at row c.before.before.before.before.before.requires.0.many (omega arith)))
+    ∙ sym (read_cut a.map.now a.at row (omega arith) (past_end a.map.now a.at row c.before.before.before.before.before.requires.0.many (omega arith)))
 
 window-requires : tie.Need-window-requires
 window-requires c κs = search rules
@@ -58,7 +58,7 @@ returns-3 : tie.Need-returns-3
 returns-3 c =
     let a = c.before.before.before.before.before.before.before.before.before.args in
     ap Refused c.cut-reason2.ensures
-    ∙ sym (read-cut a.map.now a.at (record { least = a.least; sizes = a.sizes.now }) (omega arith) (read c.before.before.before ∙ c.before.enum_told.given.1))
+    ∙ sym (read_cut a.map.now a.at (record { least = a.least; sizes = a.sizes.now }) (omega arith) (read c.before.before.before ∙ c.before.enum_told.given.1))
 
 returns-4 : tie.Need-returns-4
 returns-4 c =

@@ -1,6 +1,6 @@
 -- The answer is the code's, and so what Core reads.
 -- Assumes nothing.
-use Rattle.asmap_codes.proofs.CoreLaws.{type-is-core}
+use Rattle.asmap_codes.proofs.CoreLaws.{type_is_core}
 use borrow.Author.Rules.{rules}
 use Rattle.asmap_decode.proofs.decode_type.Statement.{statement}
 use Rattle.asmap_decode.proofs.decode_type.Tie as tie
@@ -12,7 +12,7 @@ decode-row-requires : tie.Need-decode-row-requires
 decode-row-requires c κs = search rules
 
 returns : tie.Need-returns
-returns c = let a = c.before.before.before.args in let e = c.decode-row.ensures in (e, type-is-core a.map.now a.at _ e)
+returns c = let a = c.before.before.before.args in let e = c.decode-row.ensures in (e, type_is_core a.map.now a.at _ e)
 
 pub decode-type-spec : {M : Type 1} → statement M
 decode-type-spec = tie.close (tie.spec slice-aggregate-decode-row decode-row-requires returns)

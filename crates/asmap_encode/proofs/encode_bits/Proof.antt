@@ -10,7 +10,7 @@ use lib.Pow.{pow_pos, pow_mono, shl_exact}
 use Rattle.asmap_codes.specs.models.Reverse.{rev}
 use Rattle.asmap_encode.specs.models.Words.{Short, number_of}
 use Rattle.asmap_code_parts.specs.declared.Parts.{Parts}
-use Rattle.asmap_codes.proofs.ReverseLaws.{rev-lt}
+use Rattle.asmap_codes.proofs.ReverseLaws.{rev_lt}
 use Rattle.asmap_encode.proofs.WordLaws.{shifted, window-fits, number_lt}
 use Rattle.asmap_encode.proofs.encode_bits.Statement.{statement}
 use Rattle.asmap_encode.proofs.encode_bits.Tie as tie
@@ -22,7 +22,7 @@ module _ (pre : ℕ) (p : Parts) (h : Short pre p) where
   computed : (R : ℕ) → R ≡ rev p.size (p.rest / 2 ^ 0) → 1 * 2 ^ p.ones % 2 ^ 64 - 1 + R * 2 ^ pre % 2 ^ 64 ≡ number_of pre p
   computed R r =
       ap₂ (λ (i j : ℕ). i - 1 + j * 2 ^ pre % 2 ^ 64) ones-shifted (r ∙ ap (rev p.size) (div-one p.rest))
-      ∙ ap (λ (i : ℕ). 2 ^ p.ones - 1 + i) (shifted (rev p.size p.rest) p.size pre (rev-lt p.size p.rest) (omega (arith, h.prefix, h.size)))
+      ∙ ap (λ (i : ℕ). 2 ^ p.ones - 1 + i) (shifted (rev p.size p.rest) p.size pre (rev_lt p.size p.rest) (omega (arith, h.prefix, h.size)))
 
   number_fits : number_of pre p < 2 ^ 64
   number_fits = omega (arith, number_lt pre p h.ones, pow_mono {i = pre + p.size} {j = 64} (omega (arith, h.prefix, h.size)))

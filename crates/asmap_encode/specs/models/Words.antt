@@ -27,11 +27,11 @@ number_of pre p = 2 ^ p.ones - 1 + word (high p.size p.rest) * 2 ^ pre
 abbrev pub after : Word → ℕ → Parts → Word
 after w pre p = record { bits = w.bits + number_of pre p * 2 ^ w.len; len = w.len + pre + p.size }
 
-abbrev pub writtenAs : Word → Coded → Written
-writtenAs w (In pre p) = Bits (after w pre p)
-writtenAs w Out = Refused 15
+abbrev pub written_as : Word → Coded → Written
+written_as w (In pre p) = Bits (after w pre p)
+written_as w Out = Refused 15
 
 -- How many bits were written, none where it was refused.
-abbrev pub lengthWritten : Written → ℕ
-lengthWritten (Bits w) = w.len
-lengthWritten (Refused n) = 0
+abbrev pub length_written : Written → ℕ
+length_written (Bits w) = w.len
+length_written (Refused n) = 0

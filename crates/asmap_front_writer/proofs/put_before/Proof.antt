@@ -1,10 +1,10 @@
--- `asmap_front_writer::put_before` meets its contract: an instruction in range is not refused (written-never), its word holds its bits
--- (written-some), and where nothing is written its length is counted (measured). Assumes nothing.
+-- `asmap_front_writer::put_before` meets its contract: an instruction in range is not refused (written_never), its word holds its bits
+-- (written_some), and where nothing is written its length is counted (measured). Assumes nothing.
 use borrow.Author.Rules.{rules}
 use mathlib.Core.Path.{◌∙◌, sym}
 use native.Mathlib.Omega.{arith}
-use Rattle.asmap_bit_writer.proofs.WrittenLaws.{Holding, Measured, written-some, written-never}
-use Rattle.asmap_front_writer.proofs.EmittedLaws.{measured, emitted-counted, room_word, emitted-written}
+use Rattle.asmap_bit_writer.proofs.WrittenLaws.{Holding, Measured, written_some, written_never}
+use Rattle.asmap_front_writer.proofs.EmittedLaws.{measured, emitted_counted, room_word, emitted_written}
 use Rattle.asmap_front_writer.proofs.put_before.Statement.{statement}
 use Rattle.asmap_front_writer.proofs.put_before.Tie as tie
 
@@ -20,12 +20,12 @@ enum_told c = search rules
 returns : tie.Need-returns
 returns c =
     let s = c.before.before.before.before.before in
-    absurd (written-never s.args.opcode s.args.operand _ s.requires.ranged (sym c.before.before.encode-instruction.ensures ∙ c.enum_told.given.1))
+    absurd (written_never s.args.opcode s.args.operand _ s.requires.ranged (sym c.before.before.encode-instruction.ensures ∙ c.enum_told.given.1))
 
 -- the word that was written
 the_word : (c : tie.After-known-told)
     → Holding c.before.before.before.before.before.before.args.opcode c.before.before.before.before.before.before.args.operand c.before.written.given.0.0
-the_word c = written-some _ _ c.before.written.given.0.0 (sym c.before.before.before.encode-instruction.ensures ∙ c.before.written.given.1)
+the_word c = written_some _ _ c.before.written.given.0.0 (sym c.before.before.before.encode-instruction.ensures ∙ c.before.written.given.1)
 
 put-word-before-requires : tie.Need-put-word-before-requires
 put-word-before-requires c κs =
@@ -43,7 +43,7 @@ returns-2 c =
     let t = c.before.before.before.before.before.before.before.before.if1.true in
     let u = the_word c.before.before.before.before in
     let e = c.before.before.put-word-before.ensures in
-    emitted-written _ _ _ _ _ _ u t _ _ e.0 e.1 e.2
+    emitted_written _ _ _ _ _ _ u t _ _ e.0 e.1 e.2
 
 instruction-length-requires : tie.Need-instruction-length-requires
 instruction-length-requires c κs = search rules
@@ -57,7 +57,7 @@ add_done : tie.Need-overflow-add-done
 add_done c = omega (arith, (the-length c).short, c.before.before.before.before.requires.few)
 
 returns-3 : tie.Need-returns-3
-returns-3 c = emitted-counted _ c.before.before.before.before.args.front _ _ _ _ (the-length c) c.before.before.if1.false
+returns-3 c = emitted_counted _ c.before.before.before.before.args.front _ _ _ _ (the-length c) c.before.before.if1.false
 
 pub put-before-spec : {M : Type 1} → statement M
 put-before-spec =

@@ -1,12 +1,12 @@
 -- `asmap_front_writer::put_word_before` meets its contract: the word is put below the bits held (going_start), each byte goes out before those that
--- did (going_on), and fewer than 8 bits are left (going-stop); what will be written in the end stays the same. Assumes nothing.
+-- did (going_on), and fewer than 8 bits are left (going_stop); what will be written in the end stays the same. Assumes nothing.
 use borrow.Author.Rules.{rules}
 use mathlib.Core.Path.{refl}
 use Prim.Native.Nat.{◌+◌}
 use native.Mathlib.Omega.{arith}
 use lib.Pow as pow
 use Rattle.asmap_encode.proofs.WordLaws.{shifted, window-fits}
-use Rattle.asmap_front_writer.proofs.FrontLaws.{shifted_one, Going, going_start, going_on, going-stop}
+use Rattle.asmap_front_writer.proofs.FrontLaws.{shifted_one, Going, going_start, going_on, going_stop}
 use Rattle.asmap_front_writer.proofs.put_word_before.Statement.{statement}
 use Rattle.asmap_front_writer.proofs.put_word_before.Tie as tie
 
@@ -76,7 +76,7 @@ returns c =
     let l = c.before.before.before.loop in
     let h = c.before.before.loop-test.false in
     let a = c.before.before.before.before.before.before.before.before.args in
-    rw (shifted_one l.held h) (refl, l.invariant.kept, going-stop _ _ _ _ l.out l.held l.place l.invariant h (a.front.done + a.word.len))
+    rw (shifted_one l.held h) (refl, l.invariant.kept, going_stop _ _ _ _ l.out l.held l.place l.invariant h (a.front.done + a.word.len))
 
 pub put-word-before-spec : {M : Type 1} → statement M
 put-word-before-spec =

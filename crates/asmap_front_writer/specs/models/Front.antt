@@ -2,8 +2,8 @@
 use Rattle.std.specs.Prelude.{ℕ, ◌+◌, ◌*◌, ◌^◌, ◌≤◌, ◌<◌, Bool, true, false, ◌&&◌, ◌≡◌, List, ◌++◌, length}
 use Rattle.std.proofs.lemmas.List.Edits.{sets}
 use Rattle.asmap_codes.specs.Bits.{low}
-use Rattle.asmap_codes.specs.Row.{typeRow, operand_row, in_range}
-use Rattle.asmap_codes.specs.Encode.{instructionBits}
+use Rattle.asmap_codes.specs.Row.{type_row, operand_row, in_range}
+use Rattle.asmap_codes.specs.Encode.{instruction_bits}
 use Rattle.asmap_bit_writer.specs.Bytes.{bytes_of}
 use Rattle.asmap_front_writer.specs.declared.Front.{Front}
 
@@ -27,13 +27,13 @@ pub record Moved (o : List ℕ) (w : Front) (b : List ℕ) (o' : List ℕ) (w' :
 
 -- Asked of an instruction: it is in range, and there is room where it is written.
 pub record Ready (o : List ℕ) (w : Front) (op v : ℕ) (writes : Bool) : Type 0 where
-  pub ranged : (in_range typeRow op && in_range (operand_row op) v) ≡ true
+  pub ranged : (in_range type_row op && in_range (operand_row op) v) ≡ true
   pub few : w.done ≤ 134217728
-  pub room : writes ≡ true → Room o w (length (instructionBits op v))
+  pub room : writes ≡ true → Room o w (length (instruction_bits op v))
 
 -- An instruction was put before what is there, or only counted.
 pub record Emitted (o : List ℕ) (w : Front) (op v : ℕ) (writes : Bool) (o' : List ℕ) (w' : Front) : Type 0 where
-  pub done : w'.done ≡ w.done + length (instructionBits op v)
+  pub done : w'.done ≡ w.done + length (instruction_bits op v)
   pub kept : length o' ≡ length o
   pub idle : writes ≡ false → o' ≡ o
-  pub busy : writes ≡ true → Moved o w (instructionBits op v) o' w'
+  pub busy : writes ≡ true → Moved o w (instruction_bits op v) o' w'

@@ -2,7 +2,7 @@
 -- Assumes nothing.
 use mathlib.Core.Path.{◌∙◌, sym, ap}
 use borrow.Author.Rules.{rules}
-use Rattle.asmap_items.specs.Items.{readItem}
+use Rattle.asmap_items.specs.Items.{read_item}
 use Rattle.asmap_items.proofs.decode_item.Statement.{statement}
 use Rattle.asmap_items.proofs.decode_item.Tie as tie
 
@@ -39,27 +39,27 @@ decode-jump-requires c κs = search rules
 returns : tie.Need-returns
 returns c =
     let a = c.before.before.before.before.args in
-    c.decode-bit.ensures ∙ ap (readItem a.map.now a.at) (sym c.before.enum_told.given.1)
+    c.decode-bit.ensures ∙ ap (read_item a.map.now a.at) (sym c.before.enum_told.given.1)
 
 returns-2 : tie.Need-returns-2
 returns-2 c =
     let a = c.before.before.before.before.args in
-    c.decode-type.ensures.0 ∙ ap (readItem a.map.now a.at) (sym c.before.enum-told2.given.1)
+    c.decode-type.ensures.0 ∙ ap (read_item a.map.now a.at) (sym c.before.enum-told2.given.1)
 
 returns-3 : tie.Need-returns-3
 returns-3 c =
     let a = c.before.before.before.before.args in
-    c.decode-asn.ensures.0 ∙ ap (readItem a.map.now a.at) (sym c.before.enum-told3.given.1)
+    c.decode-asn.ensures.0 ∙ ap (read_item a.map.now a.at) (sym c.before.enum-told3.given.1)
 
 returns-4 : tie.Need-returns-4
 returns-4 c =
     let a = c.before.before.before.before.args in
-    c.decode-match.ensures.0 ∙ ap (readItem a.map.now a.at) (sym c.before.enum-told4.given.1)
+    c.decode-match.ensures.0 ∙ ap (read_item a.map.now a.at) (sym c.before.enum-told4.given.1)
 
 returns-5 : tie.Need-returns-5
 returns-5 c =
     let a = c.before.before.before.before.args in
-    c.decode-jump.ensures.0 ∙ ap (readItem a.map.now a.at) (sym c.before.enum-told5.given.1)
+    c.decode-jump.ensures.0 ∙ ap (read_item a.map.now a.at) (sym c.before.enum-told5.given.1)
 
 pub decode-item-spec : {M : Type 1} → statement M
 decode-item-spec =

@@ -4,7 +4,7 @@ use borrow.Author.Rules.{rules}
 use mathlib.Core.Path.{◌∙◌, sym}
 use native.Mathlib.Omega.{arith}
 use Rattle.asmap_program.proofs.Widths.{narrow}
-use Rattle.asmap_records.proofs.OutputLaws.{hands-at, hands-no-width}
+use Rattle.asmap_records.proofs.OutputLaws.{hands_at, hands_no_width}
 use Rattle.asmap_list.specs.List.{list_of}
 use Rattle.asmap_list.proofs.CallLaws.{covered}
 use Rattle.asmap_list.proofs.list_bits.Statement.{statement}
@@ -26,12 +26,12 @@ same_length c = search rules
 returns : tie.Need-returns
 returns c =
     let a = c.before.before.before.before.before.before.before.before.args in
-    (hands-at a.width (list_of a.map.now a.width) a.out.now _ _ (sym c.before.before.before.before.before.is-width.ensures ∙ c.before.before.before.before.if1.true) c.before.before.list_over.ensures, covered a.map.now a.width)
+    (hands_at a.width (list_of a.map.now a.width) a.out.now _ _ (sym c.before.before.before.before.before.is-width.ensures ∙ c.before.before.before.before.if1.true) c.before.before.list_over.ensures, covered a.map.now a.width)
 
 returns-2 : tie.Need-returns-2
 returns-2 c =
     let a = c.before.before.before.before.args in
-    (hands-no-width a.width (list_of a.map.now a.width) a.out.now (sym c.before.is-width.ensures ∙ c.if1.false), covered a.map.now a.width)
+    (hands_no_width a.width (list_of a.map.now a.width) a.out.now (sym c.before.is-width.ensures ∙ c.if1.false), covered a.map.now a.width)
 
 pub list-bits-spec : {M : Type 1} → statement M
 list-bits-spec =

@@ -3,7 +3,7 @@
 use borrow.Author.Rules.{rules}
 use mathlib.Core.Path.{◌∙◌, sym, ap}
 use native.Mathlib.Omega.{arith}
-use Rattle.asmap_program.proofs.Widths.{at_width, no-width, narrow}
+use Rattle.asmap_program.proofs.Widths.{at_width, no_width, narrow}
 use Rattle.asmap_records.specs.Output.{No}
 use Rattle.asmap_list.specs.List.{list_of, bytes_of}
 use Rattle.asmap_list.proofs.list_bytes_bits.Statement.{statement}
@@ -25,7 +25,7 @@ returns c =
 
 returns-2 : tie.Need-returns-2
 returns-2 c =
-    let a = c.before.before.before.args in ap bytes_of (sym (no-width a.width No (list_of a.map.now a.width) (sym c.before.is-width.ensures ∙ c.if1.false)))
+    let a = c.before.before.before.args in ap bytes_of (sym (no_width a.width No (list_of a.map.now a.width) (sym c.before.is-width.ensures ∙ c.if1.false)))
 
 pub list-bytes-bits-spec : {M : Type 1} → statement M
 list-bytes-bits-spec =

@@ -3,9 +3,9 @@
 use borrow.Author.Rules.{rules}
 use mathlib.Core.Path.{◌∙◌, sym}
 use native.Mathlib.Omega.{arith}
-use Rattle.asmap_codes.specs.Instruction.{mapOf}
-use Rattle.asmap_records.proofs.OutputLaws.{hands-no, hands-short, hands-made}
-use Rattle.prefix_records.specs.Record.{recordsOf}
+use Rattle.asmap_codes.specs.Instruction.{map_of}
+use Rattle.asmap_records.proofs.OutputLaws.{hands_no, hands_short, hands_made}
+use Rattle.prefix_records.specs.Record.{records_of}
 use Rattle.asmap_listing.specs.Listing.{listing}
 use Rattle.asmap_list.specs.List.{list_of}
 use Rattle.asmap_list.proofs.CallLaws.{Counts, counts, refuses}
@@ -30,7 +30,7 @@ returns c =
     let a = c.before.before.before.before.before.before.before.args in
     let m = a.map.now in
     let k = known c.before in
-    hands-short (list_of m a.bits) a.out.now (recordsOf (listing (mapOf m))) k.made (omega (arith, k.long, c.if1.true))
+    hands_short (list_of m a.bits) a.out.now (records_of (listing (map_of m))) k.made (omega (arith, k.long, c.if1.true))
 
 mul-bytes : tie.Need-overflow-mul-bytes
 mul-bytes c = search rules
@@ -43,7 +43,7 @@ returns-2 c =
     let a = c.before.before.before.before.before.before.args in
     let m = a.map.now in
     let g = c.before.counted.given in
-    hands-no (list_of m a.bits) a.out.now g.0.0 (refuses m a.bits c.before.before.before.before.before.before.requires g.0.0 (sym g.1 ∙ c.before.before.before.sanity-check-pieces.ensures.0))
+    hands_no (list_of m a.bits) a.out.now g.0.0 (refuses m a.bits c.before.before.before.before.before.before.requires g.0.0 (sym g.1 ∙ c.before.before.before.sanity-check-pieces.ensures.0))
 
 same_length : tie.Need-same-length
 same_length c = search rules
@@ -53,7 +53,7 @@ returns-3 c =
     let a = c.before.before.before.before.before.before.before.before.before.before.before.args in
     let m = a.map.now in
     let k = known c.before.before.before.before.before in
-    hands-made (list_of m a.bits) a.out.now (recordsOf (listing (mapOf m))) _ _ k.made (omega (arith, k.long)) (omega (arith, k.long, c.before.before.before.before.if1.false)) c.before.before.put-listing.ensures
+    hands_made (list_of m a.bits) a.out.now (records_of (listing (map_of m))) _ _ k.made (omega (arith, k.long)) (omega (arith, k.long, c.before.before.before.before.if1.false)) c.before.before.put-listing.ensures
 
 pub list-over-spec : {M : Type 1} → statement M
 list-over-spec =

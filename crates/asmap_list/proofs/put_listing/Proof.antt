@@ -6,7 +6,7 @@ use native.Mathlib.Omega.{arith}
 use mathlib.Core.Path.{◌≡◌, subst}
 use Rattle.asmap_list_step.specs.models.Step.{weight, Passed}
 use Rattle.asmap_list_step.specs.declared.Next.{Next}
-use Rattle.asmap_list.proofs.PutLaws.{Standing, start-standing, gives-length, gives-standing, ends-standing, done-standing}
+use Rattle.asmap_list.proofs.PutLaws.{Standing, start_standing, gives_length, gives_standing, ends_standing, done_standing}
 use Rattle.asmap_list.proofs.put_listing.Statement.{statement}
 use Rattle.asmap_list.proofs.put_listing.Tie as tie
 
@@ -35,7 +35,7 @@ start-requires c κs = search rules
 loop-holds : tie.Need-loop-init invariant-loop decreases-loop
 loop-holds c =
     let k = c.before.before.before.before.before in
-    start-standing k.args.map.now k.args.out.now _ _ k.args.count _ k.requires.2 c.before.before.stack-bits.ensures c.before.stack-numbers.ensures c.start.ensures
+    start_standing k.args.map.now k.args.out.now _ _ k.args.count _ k.requires.2 c.before.before.stack-bits.ensures c.before.stack-numbers.ensures c.start.ensures
 
 slice-aggregate-next-piece : tie.Need-slice-aggregate-next-piece invariant-loop decreases-loop
 slice-aggregate-next-piece c = c.before.before.loop.invariant.sane.rooms.0
@@ -58,7 +58,7 @@ put-record-requires : tie.Need-put-record-requires invariant-loop decreases-loop
 put-record-requires c κs = omega (arith, c.before.before.before.before.before.before.before.before.before.loop-test.true, c.before.before.before.before.before.before.before.before.before.before.before.before.before.before.before.before.requires.1, c.before.before.before.before.before.before.before.before.before.before.loop.invariant.long)
 
 behind-requires : tie.Need-behind-requires invariant-loop decreases-loop
-behind-requires c κs = gives-length c.before.before.before.before.before.before.before.before.before.before.before.before.before.loop.invariant _ _ _ (passed c.before.before.before.before.before.before.before.before.before _ c.before.before.before.before.before.got.given.1).same
+behind-requires c κs = gives_length c.before.before.before.before.before.before.before.before.before.before.before.before.before.loop.invariant _ _ _ (passed c.before.before.before.before.before.before.before.before.before _ c.before.before.before.before.before.got.given.1).same
 
 add-k : tie.Need-overflow-add-k invariant-loop decreases-loop
 add-k c = let k = c.before.before.before.before.before.before.before.before.before.before.before.before.before.before.before.before.before.before.before.before in omega (arith, c.before.before.before.before.before.before.before.before.before.before.before.before.before.loop-test.true, k.requires.1, k.well-formed)
@@ -68,7 +68,7 @@ loop-less c = (passed c.before.before.before.before.before.before.before.before.
 
 loop-again : tie.Need-loop-preserved invariant-loop decreases-loop
 loop-again c =
-    gives-standing c.before.before.before.before.before.before.before.before.before.before.before.before.before.before.loop.invariant _ _ _ _ _ _ _ (passed c.before.before.before.before.before.before.before.before.before.before _ c.before.before.before.before.before.before.got.given.1) c.behind.ensures c.before.before.before.put_record.ensures
+    gives_standing c.before.before.before.before.before.before.before.before.before.before.before.before.before.before.loop.invariant _ _ _ _ _ _ _ (passed c.before.before.before.before.before.before.before.before.before.before _ c.before.before.before.before.before.before.got.given.1) c.behind.ensures c.before.before.before.put_record.ensures
 
 -- ---- the end
 
@@ -79,13 +79,13 @@ same_length : tie.Need-same-length invariant-loop decreases-loop
 same_length c = c.before.before.before.before.before.before.before.before.loop.invariant.long
 
 returns : tie.Need-returns invariant-loop decreases-loop
-returns c = ends-standing c.before.before.before.before.before.before.before.before.loop.invariant (passed c.before.before.before.before _ c.enum_told.given.1)
+returns c = ends_standing c.before.before.before.before.before.before.before.before.loop.invariant (passed c.before.before.before.before _ c.enum_told.given.1)
 
 same-length-2 : tie.Need-same-length-2 invariant-loop decreases-loop
 same-length-2 c = c.before.loop.invariant.long
 
 returns-2 : tie.Need-returns-2 invariant-loop decreases-loop
-returns-2 c = done-standing c.before.loop.invariant c.loop-test.false
+returns-2 c = done_standing c.before.loop.invariant c.loop-test.false
 
 pub put-listing-spec : {M : Type 1} → statement M
 put-listing-spec =

@@ -4,7 +4,7 @@ use borrow.Author.Rules.{rules}
 use mathlib.Core.Path.{◌≡◌, subst}
 use Rattle.asmap_list_step.specs.models.Step.{weight, Stepped}
 use Rattle.asmap_list_step.specs.declared.Turn.{Turn}
-use Rattle.asmap_list_step.proofs.StepLaws.{Going, going_start, going_on, going-gives, going-ends, going-rooms}
+use Rattle.asmap_list_step.proofs.StepLaws.{Going, going_start, going_on, going_gives, going_ends, going_rooms}
 use Rattle.asmap_list_step.proofs.next_piece.Statement.{statement}
 use Rattle.asmap_list_step.proofs.next_piece.Tie as tie
 
@@ -31,13 +31,13 @@ enum-known-turn : tie.Need-enum-known-turn invariant-loop decreases-loop
 enum-known-turn c = search rules
 
 same_length : tie.Need-same-length invariant-loop decreases-loop
-same_length c = (going-rooms c.before.before.before.before.before.before.before.before.before.before.loop.invariant (stepped c.before.before.before.before.before.before.before _ c.before.turn.given.1).sane).0
+same_length c = (going_rooms c.before.before.before.before.before.before.before.before.before.before.loop.invariant (stepped c.before.before.before.before.before.before.before _ c.before.turn.given.1).sane).0
 
 same-length-2 : tie.Need-same-length-2 invariant-loop decreases-loop
-same-length-2 c = (going-rooms c.before.before.before.before.before.before.before.before.before.before.loop.invariant (stepped c.before.before.before.before.before.before.before _ c.before.turn.given.1).sane).1
+same-length-2 c = (going_rooms c.before.before.before.before.before.before.before.before.before.before.loop.invariant (stepped c.before.before.before.before.before.before.before _ c.before.turn.given.1).sane).1
 
 returns : tie.Need-returns invariant-loop decreases-loop
-returns c = going-gives c.before.before.before.before.before.before.before.before.before.before.loop.invariant (stepped c.before.before.before.before.before.before.before _ c.before.turn.given.1)
+returns c = going_gives c.before.before.before.before.before.before.before.before.before.before.loop.invariant (stepped c.before.before.before.before.before.before.before _ c.before.turn.given.1)
 
 enum-known-turn-2 : tie.Need-enum-known-turn-2 invariant-loop decreases-loop
 enum-known-turn-2 c = search rules
@@ -58,7 +58,7 @@ same-length-4 : tie.Need-same-length-4 invariant-loop decreases-loop
 same-length-4 c = search rules
 
 returns-2 : tie.Need-returns-2 invariant-loop decreases-loop
-returns-2 c = going-ends c.before.before.before.before.before.before.before.before.before.loop.invariant (stepped c.before.before.before.before.before.before _ c.enum_told.given.1)
+returns-2 c = going_ends c.before.before.before.before.before.before.before.before.before.loop.invariant (stepped c.before.before.before.before.before.before _ c.enum_told.given.1)
 
 pub next-piece-spec : {M : Type 1} → statement M
 next-piece-spec =

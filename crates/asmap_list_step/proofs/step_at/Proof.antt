@@ -5,22 +5,22 @@ use mathlib.Core.Path.{◌≡◌, ◌∙◌, sym, ap, subst}
 use Prim.Native.Nat.{ℕ, ◌≤◌}
 use native.Mathlib.Omega.{arith}
 use lib.Dec.{lit<, lit≤}
-use Rattle.asmap_codes.specs.Row.{typeRow, operand_row}
+use Rattle.asmap_codes.specs.Row.{type_row, operand_row}
 use Rattle.asmap_codes.specs.Code.{code_at}
 use Rattle.asmap_codes.specs.declared.Code.TheVariants.{Value}
-use Rattle.asmap_codes.proofs.Inside.{value-at}
+use Rattle.asmap_codes.proofs.Inside.{value_at}
 use Rattle.asmap_row_decoder.specs.models.InWindow.{Holds}
 use Rattle.asmap_row_decoder.proofs.WindowLaws.{row-window, window-holds}
 use Rattle.asmap_list_step.specs.models.Step.{Reads}
-use Rattle.asmap_list_step.proofs.StepLaws.{opcode-cut}
+use Rattle.asmap_list_step.proofs.StepLaws.{opcode_cut}
 use Rattle.asmap_list_step.proofs.step_at.Statement.{statement}
 use Rattle.asmap_list_step.proofs.step_at.Tie as tie
 
 -- what was read is the opcode of the map
-typed : (k : tie.After-type-in) → code_at k.before.before.before.before.before.args.map.now k.before.before.before.before.before.args.s.at typeRow ≡ k.type-in.result
+typed : (k : tie.After-type-in) → code_at k.before.before.before.before.before.args.map.now k.before.before.before.before.before.args.s.at type_row ≡ k.type-in.result
 typed k =
     let a = k.before.before.before.before.before.args in
-    sym (k.type-in.ensures ∙ row-window a.map.now a.s.at _ typeRow (lit< tt) (window-holds a.map.now a.s.at _ typeRow (lit≤ tt) k.before.window.ensures))
+    sym (k.type-in.ensures ∙ row-window a.map.now a.s.at _ type_row (lit< tt) (window-holds a.map.now a.s.at _ type_row (lit≤ tt) k.before.window.ensures))
 
 -- once the opcode was read, and its operand's window made: an opcode o is read here, and the window holds its operand
 abbrev Opcode-read : Type 0
@@ -39,7 +39,7 @@ held k o e =
 last : (c : tie.Else3) → c.before.before.before.before.before.got.given.0.0 ≡ 3
 last c =
     let a = c.before.before.before.before.before.before.before.before.before.before.before.before.args in
-    let i = value-at a.map.now a.s.at typeRow _ _ (lit< tt) (typed c.before.before.before.before.before.before.before ∙ c.before.before.before.before.before.got.given.1) in
+    let i = value_at a.map.now a.s.at type_row _ _ (lit< tt) (typed c.before.before.before.before.before.before.before ∙ c.before.before.before.before.before.got.given.1) in
     omega (arith, i.below, c.if3.false, c.before.if2.false, c.before.before.if1.false)
 
 window-requires : tie.Need-window-requires
@@ -60,7 +60,7 @@ enum_told c = search rules
 returns : tie.Need-returns
 returns c =
     let k = c.before.before.before.before.before.before.before in
-    opcode-cut k.args.map.now k.args.s k.args.bits.now k.args.numbers.now k.requires.1 k.requires.2 k.requires.3 (typed c.before.before ∙ c.enum_told.given.1)
+    opcode_cut k.args.map.now k.args.s k.args.bits.now k.args.numbers.now k.requires.1 k.requires.2 k.requires.3 (typed c.before.before ∙ c.enum_told.given.1)
 
 operand-window-requires : tie.Need-operand-window-requires
 operand-window-requires c κs = (c.before.before.before.before.window.ensures, typed c.before.before.before ∙ c.before.got.given.1)

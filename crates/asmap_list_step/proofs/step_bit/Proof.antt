@@ -4,7 +4,7 @@ use borrow.Author.Rules.{rules}
 use mathlib.Core.Path.{refl}
 use Prim.Native.Nat.{◌+◌, ◌-◌}
 use native.Mathlib.Omega.{arith}
-use Rattle.asmap_list_step.proofs.StepLaws.{depth-bound, bit-gives, bit-goes}
+use Rattle.asmap_list_step.proofs.StepLaws.{depth_bound, bit-gives, bit_goes}
 use Rattle.asmap_list_step.proofs.step_bit.Statement.{statement}
 use Rattle.asmap_list_step.proofs.step_bit.Tie as tie
 
@@ -30,16 +30,16 @@ add-bits : tie.Need-overflow-add-bits
 add-bits c = search rules
 
 slice-write-bits : tie.Need-slice-write-bits
-slice-write-bits c = let k = c.before.before.before.before.before in omega (arith, depth-bound k.args.map.now k.args.s k.args.bits.now k.args.numbers.now k.requires.0, k.requires.0.bits, k.requires.0.rooms.0, k.requires.2)
+slice-write-bits c = let k = c.before.before.before.before.before in omega (arith, depth_bound k.args.map.now k.args.s k.args.bits.now k.args.numbers.now k.requires.0, k.requires.0.bits, k.requires.0.rooms.0, k.requires.2)
 
 mul-numbers : tie.Need-overflow-mul-numbers
-mul-numbers c = let k = c.before.before.before.before.before in omega (arith, depth-bound k.args.map.now k.args.s k.args.bits.now k.args.numbers.now k.requires.0, k.requires.0.bits)
+mul-numbers c = let k = c.before.before.before.before.before in omega (arith, depth_bound k.args.map.now k.args.s k.args.bits.now k.args.numbers.now k.requires.0, k.requires.0.bits)
 
 slice-write-numbers : tie.Need-slice-write-numbers
-slice-write-numbers c = let k = c.before.before.before.before.before in omega (arith, depth-bound k.args.map.now k.args.s k.args.bits.now k.args.numbers.now k.requires.0, k.requires.0.bits, k.requires.0.rooms.1, k.requires.2)
+slice-write-numbers c = let k = c.before.before.before.before.before in omega (arith, depth_bound k.args.map.now k.args.s k.args.bits.now k.args.numbers.now k.requires.0, k.requires.0.bits, k.requires.0.rooms.1, k.requires.2)
 
 add-t15 : tie.Need-overflow-add-t15
-add-t15 c = let k = c.before.before.before.before.before in omega (arith, depth-bound k.args.map.now k.args.s k.args.bits.now k.args.numbers.now k.requires.0, k.requires.0.bits)
+add-t15 c = let k = c.before.before.before.before.before in omega (arith, depth_bound k.args.map.now k.args.s k.args.bits.now k.args.numbers.now k.requires.0, k.requires.0.bits)
 
 same_length : tie.Need-same-length
 same_length c = search rules
@@ -50,9 +50,9 @@ same-length-2 c = search rules
 returns-2 : tie.Need-returns-2
 returns-2 c =
     let k = c.before.before.before.before.before in
-    bit-goes k.args.map.now k.args.s k.args.bits.now k.args.numbers.now k.requires.0
+    bit_goes k.args.map.now k.args.s k.args.bits.now k.args.numbers.now k.requires.0
     (k.args.s.left - 1) (k.args.s.used + 1) (k.args.s.depth + 1) (k.args.s.used + 128) k.requires.1 (omega (arith, k.requires.2)) (omega (arith, c.before.if1.false))
-    (omega (arith, depth-bound k.args.map.now k.args.s k.args.bits.now k.args.numbers.now k.requires.0, k.requires.0.bits, k.requires.2)) (omega arith) (omega arith) refl
+    (omega (arith, depth_bound k.args.map.now k.args.s k.args.bits.now k.args.numbers.now k.requires.0, k.requires.0.bits, k.requires.2)) (omega arith) (omega arith) refl
 
 pub step-bit-spec : {M : Type 1} → statement M
 step-bit-spec =

@@ -9,7 +9,7 @@ use Rattle.asmap_program.specs.Map.{JUMP}
 use Rattle.asmap_codes.specs.Row.{jump_row}
 use Rattle.asmap_codes.specs.Code.{code_at}
 use Rattle.asmap_row_decoder.proofs.WindowLaws.{row-window}
-use Rattle.asmap_list_step.proofs.StepLaws.{from-near, depth-bound, operand-cut, at-jump, at-jump-full}
+use Rattle.asmap_list_step.proofs.StepLaws.{from_near, depth_bound, operand_cut, at-jump, at-jump_full}
 use Rattle.asmap_list_step.proofs.step_jump.Statement.{statement}
 use Rattle.asmap_list_step.proofs.step_jump.Tie as tie
 
@@ -23,7 +23,7 @@ mul-jump-in : tie.Need-overflow-mul-jump-in
 mul-jump-in c = search rules
 
 jump-in-requires : tie.Need-jump-in-requires
-jump-in-requires c κs = let k = c.before.before.before in from-near k.args.map.now k.args.s JUMP k.args.from k.requires.1 k.requires.0
+jump-in-requires c κs = let k = c.before.before.before in from_near k.args.map.now k.args.s JUMP k.args.from k.requires.1 k.requires.0
 
 enum-known-got : tie.Need-enum-known-got
 enum-known-got c = search rules
@@ -34,18 +34,18 @@ enum_told c = search rules
 returns : tie.Need-returns
 returns c =
     let k = c.before.before.before.before.before.before in
-    operand-cut k.args.map.now k.args.s k.args.bits.now k.args.numbers.now k.requires.3 JUMP _ k.requires.1 (code c.before.before ∙ c.enum_told.given.1)
+    operand_cut k.args.map.now k.args.s k.args.bits.now k.args.numbers.now k.requires.3 JUMP _ k.requires.1 (code c.before.before ∙ c.enum_told.given.1)
 
 returns-2 : tie.Need-returns-2
 returns-2 c =
     let k = c.before.before.before.before.before.before.before.before in
-    at-jump-full k.args.map.now k.args.s k.args.bits.now k.args.numbers.now k.requires.3 JUMP _ k.requires.1 _ _ (code c.before.before.before.before ∙ c.before.before.got.given.1) refl c.if1.true
+    at-jump_full k.args.map.now k.args.s k.args.bits.now k.args.numbers.now k.requires.3 JUMP _ k.requires.1 _ _ (code c.before.before.before.before ∙ c.before.before.got.given.1) refl c.if1.true
 
 -- the stack has room
 space : (c : tie.Else1) → c.before.before.before.before.before.before.before.before.args.s.depth < 128
 space c =
     let k = c.before.before.before.before.before.before.before.before in
-    omega (arith, depth-bound k.args.map.now k.args.s k.args.bits.now k.args.numbers.now k.requires.3, k.requires.3.bits, c.if1.false)
+    omega (arith, depth_bound k.args.map.now k.args.s k.args.bits.now k.args.numbers.now k.requires.3, k.requires.3.bits, c.if1.false)
 
 slice-write-bits : tie.Need-slice-write-bits
 slice-write-bits c = omega (arith, space c, c.before.before.before.before.before.before.before.before.requires.3.rooms.0)

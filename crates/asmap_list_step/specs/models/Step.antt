@@ -3,10 +3,10 @@
 -- Assumes nothing.
 use Rattle.std.specs.Prelude.{ℕ, zero, suc, ◌+◌, ◌-◌, ◌*◌, ◌≤◌, ◌<◌, Bool, true, false, ◌≡◌, List, [], ◌∷◌, ltb, length, get_or}
 use Rattle.asmap_program.specs.Map.{Map}
-use Rattle.asmap_codes.specs.Row.{typeRow}
+use Rattle.asmap_codes.specs.Row.{type_row}
 use Rattle.asmap_codes.specs.Code.{code_at}
 use Rattle.asmap_codes.specs.declared.Code.TheVariants.{Value}
-use Rattle.asmap_codes.specs.Instruction.{mapOf}
+use Rattle.asmap_codes.specs.Instruction.{map_of}
 use Rattle.asmap_listing.specs.models.Scan.{Leaf, leaf, Entry, Side, Half, Scan, popped, bitwise, scanned, Rising}
 use Rattle.asmap_list_step.specs.declared.Spot.{Spot}
 use Rattle.asmap_list_step.specs.declared.Turn.{Turn}
@@ -15,12 +15,12 @@ use Rattle.asmap_list_step.specs.declared.Next.{Next}
 use Rattle.asmap_list_step.specs.declared.Next.TheVariants.{Piece, Over}
 
 -- An entry of the arrays: a JUMP's second half is kept as its bit, a side that differs as its bit and 128 more.
-unfoldable pub entryIf : Bool → ℕ → ℕ → Entry
-entryIf true b n = Half b n
-entryIf false b n = Side (b - 128) n
+unfoldable pub entry_if : Bool → ℕ → ℕ → Entry
+entry_if true b n = Half b n
+entry_if false b n = Side (b - 128) n
 
 abbrev pub entry_of : ℕ → ℕ → Entry
-entry_of b n = entryIf (ltb b 128) b n
+entry_of b n = entry_if (ltb b 128) b n
 
 -- The first d entries, the last of them first.
 unfoldable pub stack_of : List ℕ → List ℕ → ℕ → List Entry
@@ -33,7 +33,7 @@ ahead m true at left v s = popped (scanned m 128 at) s.stack
 ahead m false at left v s = bitwise (scanned m 128 at) left v s
 
 abbrev pub rest : List ℕ → Spot → List ℕ → List ℕ → List Leaf
-rest map s bs ns = ahead (mapOf map) s.up s.at s.left s.value (record { used = s.used; default = s.default; stack = stack_of bs ns s.depth })
+rest map s bs ns = ahead (map_of map) s.up s.at s.left s.value (record { used = s.used; default = s.default; stack = stack_of bs ns s.depth })
 
 unfoldable pub one : Bool → ℕ
 one true = 1
@@ -69,4 +69,4 @@ Passed map s bs ns bs' ns' Over = rest map s bs ns ≡ []
 
 -- At s the opcode op is read, and its operand starts at `from`.
 abbrev pub Reads : List ℕ → Spot → ℕ → ℕ → Type 0
-Reads map s op from = (s.up ≡ false) × (s.left ≡ 0) × (code_at map s.at typeRow ≡ Value op from)
+Reads map s op from = (s.up ≡ false) × (s.left ≡ 0) × (code_at map s.at type_row ≡ Value op from)

@@ -29,8 +29,8 @@ pub record Scan : Type 0 where
   pub default : ℕ
   pub stack : List Entry
 
-abbrev pub scanStart : Scan
-scanStart = record { used = 0; default = 0; stack = [] }
+abbrev pub scan_start : Scan
+scan_start = record { used = 0; default = 0; stack = [] }
 
 -- A subtree has ended: the sides on the stack are leaves, up to a JUMP, whose second half comes next.
 unfoldable pub popped : (Scan → List Leaf) → List Entry → List Leaf
@@ -57,32 +57,32 @@ enough true ls = ls
 enough false ls = []
 
 -- At an instruction read whole, over w address bits, k being the leaves from its end on.
-abbrev pub scanWhole : ℕ → (Scan → List Leaf) → Scan → Instruction → ℕ → List Leaf
-scanWhole w k s i zero = leaf s.used i.operand ∷ popped k s.stack
-scanWhole w k s i (suc zero) =
+abbrev pub scan_whole : ℕ → (Scan → List Leaf) → Scan → Instruction → ℕ → List Leaf
+scan_whole w k s i zero = leaf s.used i.operand ∷ popped k s.stack
+scan_whole w k s i (suc zero) =
     enough (ltb s.used w) (k (record { used = suc s.used; default = s.default; stack = Half s.used s.default ∷ s.stack }))
-scanWhole w k s i (suc (suc zero)) = enough (leb (s.used + length_of i.operand) w) (bitwise k (length_of i.operand) i.operand s)
-scanWhole w k s i (suc (suc (suc n))) = k (record { used = s.used; default = i.operand; stack = s.stack })
+scan_whole w k s i (suc (suc zero)) = enough (leb (s.used + length_of i.operand) w) (bitwise k (length_of i.operand) i.operand s)
+scan_whole w k s i (suc (suc (suc n))) = k (record { used = s.used; default = i.operand; stack = s.stack })
 
-abbrev pub scanOn : ℕ → (ℕ → Scan → List Leaf) → Scan → Fetched → List Leaf
-scanOn w k s (Whole i) = scanWhole w (k (end_of i)) s i i.opcode
-scanOn w k s CutOpcode = []
-scanOn w k s (CutOperand op) = []
+abbrev pub scan_on : ℕ → (ℕ → Scan → List Leaf) → Scan → Fetched → List Leaf
+scan_on w k s (Whole i) = scan_whole w (k (end_of i)) s i i.opcode
+scan_on w k s CutOpcode = []
+scan_on w k s (CutOperand op) = []
 
 module _ (m : Map) (w : ℕ) where
-  unfoldable pub scanFrom : ℕ → ℕ → Scan → List Leaf
-  scanFrom zero at s = []
-  scanFrom (suc f) at s = scanOn w (λ (p : ℕ) (s' : Scan). scanFrom f p s') s (m.fetch at)
+  unfoldable pub scan_from : ℕ → ℕ → Scan → List Leaf
+  scan_from zero at s = []
+  scan_from (suc f) at s = scan_on w (λ (p : ℕ) (s' : Scan). scan_from f p s') s (m.fetch at)
 
   -- The leaves from a place on.
   unfoldable pub scanned : ℕ → Scan → List Leaf
-  scanned at s = scanFrom (m.bits - at) at s
+  scanned at s = scan_from (m.bits - at) at s
 
 -- The stack's entries have used a bit each: the innermost one below `used`, each other below the one before it.
-abbrev pub bitOfEntry : Entry → ℕ
-bitOfEntry (Side u n) = u
-bitOfEntry (Half u d) = u
+abbrev pub bit_of_entry : Entry → ℕ
+bit_of_entry (Side u n) = u
+bit_of_entry (Half u d) = u
 
 abbrev pub Rising : ℕ → List Entry → Type 0
 Rising u [] = Unit {0}
-Rising u (e ∷ st) = (bitOfEntry e < u) × Rising (bitOfEntry e) st
+Rising u (e ∷ st) = (bit_of_entry e < u) × Rising (bit_of_entry e) st

@@ -6,16 +6,16 @@ use Prim.Native.Nat.{ℕ, ◌+◌, ◌-◌, ◌*◌, ◌≤◌}
 use native.Mathlib.Omega.{arith}
 use lib.ListN.{length}
 use Rattle.asmap_program.specs.Map.{RETURN, MATCH, DEFAULT}
-use Rattle.asmap_codes.specs.Encode.{instructionBits}
+use Rattle.asmap_codes.specs.Encode.{instruction_bits}
 use Rattle.load_draws.specs.Draw.{next}
-use Rattle.asmap_load.specs.Load.{numberBy, matchBy, loadBits}
-use Rattle.asmap_load.proofs.LoadLaws.{return-ranged, default-ranged, match-ranged, measured, load-last, length_more, load-short}
+use Rattle.asmap_load.specs.Load.{number_by, match_by, load_bits}
+use Rattle.asmap_load.proofs.LoadLaws.{return_ranged, default_ranged, match_ranged, measured, load_last, length_more, load_short}
 use Rattle.asmap_load.proofs.load_length.Statement.{statement}
 use Rattle.asmap_load.proofs.load_length.Tie as tie
 
 abbrev invariant-loop : tie.invariant-loop
 invariant-loop pairs drawn₀ bits₀ left₀ drawn bits left =
-    (left ≤ pairs) × (bits + length (loadBits left drawn.state) ≡ length (loadBits pairs drawn₀.state))
+    (left ≤ pairs) × (bits + length (load_bits left drawn.state) ≡ length (load_bits pairs drawn₀.state))
 
 abbrev decreases-loop : tie.decreases-loop
 decreases-loop pairs drawn₀ bits₀ left₀ drawn bits left = left
@@ -47,34 +47,34 @@ s c = c.before.before.before.before.before.before.before.loop.drawn.state
 
 -- what a turn measures, as lengths
 turn : (c : tie.After-instruction-length2 invariant-loop decreases-loop)
-    → (c.before.before.before.instruction-length.result ≡ length (instructionBits DEFAULT (numberBy (next (s c)))))
-    × (c.instruction-length2.result ≡ length (instructionBits MATCH (matchBy (next (next (s c))))))
+    → (c.before.before.before.instruction-length.result ≡ length (instruction_bits DEFAULT (number_by (next (s c)))))
+    × (c.instruction-length2.result ≡ length (instruction_bits MATCH (match_by (next (next (s c))))))
     × (c.before.before.next2.result ≡ record { state = next (next (s c)) })
 turn c =
     let a = c.before.before.before.before.before.next.ensures.0 in
     let b = c.before.before.next2.ensures.0 ∙ ap (λ x. record { state = next x.state }) a in
-    let n = c.before.before.before.before.number_by.ensures ∙ ap (λ x. numberBy x.state) a in
-    let m = c.before.Match-by.ensures ∙ ap (λ x. matchBy x.state) b in (
-      measured DEFAULT (numberBy (next (s c))) _ (default-ranged (next (s c))) (rw n at c.before.before.before.instruction-length.ensures),
-      measured MATCH (matchBy (next (next (s c)))) _ (match-ranged (next (next (s c)))) (rw m at c.instruction-length2.ensures),
+    let n = c.before.before.before.before.number_by.ensures ∙ ap (λ x. number_by x.state) a in
+    let m = c.before.Match-by.ensures ∙ ap (λ x. match_by x.state) b in (
+      measured DEFAULT (number_by (next (s c))) _ (default_ranged (next (s c))) (rw n at c.before.before.before.instruction-length.ensures),
+      measured MATCH (match_by (next (next (s c)))) _ (match_ranged (next (next (s c)))) (rw m at c.instruction-length2.ensures),
       b,
     )
 
 -- the load is short
 bound : (c : tie.After-instruction-length2 invariant-loop decreases-loop)
-    → c.before.before.before.before.before.before.before.loop.bits + length (loadBits c.before.before.before.before.before.before.before.loop.left (s c)) ≤ 26 * 128 + 19
+    → c.before.before.before.before.before.before.before.loop.bits + length (load_bits c.before.before.before.before.before.before.before.loop.left (s c)) ≤ 26 * 128 + 19
 bound c =
     let a = c.before.before.before.before.before.before.before.before.args in
-    omega (arith, c.before.before.before.before.before.before.before.loop.invariant.1, load-short a.pairs a.generator.state, c.before.before.before.before.before.before.before.before.requires)
+    omega (arith, c.before.before.before.before.before.before.before.loop.invariant.1, load_short a.pairs a.generator.state, c.before.before.before.before.before.before.before.before.requires)
 
 -- and the turn takes its two instructions off what is to come
 less : (c : tie.After-instruction-length2 invariant-loop decreases-loop)
-    → length (loadBits c.before.before.before.before.before.before.before.loop.left (s c))
-    ≡ c.before.before.before.instruction-length.result + c.instruction-length2.result + length (loadBits (c.before.before.before.before.before.before.before.loop.left - 1) (next (next (s c))))
+    → length (load_bits c.before.before.before.before.before.before.before.loop.left (s c))
+    ≡ c.before.before.before.instruction-length.result + c.instruction-length2.result + length (load_bits (c.before.before.before.before.before.before.before.loop.left - 1) (next (next (s c))))
 less c =
     let t = turn c in
     length_more c.before.before.before.before.before.before.before.loop.left (s c) (omega arith)
-    ∙ sym (ap₂ (λ (x y : ℕ). x + y + length (loadBits (c.before.before.before.before.before.before.before.loop.left - 1) (next (next (s c))))) t.0 t.1)
+    ∙ sym (ap₂ (λ (x y : ℕ). x + y + length (load_bits (c.before.before.before.before.before.before.before.loop.left - 1) (next (next (s c))))) t.0 t.1)
 
 add-bits : tie.Need-overflow-add-bits invariant-loop decreases-loop
 add-bits c = record { fits = omega (arith, bound c, less c) }
@@ -91,8 +91,8 @@ loop-less c = omega arith
 loop-again : tie.Need-loop-preserved invariant-loop decreases-loop
 loop-again c =
     let l = c.before.before.before.before.before.before.before.loop in
-    let e : length (loadBits (l.left - 1) c.before.before.next2.result.state) ≡ length (loadBits (l.left - 1) (next (next (s c))))
-    = ap (λ x. length (loadBits (l.left - 1) x.state)) (turn c).2 in
+    let e : length (load_bits (l.left - 1) c.before.before.next2.result.state) ≡ length (load_bits (l.left - 1) (next (next (s c))))
+    = ap (λ x. length (load_bits (l.left - 1) x.state)) (turn c).2 in
     (omega arith, omega (arith, l.invariant.1, less c, e))
 
 next-requires-3 : tie.Need-next-requires-3 invariant-loop decreases-loop
@@ -106,16 +106,16 @@ instruction-length-requires-3 c κs = search rules
 
 -- behind the last pair: the RETURN alone was still to come
 final : (c : tie.After-instruction-length3 invariant-loop decreases-loop)
-    → (c.before.before.before.before.loop.bits + c.instruction-length3.result ≡ length (loadBits c.before.before.before.before.before.args.pairs c.before.before.before.before.before.args.generator.state))
-    × (length (loadBits c.before.before.before.before.before.args.pairs c.before.before.before.before.before.args.generator.state) ≤ 26 * 128 + 19)
+    → (c.before.before.before.before.loop.bits + c.instruction-length3.result ≡ length (load_bits c.before.before.before.before.before.args.pairs c.before.before.before.before.before.args.generator.state))
+    × (length (load_bits c.before.before.before.before.before.args.pairs c.before.before.before.before.before.args.generator.state) ≤ 26 * 128 + 19)
 final c =
     let l = c.before.before.before.before.loop in
     let a = c.before.before.before.before.before.args in
     let d = next l.drawn.state in
-    let n = c.before.number-by2.ensures ∙ ap (λ x. numberBy x.state) c.before.before.next3.ensures.0 in
-    let m = measured RETURN (numberBy d) _ (return-ranged d) (rw n at c.instruction-length3.ensures) in
-    let e = ap length (load-last l.left l.drawn.state (omega arith)) in
-    (omega (arith, l.invariant.1, m, e), omega (arith, load-short a.pairs a.generator.state, c.before.before.before.before.before.requires))
+    let n = c.before.number-by2.ensures ∙ ap (λ x. number_by x.state) c.before.before.next3.ensures.0 in
+    let m = measured RETURN (number_by d) _ (return_ranged d) (rw n at c.instruction-length3.ensures) in
+    let e = ap length (load_last l.left l.drawn.state (omega arith)) in
+    (omega (arith, l.invariant.1, m, e), omega (arith, load_short a.pairs a.generator.state, c.before.before.before.before.before.requires))
 
 add-result : tie.Need-overflow-add-result invariant-loop decreases-loop
 add-result c = record { fits = omega (arith, final c) }

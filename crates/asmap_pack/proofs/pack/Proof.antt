@@ -8,20 +8,20 @@ use native.Mathlib.Omega.{arith}
 use lib.ListN.{length}
 use lib.Seq.{sets}
 use Rattle.asmap_bit_writer.specs.Bytes.{bytes_of}
-use Rattle.asmap_records.specs.Pack.{recordsBits, packOf}
+use Rattle.asmap_records.specs.Pack.{records_bits, pack_of}
 use Rattle.asmap_records.specs.Output.{Result, Made, No}
-use Rattle.asmap_pack.specs.models.Size.{bitsIn}
-use Rattle.asmap_bit_writer.proofs.ByteLaws.{length-bytesOf}
-use Rattle.asmap_records.proofs.OutputLaws.{hands-no, hands-short, hands-made}
-use Rattle.asmap_records.proofs.PackLaws.{records-bound, pack-ragged, pack-whole}
-use Rattle.asmap_pack.proofs.SizeLaws.{ends-made, wrong-no}
+use Rattle.asmap_pack.specs.models.Size.{bits_in}
+use Rattle.asmap_bit_writer.proofs.ByteLaws.{length-bytes_of}
+use Rattle.asmap_records.proofs.OutputLaws.{hands_no, hands_short, hands_made}
+use Rattle.asmap_records.proofs.PackLaws.{records_bound, pack_ragged, pack_whole}
+use Rattle.asmap_pack.proofs.SizeLaws.{ends_made, wrong_no}
 use Rattle.asmap_pack.proofs.pack.Statement.{statement}
 use Rattle.asmap_pack.proofs.pack.Tie as tie
 
 returns : tie.Need-returns
 returns c =
     let a = c.before.before.before.args in
-    hands-no (packOf a.records.now) a.out.now 16 (pack-ragged a.records.now c.if1.true)
+    hands_no (pack_of a.records.now) a.out.now 16 (pack_ragged a.records.now c.if1.true)
 
 records-end-requires : tie.Need-records-end-requires
 records-end-requires c κs = search rules
@@ -34,21 +34,21 @@ enum-known-end c = search rules
 
 -- the records are right: their bits, and where they end
 made : (c : tie.After-known-told2)
-    → (bs : List ℕ) × (recordsBits (length c.before.before.before.before.before.before.before.args.records.now / 16) c.before.before.before.before.before.before.before.args.records.now 0 ≡ Made bs) × (c.before.end.given.0.0 ≡ 0 + length bs)
-made c = ends-made 0 c.before.end.given.0.0 _ (sym c.before.before.before.records-end.ensures ∙ c.before.end.given.1)
+    → (bs : List ℕ) × (records_bits (length c.before.before.before.before.before.before.before.args.records.now / 16) c.before.before.before.before.before.before.before.args.records.now 0 ≡ Made bs) × (c.before.end.given.0.0 ≡ 0 + length bs)
+made c = ends_made 0 c.before.end.given.0.0 _ (sym c.before.before.before.records-end.ensures ∙ c.before.end.given.1)
 
 add-bytes : tie.Need-overflow-add-bytes
 add-bytes c =
     let rs = c.before.before.before.before.before.before.before.args.records.now in
     let k = made c in
-    omega (arith, k.2, records-bound (length rs / 16) rs 0 k.0 (omega arith) k.1)
+    omega (arith, k.2, records_bound (length rs / 16) rs 0 k.0 (omega arith) k.1)
 
 returns-2 : tie.Need-returns-2
 returns-2 c =
     let a = c.before.before.before.before.before.before.before.before.args in
     let k = made c.before in
-    hands-short (packOf a.records.now) a.out.now (bytes_of k.0) (pack-whole a.records.now (Made k.0) c.before.before.before.before.before.if1.false k.1)
-    (omega (arith, k.2, length-bytesOf k.0, c.if2.true))
+    hands_short (pack_of a.records.now) a.out.now (bytes_of k.0) (pack_whole a.records.now (Made k.0) c.before.before.before.before.before.if1.false k.1)
+    (omega (arith, k.2, length-bytes_of k.0, c.if2.true))
 
 write-records-requires : tie.Need-write-records-requires
 write-records-requires c κs =
@@ -59,8 +59,8 @@ returns-3 : tie.Need-returns-3
 returns-3 c =
     let a = c.before.before.before.before.before.before.before.args in
     let w = c.before.reason.given in
-    hands-no (packOf a.records.now) a.out.now w.0.0
-    (pack-whole a.records.now (No w.0.0) c.before.before.before.before.if1.false (wrong-no 0 w.0.0 _ (sym c.before.before.before.records-end.ensures ∙ w.1)))
+    hands_no (pack_of a.records.now) a.out.now w.0.0
+    (pack_whole a.records.now (No w.0.0) c.before.before.before.before.if1.false (wrong_no 0 w.0.0 _ (sym c.before.before.before.records-end.ensures ∙ w.1)))
 
 same_length : tie.Need-same-length
 same_length c = c.before.out.given
@@ -69,10 +69,10 @@ returns-4 : tie.Need-returns-4
 returns-4 c =
     let a = c.before.before.before.before.before.before.before.before.before.before.before.before.args in
     let k = made c.before.before.before.before.before in
-    hands-made (packOf a.records.now) a.out.now (bytes_of k.0) _ _ (pack-whole a.records.now (Made k.0) c.before.before.before.before.before.before.before.before.before.if1.false k.1)
-    (omega (arith, k.2, length-bytesOf k.0))
-    (omega (arith, k.2, length-bytesOf k.0, c.before.before.before.before.if2.false))
-    (c.before.before.write-records.ensures ∙ ap (λ (y : Result). sets a.out.now 0 (bytes_of (bitsIn y))) k.1)
+    hands_made (pack_of a.records.now) a.out.now (bytes_of k.0) _ _ (pack_whole a.records.now (Made k.0) c.before.before.before.before.before.before.before.before.before.if1.false k.1)
+    (omega (arith, k.2, length-bytes_of k.0))
+    (omega (arith, k.2, length-bytes_of k.0, c.before.before.before.before.if2.false))
+    (c.before.before.write-records.ensures ∙ ap (λ (y : Result). sets a.out.now 0 (bytes_of (bits_in y))) k.1)
 
 pub pack-spec : {M : Type 1} → statement M
 pack-spec =

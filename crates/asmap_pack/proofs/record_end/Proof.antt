@@ -5,11 +5,11 @@ use mathlib.Core.Path.{◌≡◌, ◌∙◌, sym, ap}
 use Prim.Native.Nat.{ℕ, ◌+◌}
 use native.Mathlib.Omega.{arith}
 use lib.ListN.{get_or}
-use Rattle.asmap_encode.specs.models.Words.{lengthWritten}
-use Rattle.asmap_encode.specs.Write.{writeInstruction}
+use Rattle.asmap_encode.specs.models.Words.{length_written}
+use Rattle.asmap_encode.specs.Write.{write_instruction}
 use Rattle.byte_numbers.specs.Numbers.{number4}
-use Rattle.asmap_bit_writer.proofs.WrittenLaws.{Measured, measured-some, measured-none}
-use Rattle.asmap_pack.proofs.SizeLaws.{end-range, end-zeros, end-place, end-size, end-long, end-made}
+use Rattle.asmap_bit_writer.proofs.WrittenLaws.{Measured, measured_some, measured_none}
+use Rattle.asmap_pack.proofs.SizeLaws.{end_range, end-zeros, end_place, end_size, end_long, end_made}
 use Rattle.asmap_pack.proofs.record_end.Statement.{statement}
 use Rattle.asmap_pack.proofs.record_end.Tie as tie
 
@@ -35,18 +35,18 @@ op c = get_or c.before.before.before.before.args.records.now c.before.before.bef
 abbrev v : tie.After-instruction-length → ℕ
 v c = number4 c.before.before.before.before.args.records.now (c.before.before.before.before.args.from + 4)
 
-counted : (c : tie.After-instruction-length) → c.instruction-length.result ≡ lengthWritten (writeInstruction (op c) (v c))
-counted c = c.instruction-length.ensures ∙ ap (λ (y : ℕ). lengthWritten (writeInstruction (op c) y)) c.before.number-at.ensures
+counted : (c : tie.After-instruction-length) → c.instruction-length.result ≡ length_written (write_instruction (op c) (v c))
+counted c = c.instruction-length.ensures ∙ ap (λ (y : ℕ). length_written (write_instruction (op c) y)) c.before.number_at_lem.ensures
 
 returns : tie.Need-returns
 returns c =
     let k = c.before in
     let a = k.before.before.before.before.args in
-    end-range a.records.now a.from a.at (measured-none (op k) (v k) k.instruction-length.result (counted k) c.if1.true)
+    end_range a.records.now a.from a.at (measured_none (op k) (v k) k.instruction-length.result (counted k) c.if1.true)
 
 -- the record is in range, and has so many bits
 measured : (c : tie.Else1) → Measured (op c.before) (v c.before) c.before.instruction-length.result
-measured c = measured-some (op c.before) (v c.before) c.before.instruction-length.result (counted c.before) c.if1.false
+measured c = measured_some (op c.before) (v c.before) c.before.instruction-length.result (counted c.before) c.if1.false
 
 add-end : tie.Need-overflow-add-end
 add-end c = omega (arith, (measured c).short)
@@ -75,7 +75,7 @@ cast-if3 c = search rules
 returns-3 : tie.Need-returns-3
 returns-3 c =
     let a = c.before.before.before.before.before.before.before.before.before.args in
-    end-place a.records.now a.from a.at _ (measured c.before.before.before.before) (first-right c.before.before)
+    end_place a.records.now a.from a.at _ (measured c.before.before.before.before) (first-right c.before.before)
     (λ k. c.if3.true (c.before.number-at3.ensures ∙ k))
 
 add-number-at-3 : tie.Need-overflow-add-number-at-3
@@ -90,7 +90,7 @@ cast-if4 c = search rules
 returns-4 : tie.Need-returns-4
 returns-4 c =
     let a = c.before.before.before.before.before.before.before.before.before.before.before.args in
-    end-size a.records.now a.from a.at _ (measured c.before.before.before.before.before.before) (first-right c.before.before.before.before)
+    end_size a.records.now a.from a.at _ (measured c.before.before.before.before.before.before) (first-right c.before.before.before.before)
     (sym c.before.before.before.number-at3.ensures ∙ c.before.before.if3.false) (λ k. c.if4.true (c.before.number-at4.ensures ∙ k))
 
 mul-if5 : tie.Need-overflow-mul-if5
@@ -99,13 +99,13 @@ mul-if5 c = search rules
 returns-5 : tie.Need-returns-5
 returns-5 c =
     let a = c.before.before.before.before.before.before.before.before.before.before.before.before.args in
-    end-long a.records.now a.from a.at _ (measured c.before.before.before.before.before.before.before) (first-right c.before.before.before.before.before)
+    end_long a.records.now a.from a.at _ (measured c.before.before.before.before.before.before.before) (first-right c.before.before.before.before.before)
     (sym c.before.before.before.before.number-at3.ensures ∙ c.before.before.before.if3.false) (sym c.before.before.number-at4.ensures ∙ c.before.if4.false) (omega (arith, c.if5.true))
 
 returns-6 : tie.Need-returns-6
 returns-6 c =
     let a = c.before.before.before.before.before.before.before.before.before.before.before.before.args in
-    end-made a.records.now a.from a.at _ (measured c.before.before.before.before.before.before.before) (first-right c.before.before.before.before.before)
+    end_made a.records.now a.from a.at _ (measured c.before.before.before.before.before.before.before) (first-right c.before.before.before.before.before)
     (sym c.before.before.before.before.number-at3.ensures ∙ c.before.before.before.if3.false) (sym c.before.before.number-at4.ensures ∙ c.before.if4.false) (omega (arith, c.if5.false))
 
 pub record-end-spec : {M : Type 1} → statement M

@@ -5,10 +5,10 @@ use mathlib.Core.Path.{◌≡◌, ◌∙◌, refl, sym}
 use Prim.Native.Nat.{◌-◌, ◌/◌, ◌%◌, ◌≤◌}
 use native.Mathlib.Omega.{arith}
 use lib.ListN.{length, drop}
-use Rattle.asmap_records.specs.Pack.{recordBits, recordsBits}
-use Rattle.asmap_pack.specs.models.Size.{sizeFrom}
+use Rattle.asmap_records.specs.Pack.{record_bits, records_bits}
+use Rattle.asmap_pack.specs.models.Size.{size_from}
 use Rattle.asmap_pack.specs.declared.Size.TheVariants.{Ends, Wrong}
-use Rattle.asmap_pack.proofs.SizeLaws.{records-wrong, records-ends, records-over, end-bound}
+use Rattle.asmap_pack.proofs.SizeLaws.{records_wrong, records-ends, records_over, end_bound}
 use Rattle.asmap_pack.proofs.records_end.Statement.{statement}
 use Rattle.asmap_pack.proofs.records_end.Tie as tie
 
@@ -17,7 +17,7 @@ invariant-loop records at₀ from₀ at from =
     (from ≤ length records)
     × (from % 16 ≡ 0)
     × (at ≤ 134217728)
-    × (sizeFrom 0 (recordsBits (length records / 16) records 0) ≡ sizeFrom at (recordsBits ((length records - from) / 16) (drop from records) at))
+    × (size_from 0 (records_bits (length records / 16) records 0) ≡ size_from at (records_bits ((length records - from) / 16) (drop from records) at))
 
 abbrev decreases-loop : tie.decreases-loop
 decreases-loop records at₀ from₀ at from = length records - from
@@ -39,8 +39,8 @@ returns c =
     let l = c.before.before.before.before.before.loop in
     let rs = c.before.before.before.before.before.before.before.args.records.now in
     let w = c.before.n.given in
-    let e : sizeFrom l.at (recordBits (drop l.from rs) l.at) ≡ Wrong w.0.0 = sym c.before.before.before.record-end.ensures ∙ w.1 in
-    sym (l.invariant.3 ∙ records-wrong rs l.from l.at c.before.before.before.before.before.before.before.requires l.invariant.1 (omega arith) w.0.0 e)
+    let e : size_from l.at (record_bits (drop l.from rs) l.at) ≡ Wrong w.0.0 = sym c.before.before.before.record-end.ensures ∙ w.1 in
+    sym (l.invariant.3 ∙ records_wrong rs l.from l.at c.before.before.before.before.before.before.before.requires l.invariant.1 (omega arith) w.0.0 e)
 
 enum-known-end : tie.Need-enum-known-end invariant-loop decreases-loop
 enum-known-end c = search rules
@@ -56,10 +56,10 @@ loop-again c =
     let l = c.before.before.before.before.before.loop in
     let rs = c.before.before.before.before.before.before.before.args.records.now in
     let w = c.before.end.given in
-    let e : sizeFrom l.at (recordBits (drop l.from rs) l.at) ≡ Ends w.0.0 = sym c.before.before.before.record-end.ensures ∙ w.1 in (
+    let e : size_from l.at (record_bits (drop l.from rs) l.at) ≡ Ends w.0.0 = sym c.before.before.before.record-end.ensures ∙ w.1 in (
       omega arith,
       omega arith,
-      end-bound (drop l.from rs) l.at w.0.0 e,
+      end_bound (drop l.from rs) l.at w.0.0 e,
       l.invariant.3 ∙ records-ends rs l.from l.at c.before.before.before.before.before.before.before.requires l.invariant.1 (omega arith) w.0.0 e,
     )
 
@@ -67,7 +67,7 @@ returns-2 : tie.Need-returns-2 invariant-loop decreases-loop
 returns-2 c =
     let l = c.before.loop in
     let rs = c.before.before.before.args.records.now in
-    sym (l.invariant.3 ∙ records-over rs l.from l.at (omega arith))
+    sym (l.invariant.3 ∙ records_over rs l.from l.at (omega arith))
 
 pub records-end-spec : {M : Type 1} → statement M
 records-end-spec =

@@ -5,11 +5,11 @@ use Rattle.asmap_pack.specs.declared.Size.{Size}
 use Rattle.asmap_pack.specs.declared.Size.TheVariants.{Ends, Wrong}
 
 -- Where bits made from `at` on end.
-abbrev pub sizeFrom : ℕ → Result → Size
-sizeFrom at (Made bs) = Ends (at + length bs)
-sizeFrom at (No n) = Wrong n
+abbrev pub size_from : ℕ → Result → Size
+size_from at (Made bs) = Ends (at + length bs)
+size_from at (No n) = Wrong n
 
 -- The bits made, none after a refusal.
-abbrev pub bitsIn : Result → List ℕ
-bitsIn (Made bs) = bs
-bitsIn (No n) = []
+abbrev pub bits_in : Result → List ℕ
+bits_in (Made bs) = bs
+bits_in (No n) = []

@@ -3,12 +3,12 @@
 use mathlib.Core.Path.{sym}
 use mathlib.Core.Logic.{inl}
 use borrow.Author.Tests.{ne_eqb}
-use Rattle.asmap_program.proofs.Widths.{a-width}
+use Rattle.asmap_program.proofs.Widths.{a_width}
 use Rattle.asmap_program.proofs.is_width.Statement.{statement}
 use Rattle.asmap_program.proofs.is_width.Tie as tie
 
 returns : tie.Need-returns
-returns c = sym (a-width _ (inl c.if1.true))
+returns c = sym (a_width _ (inl c.if1.true))
 
 returns-2 : tie.Need-returns-2
 returns-2 c = rw (ne_eqb _ 32 c.if1.false)

@@ -6,15 +6,15 @@ use Rattle.asmap_program.specs.declared.Instruction.{Instruction}
 use Rattle.asmap_program.specs.Map.{length_of}
 
 -- an instruction, by its opcode: a RETURN gives one, a MATCH as many as it has bits, a JUMP and a DEFAULT none
-abbrev pub piecesAt : Instruction → ℕ → ℕ
-piecesAt i zero = 1
-piecesAt i (suc zero) = 0
-piecesAt i (suc (suc zero)) = length_of i.operand
-piecesAt i (suc (suc (suc n))) = 0
+abbrev pub pieces_at : Instruction → ℕ → ℕ
+pieces_at i zero = 1
+pieces_at i (suc zero) = 0
+pieces_at i (suc (suc zero)) = length_of i.operand
+pieces_at i (suc (suc (suc n))) = 0
 
 abbrev pub pieces_of : Instruction → ℕ
-pieces_of i = piecesAt i i.opcode
+pieces_of i = pieces_at i i.opcode
 
-unfoldable pub countPieces : List Instruction → ℕ
-countPieces [] = 0
-countPieces (i ∷ is) = pieces_of i + countPieces is
+unfoldable pub count_pieces : List Instruction → ℕ
+count_pieces [] = 0
+count_pieces (i ∷ is) = pieces_of i + count_pieces is

@@ -36,8 +36,8 @@ use denote.Triple.Statement.{Triple}
 use denote.Triple.Table.{cited}
 use Rattle.asmap_codes.specs.contracts.Decoded as D
 use Rattle.asmap_codes.proofs.Decoded.TheLaws as D'
-use Rattle.asmap_items.specs.Items.{bitsLeft}
-use Rattle.asmap_reader.specs.Reader.{moved_to, read_by, stepAt}
+use Rattle.asmap_items.specs.Items.{bits_left}
+use Rattle.asmap_reader.specs.Reader.{moved_to, read_by, step_at}
 use Rattle.asmap_items.specs.declared.Item.{Item}
 use Rattle.asmap_reader.specs.declared.BitReader.{BitReader}
 use Rattle.asmap_reader.specs.declared.Read.{Read}
@@ -51,7 +51,7 @@ use Rattle.asmap_reader.proofs.Read.TheLaws as R'
 use Rattle.asmap_reader.specs.contracts.Step as S
 use Rattle.asmap_reader.proofs.Step.TheLaws as S'
 use Rattle.asmap_reader.proofs.ByHand.{Ends, leaves, asks, finish}
-use Rattle.asmap_reader.proofs.Held.{lft, Reader, bytes, machine, reader-typed, reader-back}
+use Rattle.asmap_reader.proofs.Held.{lft, Reader, bytes, machine, reader_typed, reader-back}
 use Rattle.asmap_reader.specs.contracts.BitReader.new as new
 use Rattle.asmap_reader.proofs.BitReader.new.Symbol as new-def
 use Rattle.asmap_reader.proofs.BitReader.new.Met as new-thm
@@ -73,12 +73,12 @@ use Rattle.asmap_reader.proofs.read_at.Statement as stated
 use Rattle.asmap_reader.proofs.read_at.Code as code
 
 -- what the five contracts say together is the contract
-stepped : (s : Bor (List ℕ)) (n : ℕ) (item : Item) (r₀ r₁ : BitReader) (r₂ : Read) (p l : ℕ) → (r₀.map ≡ s) × (r₀.at ≡ 0) → r₁ ≡ moved_to r₀ n → r₂ ≡ read_by r₁ item → p ≡ r₂.reader.at → l ≡ bitsLeft r₂.reader.map.now r₂.reader.at
-    → record { got = r₂.got; place = p; left = l } ≡ stepAt s.now n item
+stepped : (s : Bor (List ℕ)) (n : ℕ) (item : Item) (r₀ r₁ : BitReader) (r₂ : Read) (p l : ℕ) → (r₀.map ≡ s) × (r₀.at ≡ 0) → r₁ ≡ moved_to r₀ n → r₂ ≡ read_by r₁ item → p ≡ r₂.reader.at → l ≡ bits_left r₂.reader.map.now r₂.reader.at
+    → record { got = r₂.got; place = p; left = l } ≡ step_at s.now n item
 stepped s n item r₀ r₁ r₂ p l e₀ e₁ e₂ ep el =
     let f : r₂ ≡ read_by (record { map = s; at = n }) item = e₂ ∙ ap (λ (r : BitReader). read_by r item) (e₁ ∙ (λ i. record { map = e₀.0 i; at = n })) in
     let fp = ep ∙ ap (λ (r : Read). r.reader.at) f in
-    let fl = el ∙ ap (λ (r : Read). bitsLeft r.reader.map.now r.reader.at) f in
+    let fl = el ∙ ap (λ (r : Read). bits_left r.reader.map.now r.reader.at) f in
     λ i. record { got = (f i).got; place = fp i; left = fl i }
 
 module _ {M : Type 1} {𝓤 : Ura M} (𝓛 : Logic 𝓤) (mem : Memory → SProp 𝓤) (run : Routine → Fun 𝓤) (C : Calls 𝓤 𝓛.H) (Λ : Loops 𝓤 𝓛.H) (fm : FmC 𝓤 𝓛.H 𝓛.laws C)
@@ -130,18 +130,18 @@ module _ {M : Type 1} {𝓤 : Ura M} (𝓛 : Logic 𝓤) (mem : Memory → SProp
       asks ! fm new.ended (new.clauses 𝓛 mem run) met-new (κs, qs, tt, (s, tt), (bytes s, tt)) tt (id⊢ 𝓤 (emp 𝓤))
       (λ (r : BitReader). (r.map ≡ s) × (r.at ≡ 0)) (λ r ws. id⊢ 𝓤 _) (and_then ! (load ! (from ! (stop !)) (look ! 21 refl)) (no_more !)) (λ u₀ r₀ e₀ is₀.
       -- the entries: the reader; the token; _11 to _0
-      land ! (from ! (stop !)) (init ! 12 refl (reader-typed 𝓛 α r₀ _ is₀).0) $
+      land ! (from ! (stop !)) (init ! 12 refl (reader_typed 𝓛 α r₀ _ is₀).0) $
       nothing ! $ owned ! usize (Is usize) (uint_Makes 𝓛 w64) n _ (refl, ok) $ fjoin ! $ move ! (1 ∷ 0 ∷ []) $ fjoin ! $
       asks ! fm moved.ended (moved.clauses 𝓛 mem run) met-moved (κs, qs, tt, (r₀, (n, tt)), (u₀ ∷ [], (vint w64 n ∷ [], tt))) tt (id⊢ 𝓤 (emp 𝓤))
       (λ (r : BitReader). r ≡ moved_to r₀ n) (λ r ws. id⊢ 𝓤 _) (and_then ! (load ! (from ! (stop !)) (look ! 11 refl)) (and_then ! (load ! (from ! (stop !)) (look ! 19 refl)) (no_more !))) (λ u₁ r₁ e₁ is₁.
-      land ! (from ! (stop !)) (init ! 14 refl (reader-typed 𝓛 α r₁ _ is₁).0) $
+      land ! (from ! (stop !)) (init ! 14 refl (reader_typed 𝓛 α r₁ _ is₁).0) $
       nothing ! $ owned ! I.the_row (Is I.the_row) (EL.makes I.the_type I'.the_plain 𝓛) item (tag ∷ []) is-item $ fjoin ! $ move ! (1 ∷ 0 ∷ []) $ fjoin ! $
       asks ! fm read.ended (read.clauses 𝓛 mem run) met-read (κs, qs, tt, (r₁, (item, tt)), (u₁ ∷ [], (tag ∷ [], tt))) tt (id⊢ 𝓤 (emp 𝓤))
       (λ (r : Read). r ≡ read_by r₁ item) (λ r ws. id⊢ 𝓤 _) (and_then ! (load ! (from ! (stop !)) (look ! 13 refl)) (and_then ! (load ! (from ! (stop !)) (look ! 17 refl)) (no_more !))) (λ u₂ r₂ e₂ is₂.
       -- the entries: what the read handed back; the token; _11 to _0
       land ! (from ! (stop !)) (init ! 16 refl ((LL.lawful (R.the_type α) (R'.the_laws α) 𝓛).typed r₂ _ is₂).0) $ rewrite ! 16 (λ (v : Val). ‵ (fat full_share (R'.mir erased) l₄ 0 v)) (ap only ((R'.lowers (lft κs)).val_is r₂ _ is₂)) refl $
       assigns ! (of_opd ! (load ! (from ! (fld ! refl (stop !))) (look_in ! 16 (sub ! 0 refl (whole !))))) (from ! (stop !)) (init ! 10 refl ((EL.lawful D.the_type D'.the_laws 𝓛 tt).typed r₂.got _ (found-is r₂ u₂ is₂)).0) $
-      assigns ! (of_opd ! (load ! (from ! (fld ! refl (stop !))) (look_in ! 16 (sub ! 1 refl (whole !))))) (from ! (stop !)) (init ! 6 refl (reader-typed 𝓛 α r₂.reader _ (reader-is r₂ u₂ is₂)).0) $
+      assigns ! (of_opd ! (load ! (from ! (fld ! refl (stop !))) (look_in ! 16 (sub ! 1 refl (whole !))))) (from ! (stop !)) (init ! 6 refl (reader_typed 𝓛 α r₂.reader _ (reader-is r₂ u₂ is₂)).0) $
       use1 𝓛 (‵ ((Reader κs).own_val r₂.reader (machine r₂.reader))) (reader-back 𝓛 κs r₂ u₂) $
       use1 𝓛 (‵ ((Reader κs).own_val r₂.reader (machine r₂.reader)) ⊛ ‵ ((Reader κs).own_val r₂.reader (machine r₂.reader))) ((LL.copy (T.the_type (lft κs)) (T'.the_copy (lft κs)) 𝓛).twice r₂.reader (machine r₂.reader)) $ split ! $
       nothing ! $ move ! (1 ∷ 0 ∷ []) $ fjoin ! $ move ! (0 ∷ 2 ∷ []) $
@@ -149,10 +149,10 @@ module _ {M : Type 1} {𝓤 : Ura M} (𝓛 : Logic 𝓤) (mem : Memory → SProp
       (λ (p : ℕ). p ≡ r₂.reader.at) (λ p ws. id⊢ 𝓤 _) (and_then ! (load ! (from ! (stop !)) (look ! 6 refl)) (no_more !)) (λ u₃ p ep is₃.
       -- the entries: the place; the token; the reader; _11 to _0
       land ! (from ! (stop !)) (init ! 9 refl ((uint_Lawful 𝓛 w64).typed p _ is₃).0) $ rewrite ! 9 (λ (v : Val). ‵ (fat full_share (ty_int w64) l₈ 0 v)) (ap only is₃.0) refl $
-      assigns ! (of_opd ! (load ! (from ! (fld ! refl (stop !))) (look_in ! 17 (sub ! 1 refl (whole !))))) (from ! (stop !)) (init ! 3 refl (reader-typed 𝓛 α r₂.reader _ (reader-is r₂ u₂ is₂)).0) $
+      assigns ! (of_opd ! (load ! (from ! (fld ! refl (stop !))) (look_in ! 17 (sub ! 1 refl (whole !))))) (from ! (stop !)) (init ! 3 refl (reader_typed 𝓛 α r₂.reader _ (reader-is r₂ u₂ is₂)).0) $
       drop ! $ nothing ! $ move ! (2 ∷ 0 ∷ []) $ fjoin ! $
       asks ! fm left.ended (left.clauses 𝓛 mem run) met-left (κs, qs, tt, (r₂.reader, tt), (machine r₂.reader, tt)) tt (id⊢ 𝓤 (emp 𝓤))
-      (λ (l : ℕ). l ≡ bitsLeft r₂.reader.map.now r₂.reader.at) (λ l ws. id⊢ 𝓤 _) (and_then ! (load ! (from ! (stop !)) (look ! 1 refl)) (no_more !)) (λ u₄ l el is₄.
+      (λ (l : ℕ). l ≡ bits_left r₂.reader.map.now r₂.reader.at) (λ l ws. id⊢ 𝓤 _) (and_then ! (load ! (from ! (stop !)) (look ! 1 refl)) (no_more !)) (λ u₄ l el is₄.
       -- the entries: the bits left; the token; _11 to _0
       land ! (from ! (stop !)) (init ! 4 refl ((uint_Lawful 𝓛 w64).typed l _ is₄).0) $ rewrite ! 4 (λ (v : Val). ‵ (fat full_share (ty_int w64) l₁₀ 0 v)) (ap only is₄.0) refl $
       assigns ! (agg ! (and_then ! (load ! (from ! (stop !)) (look ! 10 refl)) (and_then ! (load ! (from ! (stop !)) (look ! 8 refl)) (and_then ! (load ! (from ! (stop !)) (look ! 4 refl)) (no_more !))))) (from ! (stop !))

@@ -1,4 +1,4 @@
--- `decode_bits` meets its contract: where the ends of a row tell that its sizes grow by one, they do (grown-of).
+-- `decode_bits` meets its contract: where the ends of a row tell that its sizes grow by one, they do (grown_of).
 -- Assumes nothing.
 use borrow.Author.Rules.{rules}
 use mathlib.Core.Path.{◌≡◌, ◌∙◌, sym, ap}
@@ -8,7 +8,7 @@ use native.Mathlib.Omega.{arith}
 use lib.ListN.{length, get_or}
 use Rattle.asmap_codes.specs.Row.{span}
 use Rattle.asmap_codes.specs.models.Grown.{grown}
-use Rattle.asmap_codes.proofs.GrownLaws.{grown-of}
+use Rattle.asmap_codes.proofs.GrownLaws.{grown_of}
 use Rattle.asmap_row_decoder.specs.models.InWindow.{code_in}
 use borrow.Author.Tests.{eqb-true}
 use Rattle.asmap_row_decoder.proofs.decode_bits.Statement.{statement}
@@ -18,7 +18,7 @@ use Rattle.asmap_row_decoder.proofs.decode_bits.Tie as tie
 row : (c : tie.After-shared-slice-known2) → c.before.before.before.before.args.sizes.now ≡ grown (get_or c.before.before.before.before.args.sizes.now 0 0) (length c.before.before.before.before.args.sizes.now)
 row c =
     let p = c.before.before.before.before.requires in
-    grown-of c.before.before.before.before.args.sizes.now p.2 p.4 (eqb-true _ _ (sym c.before.before.grows.ensures ∙ c.before.if1.true))
+    grown_of c.before.before.before.before.args.sizes.now p.2 p.4 (eqb-true _ _ (sym c.before.before.grows.ensures ∙ c.before.if1.true))
 
 grows-requires : tie.Need-grows-requires
 grows-requires c κs = search rules

@@ -7,7 +7,7 @@ use native.Mathlib.Omega.{arith}
 use lib.Dec.{leb}
 use Rattle.asmap_codes.specs.Code.{pick}
 use Rattle.asmap_codes.specs.declared.Code.TheVariants.{Value, Cut}
-use Rattle.asmap_codes.proofs.BitLaws.{size-of-pow, number-low-lt}
+use Rattle.asmap_codes.proofs.BitLaws.{size_of_pow, number-low_lt}
 use Rattle.asmap_row_decoder.proofs.decode_each.Statement.{statement}
 use Rattle.asmap_row_decoder.proofs.decode_each.Tie as tie
 
@@ -15,12 +15,12 @@ read-prefix-requires : tie.Need-read-prefix-requires
 read-prefix-requires c κs = search rules
 
 first-bits-requires : tie.Need-first-bits-requires
-first-bits-requires c κs = let s = c.read-prefix.ensures in size-of-pow _ (omega (arith, s.small))
+first-bits-requires c κs = let s = c.read-prefix.ensures in size_of_pow _ (omega (arith, s.small))
 
 add-value : tie.Need-overflow-add-value
 add-value c =
     let p = c.before.before.read-prefix in
-    omega (arith, p.ensures.small, c.before.first-bits.ensures, number-low-lt p.result.size p.result.left)
+    omega (arith, p.ensures.small, c.before.first-bits.ensures, number-low_lt p.result.size p.result.left)
 
 add-coded : tie.Need-overflow-add-coded
 add-coded c = search rules

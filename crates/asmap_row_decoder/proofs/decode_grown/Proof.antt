@@ -1,4 +1,4 @@
--- `decode_grown` meets its contract: the law of codes over sizes that grow by one (code-grown), and what fits (grown-fits).
+-- `decode_grown` meets its contract: the law of codes over sizes that grow by one (code_grown), and what fits (grown_fits).
 -- Assumes nothing.
 use borrow.Author.Rules.{rules}
 use mathlib.Core.Path.{◌≡◌, ◌∙◌, sym, ap, ap₂}
@@ -8,10 +8,10 @@ use lib.Dec.{leb}
 use Rattle.asmap_codes.specs.Code.{pick}
 use Rattle.asmap_codes.specs.models.Grown.{grown, stops}
 use Rattle.asmap_codes.specs.declared.Code.TheVariants.{Value, Cut}
-use Rattle.asmap_codes.proofs.GrownLaws.{stops-fit}
-use Rattle.asmap_codes.proofs.ReverseLaws.{rev-lt, number-rev}
-use Rattle.asmap_row_decoder.specs.models.InWindow.{code_in, tailIn}
-use Rattle.asmap_row_decoder.proofs.GrownCode.{ones-le, code-grown, Fits, grown-fits}
+use Rattle.asmap_codes.proofs.GrownLaws.{stops_fit}
+use Rattle.asmap_codes.proofs.ReverseLaws.{rev_lt, number-rev}
+use Rattle.asmap_row_decoder.specs.models.InWindow.{code_in, tail_in}
+use Rattle.asmap_row_decoder.proofs.GrownCode.{ones_le, code_grown, Fits, grown_fits}
 use Rattle.asmap_row_decoder.proofs.decode_grown.Statement.{statement}
 use Rattle.asmap_row_decoder.proofs.decode_grown.Tie as tie
 
@@ -19,16 +19,16 @@ use Rattle.asmap_row_decoder.proofs.decode_grown.Tie as tie
 few : (c : tie.After-starting-ones) → c.starting-ones.result < c.before.args.sizes
 few c =
     let a = c.before.args in
-    omega (arith, c.starting-ones.ensures, ones-le (a.sizes - 1) a.w, c.before.requires.2)
+    omega (arith, c.starting-ones.ensures, ones_le (a.sizes - 1) a.w, c.before.requires.2)
 
 fits : (c : tie.After-starting-ones) → Fits c.before.args.least c.before.args.first c.before.args.sizes c.starting-ones.result
-fits c = let a = c.before.args in grown-fits a.least a.first a.sizes c.starting-ones.result (few c) c.before.requires.1
+fits c = let a = c.before.args in grown_fits a.least a.first a.sizes c.starting-ones.result (few c) c.before.requires.1
 
 -- the bits before the size's own
 prefix : (c : tie.After-prefix-length) → c.prefix-length.result ≤ 26
 prefix c =
     let a = c.before.before.args in
-    omega (arith, c.prefix-length.ensures, stops-fit c.before.starting-ones.result a.sizes (few c.before), c.before.before.requires.3)
+    omega (arith, c.prefix-length.ensures, stops_fit c.before.starting-ones.result a.sizes (few c.before), c.before.before.requires.3)
 
 sub-starting-ones : tie.Need-overflow-sub-starting-ones
 sub-starting-ones c = search rules
@@ -67,7 +67,7 @@ reversed-bits-requires c κs =
 mantissa : (c : tie.After-reversed-bits) → c.reversed-bits.result < 2 ^ (c.before.before.before.before.before.args.first + c.before.before.before.before.starting-ones.result)
 mantissa c =
     let s = c.before.before.before.before.before.args.first + c.before.before.before.before.starting-ones.result in
-    omega (arith, c.reversed-bits.ensures, rev-lt s (c.before.before.before.before.before.args.w / 2 ^ c.before.before.before.prefix-length.result))
+    omega (arith, c.reversed-bits.ensures, rev_lt s (c.before.before.before.before.before.args.w / 2 ^ c.before.before.before.prefix-length.result))
 
 add-value-2 : tie.Need-overflow-add-value-2
 add-value-2 c = omega (arith, c.before.before.power.ensures, c.before.power2.ensures, (fits c.before.before.before.before).room, mantissa c)
@@ -98,8 +98,8 @@ returns c =
     c.coded.ensures
     ∙ ap₂ (λ (x y : ℕ). pick (leb at a.end) (Value (a.least + x + y) at) Cut) passed (c.before.reversed-bits.ensures ∙ sym (number-rev s (a.w / 2 ^ p)))
     ∙ sym (ap (λ (x : ℕ). code_in (grown a.first x) a.least a.at a.end a.w) (sym e)
-    ∙ code-grown n a.first a.least a.at a.end a.w k c.before.before.before.before.before.starting-ones.ensures
-    ∙ ap (λ (x : ℕ). tailIn s (a.least + (2 ^ s - 2 ^ a.first)) (a.at + x) a.end (a.w / 2 ^ x)) q)
+    ∙ code_grown n a.first a.least a.at a.end a.w k c.before.before.before.before.before.starting-ones.ensures
+    ∙ ap (λ (x : ℕ). tail_in s (a.least + (2 ^ s - 2 ^ a.first)) (a.at + x) a.end (a.w / 2 ^ x)) q)
 
 pub decode-grown-spec : {M : Type 1} → statement M
 decode-grown-spec =

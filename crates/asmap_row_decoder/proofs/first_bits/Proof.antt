@@ -4,7 +4,7 @@ use native.Mathlib.Omega.{arith}
 use mathlib.Core.Path.{◌≡◌, ◌∙◌, refl, sym, ap}
 use Prim.Native.Nat.{ℕ, ◌-◌, ◌/◌, ◌^◌, ◌≤◌}
 use Rattle.asmap_codes.specs.Bits.{low, number}
-use Rattle.asmap_codes.proofs.BitLaws.{halved, number-low, number-low-lt, pow_below}
+use Rattle.asmap_codes.proofs.BitLaws.{halved, number-low, number-low_lt, pow_below}
 use native.Mathlib.Nat.{div-one}
 use Rattle.asmap_row_decoder.proofs.first_bits.Statement.{statement}
 use Rattle.asmap_row_decoder.proofs.first_bits.Tie as tie
@@ -21,7 +21,7 @@ loop-holds c = (omega arith, sym (div-one c.args.w), refl)
 mul-value : tie.Need-overflow-mul-value invariant-loop decreases-loop
 mul-value c =
     let l = c.before.loop in
-    omega (arith, pow_below l.k (omega arith) (number-low-lt l.k c.before.before.args.w), l.invariant.2)
+    omega (arith, pow_below l.k (omega arith) (number-low_lt l.k c.before.before.args.w), l.invariant.2)
 
 cast-value : tie.Need-overflow-cast-value invariant-loop decreases-loop
 cast-value c = omega arith
@@ -29,7 +29,7 @@ cast-value c = omega arith
 add-value : tie.Need-overflow-add-value invariant-loop decreases-loop
 add-value c =
     let l = c.before.loop in
-    omega (arith, pow_below l.k (omega arith) (number-low-lt l.k c.before.before.args.w), l.invariant.2)
+    omega (arith, pow_below l.k (omega arith) (number-low_lt l.k c.before.before.args.w), l.invariant.2)
 
 add-k : tie.Need-overflow-add-k invariant-loop decreases-loop
 add-k c = omega arith

@@ -3,7 +3,7 @@
 use mathlib.Core.Path.{◌∙◌, sym, ap}
 use Prim.Native.Nat.{ℕ}
 use Rattle.asmap_codes.specs.Row.{Row, operand_row}
-use Rattle.asmap_codes.proofs.RowLaws.{asn-operand}
+use Rattle.asmap_codes.proofs.RowLaws.{asn_operand}
 use Rattle.asmap_row_decoder.specs.models.InWindow.{row_in}
 use borrow.Author.Rules.{rules}
 use Rattle.asmap_row_decoder.proofs.operand_in.Statement.{statement}
@@ -31,7 +31,7 @@ asn-in-requires c κs = search rules
 returns-3 : tie.Need-returns-3
 returns-3 c =
     let a = c.before.before.before.args in
-    c.asn-in.ensures ∙ ap (λ (row : Row). row_in row a.at a.end a.w) (sym (asn-operand a.opcode c.before.before.if1.false c.before.if2.false))
+    c.asn-in.ensures ∙ ap (λ (row : Row). row_in row a.at a.end a.w) (sym (asn_operand a.opcode c.before.before.if1.false c.before.if2.false))
 
 pub operand-in-spec : {M : Type 1} → statement M
 operand-in-spec =

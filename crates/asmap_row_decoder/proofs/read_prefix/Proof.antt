@@ -7,7 +7,7 @@ use lib.ListN.{drop}
 use Rattle.asmap_codes.specs.Row.{span}
 use Rattle.asmap_row_decoder.specs.models.InWindow.{code_in}
 use Rattle.asmap_codes.proofs.CodeLaws.{span-drop, size_small}
-use Rattle.asmap_row_decoder.proofs.WindowLaws.{turn_more, turn-stop, turn_last}
+use Rattle.asmap_row_decoder.proofs.WindowLaws.{turn_more, turn_stop, turn_last}
 use Rattle.asmap_row_decoder.proofs.read_prefix.Statement.{statement}
 use Rattle.asmap_row_decoder.proofs.read_prefix.Tie as tie
 
@@ -44,7 +44,7 @@ returns c =
       small = omega (arith, l.invariant.1, d);
       rest = λ at end.
           let p : at + l.i + 1 ≡ at + (l.i + 1) = omega arith in
-          rw (← p) (l.invariant.2 at end ∙ turn-stop ss l.value (at + l.i) end l.left l.i (omega arith) (omega arith));
+          rw (← p) (l.invariant.2 at end ∙ turn_stop ss l.value (at + l.i) end l.left l.i (omega arith) (omega arith));
     }
 
 power-requires : tie.Need-power-requires invariant-loop decreases-loop

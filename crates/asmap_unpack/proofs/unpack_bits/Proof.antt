@@ -4,8 +4,8 @@ use borrow.Author.Rules.{rules}
 use mathlib.Core.Path.{◌∙◌, sym}
 use native.Mathlib.Omega.{arith}
 use Rattle.asmap_program.proofs.Widths.{narrow}
-use Rattle.asmap_records.proofs.OutputLaws.{hands-at, hands-no-width}
-use Rattle.asmap_records.specs.Unpack.{unpackOf}
+use Rattle.asmap_records.proofs.OutputLaws.{hands_at, hands_no_width}
+use Rattle.asmap_records.specs.Unpack.{unpack_of}
 use Rattle.asmap_unpack.proofs.unpack_bits.Statement.{statement}
 use Rattle.asmap_unpack.proofs.unpack_bits.Tie as tie
 
@@ -25,12 +25,12 @@ same_length c = search rules
 returns : tie.Need-returns
 returns c =
     let a = c.before.before.before.before.before.before.before.before.args in
-    hands-at a.width (unpackOf a.map.now a.width) a.out.now _ _ (sym c.before.before.before.before.before.is-width.ensures ∙ c.before.before.before.before.if1.true) c.before.before.unpack-over.ensures
+    hands_at a.width (unpack_of a.map.now a.width) a.out.now _ _ (sym c.before.before.before.before.before.is-width.ensures ∙ c.before.before.before.before.if1.true) c.before.before.unpack_over_lem.ensures
 
 returns-2 : tie.Need-returns-2
 returns-2 c =
     let a = c.before.before.before.before.args in
-    hands-no-width a.width (unpackOf a.map.now a.width) a.out.now (sym c.before.is-width.ensures ∙ c.if1.false)
+    hands_no_width a.width (unpack_of a.map.now a.width) a.out.now (sym c.before.is-width.ensures ∙ c.if1.false)
 
 pub unpack-bits-spec : {M : Type 1} → statement M
 unpack-bits-spec =

@@ -3,10 +3,10 @@
 use borrow.Author.Rules.{rules}
 use mathlib.Core.Path.{◌∙◌, sym}
 use native.Mathlib.Omega.{arith}
-use Rattle.asmap_program.proofs.Widths.{at_width, no-width, narrow, whole-bytes}
+use Rattle.asmap_program.proofs.Widths.{at_width, no_width, narrow, whole-bytes}
 use Rattle.asmap_walk.specs.declared.Interpreted.TheVariants.{Refused}
-use Rattle.asmap_walk.specs.Interpret.{interpretOver}
-use Rattle.asmap_walk.proofs.Promised.{promised-at}
+use Rattle.asmap_walk.specs.Interpret.{interpret_over}
+use Rattle.asmap_walk.proofs.Promised.{promised_at}
 use Rattle.asmap_walk.proofs.interpret_bits.Statement.{statement}
 use Rattle.asmap_walk.proofs.interpret_bits.Tie as tie
 
@@ -22,14 +22,14 @@ walk-over-requires c κs = whole-bytes c.before.before.before.before.args.width 
 returns : tie.Need-returns
 returns c =
     let a = c.before.before.before.before.before.args in
-    promised-at a.map.now a.address.now a.width _
-    (c.walk-over.ensures ∙ sym (at_width a.width Refused (interpretOver a.map.now a.address.now a.width) (sym c.before.before.is-width.ensures ∙ c.before.if1.true)))
+    promised_at a.map.now a.address.now a.width _
+    (c.walk_over_lem.ensures ∙ sym (at_width a.width Refused (interpret_over a.map.now a.address.now a.width) (sym c.before.before.is-width.ensures ∙ c.before.if1.true)))
 
 returns-2 : tie.Need-returns-2
 returns-2 c =
     let a = c.before.before.before.before.args in
-    promised-at a.map.now a.address.now a.width _
-    (sym (no-width a.width Refused (interpretOver a.map.now a.address.now a.width) (sym c.before.is-width.ensures ∙ c.if1.false)))
+    promised_at a.map.now a.address.now a.width _
+    (sym (no_width a.width Refused (interpret_over a.map.now a.address.now a.width) (sym c.before.is-width.ensures ∙ c.if1.false)))
 
 pub interpret-bits-spec : {M : Type 1} → statement M
 interpret-bits-spec =

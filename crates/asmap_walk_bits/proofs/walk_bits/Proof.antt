@@ -8,11 +8,11 @@ use mathlib.Core.Path.{◌≡◌, ◌∙◌, refl, sym}
 use Prim.Native.Nat.{◌+◌, ◌-◌, ◌^◌}
 use lib.Dec.{lit<, lit≤}
 use borrow.Author.Tests.{eq-eqb, ne_eqb}
-use Rattle.asmap_codes.specs.Row.{typeRow, operand_row}
+use Rattle.asmap_codes.specs.Row.{type_row, operand_row}
 use Rattle.asmap_codes.specs.Code.{code_at}
-use Rattle.asmap_codes.proofs.Inside.{long-operand}
+use Rattle.asmap_codes.proofs.Inside.{long_operand}
 use Rattle.asmap_row_decoder.proofs.WindowLaws.{row-window, window-holds}
-use Rattle.asmap_walk_bits.proofs.Walking.{Walking, Taken, Comparing, walking_start, opcode-read, cut-opcode, cut-operand, read, returns-ends, jump-ends, jump-onward, jump_goes, jump-past, match-some, match-most, match-ends, match-differs, match-goes, default-goes, comparing-start, bit-left, equal-goes, different-ends, all-equal, comparing-from, front_goes}
+use Rattle.asmap_walk_bits.proofs.Walking.{Walking, Taken, Comparing, walking_start, opcode_read_lem, cut_opcode, cut_operand, read, returns_ends, jump_ends, jump_onward, jump_goes, jump_past, match_some, match_most, match_ends, match_differs, match_goes, default_goes, comparing_start, bit_left, equal_goes, different_ends, all_equal, comparing_from, front_goes}
 use Rattle.asmap_walk_bits.proofs.walk_bits.Statement.{statement}
 use Rattle.asmap_walk_bits.proofs.walk_bits.Tie as tie
 
@@ -33,16 +33,16 @@ decreases-walk map address width end walker₀ count₀ walker count = 2 ^ 32 - 
 -- ---- what is known where an instruction was read whole, said once
 
 -- the opcode and the operand that were read are those of the map
-typed : (k : tie.After-type-in invariant-loop decreases-loop invariant-walk decreases-walk) → code_at k.before.before.before.before.before.before.args.map.now k.before.before.walk.walker.at typeRow ≡ k.type-in.result
+typed : (k : tie.After-type-in invariant-loop decreases-loop invariant-walk decreases-walk) → code_at k.before.before.before.before.before.before.args.map.now k.before.before.walk.walker.at type_row ≡ k.type-in.result
 typed k =
     let m = k.before.before.before.before.before.before.args.map.now in
     let p = k.before.before.walk.walker.at in
-    sym (k.type-in.ensures ∙ row-window m p _ typeRow (lit< tt) (window-holds m p _ typeRow (lit≤ tt) k.before.window.ensures))
+    sym (k.type-in.ensures ∙ row-window m p _ type_row (lit< tt) (window-holds m p _ type_row (lit≤ tt) k.before.window.ensures))
 
 operand : (k : tie.After-operand-in invariant-loop decreases-loop invariant-walk decreases-walk) → code_at k.before.before.before.before.before.before.before.before.before.before.before.args.map.now k.before.before.before.first.given.0.1.0 (operand_row k.before.before.before.first.given.0.0) ≡ k.operand_in.result
 operand k =
     let o = k.before.before.before.first.given.0.0 in
-    sym (k.operand_in.ensures ∙ row-window k.before.before.before.before.before.before.before.before.before.before.before.args.map.now _ _ (operand_row o) (long-operand o) k.before.operand-window.ensures)
+    sym (k.operand_in.ensures ∙ row-window k.before.before.before.before.before.before.before.before.before.before.before.args.map.now _ _ (operand_row o) (long_operand o) k.before.operand-window.ensures)
 
 abbrev WasRead : Type 0
 WasRead = tie.After-known-told2 invariant-loop decreases-loop invariant-walk decreases-walk
@@ -64,7 +64,7 @@ comparing : (k : tie.At-loop invariant-loop decreases-loop invariant-walk decrea
 comparing k =
     let u = k.before.before.before.before.before.before.before.before.before.before.before.before.before.before.before.before.before.walk.walker.used in
     let e : u + k.before.before.equal-front.result - k.before.before.equal-front.result ≡ u = omega arith in
-    comparing-from e k.loop.invariant.0
+    comparing_from e k.loop.invariant.0
 
 mul-end : tie.Need-overflow-mul-end invariant-loop decreases-loop invariant-walk decreases-walk
 mul-end c = omega arith
@@ -94,7 +94,7 @@ abort-requires c κs = tt
 
 returns : tie.Need-returns invariant-loop decreases-loop invariant-walk decreases-walk
 returns c =
-    c.abort.ensures ∙ cut-opcode c.before.before.before.before.before.walk.invariant.0 (typed c.before.before.before ∙ c.before.enum_told.given.1)
+    c.abort.ensures ∙ cut_opcode c.before.before.before.before.before.walk.invariant.0 (typed c.before.before.before ∙ c.before.enum_told.given.1)
 
 operand-window-requires : tie.Need-operand-window-requires invariant-loop decreases-loop invariant-walk decreases-walk
 operand-window-requires c κs = (c.before.before.before.before.window.ensures, typed c.before.before.before ∙ c.before.first.given.1)
@@ -102,7 +102,7 @@ operand-window-requires c κs = (c.before.before.before.before.window.ensures, t
 operand-in-requires : tie.Need-operand-in-requires invariant-loop decreases-loop invariant-walk decreases-walk
 operand-in-requires c κs =
     let v = c.before.before.before.before.before.before.walk.invariant.0 in
-    omega (arith, (opcode-read v (typed c.before.before.before.before ∙ c.before.before.first.given.1)).0, v.fits)
+    omega (arith, (opcode_read_lem v (typed c.before.before.before.before ∙ c.before.before.first.given.1)).0, v.fits)
 
 enum-known-second : tie.Need-enum-known-second invariant-loop decreases-loop invariant-walk decreases-walk
 enum-known-second c = search rules
@@ -115,7 +115,7 @@ abort-requires-2 c κs = tt
 
 returns-2 : tie.Need-returns-2 invariant-loop decreases-loop invariant-walk decreases-walk
 returns-2 c =
-    c.abort2.ensures ∙ cut-operand c.before.before.before.before.before.before.before.before.before.before.walk.invariant.0 (typed c.before.before.before.before.before.before.before.before ∙ c.before.before.before.before.before.before.first.given.1) (operand c.before.before.before ∙ c.before.enum-told2.given.1)
+    c.abort2.ensures ∙ cut_operand c.before.before.before.before.before.before.before.before.before.before.walk.invariant.0 (typed c.before.before.before.before.before.before.before.before ∙ c.before.before.before.before.before.before.first.given.1) (operand c.before.before.before ∙ c.before.enum-told2.given.1)
 
 add-count : tie.Need-overflow-add-count invariant-loop decreases-loop invariant-walk decreases-walk
 add-count c = let r = read (taken c) in omega (arith, r.start, r.near, (taken c).walking.few)
@@ -124,14 +124,14 @@ finish-requires : tie.Need-finish-requires invariant-loop decreases-loop invaria
 finish-requires c κs = tt
 
 returns-3 : tie.Need-returns-3 invariant-loop decreases-loop invariant-walk decreases-walk
-returns-3 c = c.finish.ensures ∙ returns-ends (taken c.before.before) c.before.match3.keys1
+returns-3 c = c.finish.ensures ∙ returns_ends (taken c.before.before) c.before.match3.keys1
 
 abort-requires-3 : tie.Need-abort-requires-3 invariant-loop decreases-loop invariant-walk decreases-walk
 abort-requires-3 c κs = tt
 
 returns-4 : tie.Need-returns-4 invariant-loop decreases-loop invariant-walk decreases-walk
 returns-4 c =
-    c.abort3.ensures ∙ jump-ends (taken c.before.before.before.before) c.before.before.before.match3.keys2 (omega (arith, c.before.if1.true, c.before.before.before.before.before.before.before.before.before.before.before.before.before.before.walk.invariant.1))
+    c.abort3.ensures ∙ jump_ends (taken c.before.before.before.before) c.before.before.before.match3.keys2 (omega (arith, c.before.if1.true, c.before.before.before.before.before.before.before.before.before.before.before.before.before.before.walk.invariant.1))
 
 address-bit-requires : tie.Need-address-bit-requires invariant-loop decreases-loop invariant-walk decreases-walk
 address-bit-requires c κs =
@@ -153,11 +153,11 @@ abort-requires-4 c κs = tt
 returns-5 : tie.Need-returns-5 invariant-loop decreases-loop invariant-walk decreases-walk
 returns-5 c =
     c.abort4.ensures
-    ∙ jump-past (taken c.before.before.before.before.before.before.before.before.before) c.before.before.before.before.before.before.before.before.match3.keys2 (omega (arith, c.before.before.before.before.before.before.if1.false, c.before.before.before.before.before.before.before.before.before.before.before.before.before.before.before.before.before.before.before.walk.invariant.1)) (eq-eqb _ 1 (sym c.before.before.before.before.before.address-bit.ensures ∙ c.before.before.before.if2.true)) (omega (arith, c.before.if3.true))
+    ∙ jump_past (taken c.before.before.before.before.before.before.before.before.before) c.before.before.before.before.before.before.before.before.match3.keys2 (omega (arith, c.before.before.before.before.before.before.if1.false, c.before.before.before.before.before.before.before.before.before.before.before.before.before.before.before.before.before.before.before.walk.invariant.1)) (eq-eqb _ 1 (sym c.before.before.before.before.before.address-bit.ensures ∙ c.before.before.before.if2.true)) (omega (arith, c.before.if3.true))
 
 walk-less : tie.Need-walk-smaller invariant-loop decreases-loop invariant-walk decreases-walk
 walk-less c =
-    let o = jump-onward (taken c.before.before.before.before.before.before.before.before) c.before.before.before.before.before.before.before.match3.keys2 true in
+    let o = jump_onward (taken c.before.before.before.before.before.before.before.before) c.before.before.before.before.before.before.before.match3.keys2 true in
     omega (arith, o.0, o.1)
 
 walk-again : tie.Need-walk-preserved invariant-loop decreases-loop invariant-walk decreases-walk
@@ -166,7 +166,7 @@ walk-again c =
 
 walk-less-2 : tie.Need-walk-smaller-2 invariant-loop decreases-loop invariant-walk decreases-walk
 walk-less-2 c =
-    let o = jump-onward (taken c.before.before.before.before.before.before) c.before.before.before.before.before.match3.keys2 false in
+    let o = jump_onward (taken c.before.before.before.before.before.before) c.before.before.before.before.before.match3.keys2 false in
     omega (arith, o.0, o.1)
 
 walk-again-2 : tie.Need-walk-preserved-2 invariant-loop decreases-loop invariant-walk decreases-walk
@@ -174,7 +174,7 @@ walk-again-2 c =
     (jump_goes (taken c.before.before.before.before.before.before) c.before.before.before.before.before.match3.keys2 (omega (arith, c.before.before.before.if1.false, c.before.before.before.before.before.before.before.before.before.before.before.before.before.before.before.before.walk.invariant.1)) false (ne_eqb _ 1 (λ z. c.if2.false (c.before.before.address-bit.ensures ∙ z))), c.before.before.before.before.before.before.before.before.before.before.before.before.before.before.before.before.walk.invariant.1)
 
 match-length-requires : tie.Need-match-length-requires invariant-loop decreases-loop invariant-walk decreases-walk
-match-length-requires c κs = omega (arith, match-some (taken c.before) c.match3.keys3)
+match-length-requires c κs = omega (arith, match_some (taken c.before) c.match3.keys3)
 
 sub-if4 : tie.Need-overflow-sub-if4 invariant-loop decreases-loop invariant-walk decreases-walk
 sub-if4 c =
@@ -186,11 +186,11 @@ abort-requires-5 c κs = tt
 returns-6 : tie.Need-returns-6 invariant-loop decreases-loop invariant-walk decreases-walk
 returns-6 c =
     c.abort5.ensures
-    ∙ match-ends (taken c.before.before.before.before.before) c.before.before.before.before.match3.keys3 (omega (arith, c.before.if4.true, c.before.before.before.match-length.ensures, (taken c.before.before.before.before.before).walking.room, c.before.before.before.before.before.before.before.before.before.before.before.before.before.before.before.walk.invariant.1))
+    ∙ match_ends (taken c.before.before.before.before.before) c.before.before.before.before.match3.keys3 (omega (arith, c.before.if4.true, c.before.before.before.match-length.ensures, (taken c.before.before.before.before.before).walking.room, c.before.before.before.before.before.before.before.before.before.before.before.before.before.before.before.walk.invariant.1))
 
 equal-front-requires : tie.Need-equal-front-requires invariant-loop decreases-loop invariant-walk decreases-walk
 equal-front-requires c κs =
-    omega (arith, match-most (taken c.before.before.before.before) c.before.before.before.match3.keys3, c.before.before.match-length.ensures)
+    omega (arith, match_most (taken c.before.before.before.before) c.before.before.before.match3.keys3, c.before.before.match-length.ensures)
 
 add-walker-3 : tie.Need-overflow-add-walker-3 invariant-loop decreases-loop invariant-walk decreases-walk
 add-walker-3 c =
@@ -203,10 +203,10 @@ loop-holds : tie.Need-loop-init invariant-loop decreases-loop invariant-walk dec
 loop-holds c =
     let t = (taken c.before.before.before.before.before.before) in
     let r = c.before.equal-front in
-    let s = comparing-start t c.before.before.before.before.before.match3.keys3 _ c.before.before.before.before.match-length.ensures (omega (arith, c.before.before.if4.false, t.walking.room, c.before.before.before.before.before.before.before.before.before.before.before.before.before.before.before.before.walk.invariant.1)) in
+    let s = comparing_start t c.before.before.before.before.before.match3.keys3 _ c.before.before.before.before.match-length.ensures (omega (arith, c.before.before.if4.false, t.walking.room, c.before.before.before.before.before.before.before.before.before.before.before.before.before.before.before.before.walk.invariant.1)) in
     let u = c.before.before.before.before.before.before.before.before.before.before.before.before.before.before.before.before.walk.walker.used in
     let e : u ≡ u + r.result - r.result = omega arith in
-    (comparing-from e (front_goes s r.result r.ensures.most r.ensures.same), (refl, refl, refl))
+    (comparing_from e (front_goes s r.result r.ensures.most r.ensures.same), (refl, refl, refl))
 
 walk-less-3 : tie.Need-walk-smaller-3 invariant-loop decreases-loop invariant-walk decreases-walk
 walk-less-3 c =
@@ -218,39 +218,39 @@ walk-again-3 c =
     let l = comparing c.before in
     let s = c.before.loop.invariant.1 in
     let z : c.before.loop.left ≡ 0 = omega (arith, c.loop-test.false) in
-    (match-goes (taken c.before.before.before.before.before.before.before.before) c.before.before.before.before.before.before.before.match3.keys3 l.room (all-equal l z) _ (omega (arith, l.place, z)) s.0 s.2, s.1 ∙ c.before.before.before.before.before.before.before.before.before.before.before.before.before.before.before.before.before.before.walk.invariant.1)
+    (match_goes (taken c.before.before.before.before.before.before.before.before) c.before.before.before.before.before.before.before.match3.keys3 l.room (all_equal l z) _ (omega (arith, l.place, z)) s.0 s.2, s.1 ∙ c.before.before.before.before.before.before.before.before.before.before.before.before.before.before.before.before.before.before.walk.invariant.1)
 
 sub-left-2 : tie.Need-overflow-sub-left-2 invariant-loop decreases-loop invariant-walk decreases-walk
 sub-left-2 c = omega (arith, c.loop-test.true)
 
 address-bit-requires-2 : tie.Need-address-bit-requires-2 invariant-loop decreases-loop invariant-walk decreases-walk
 address-bit-requires-2 c κs =
-    omega (arith, bit-left c.before.loop.invariant.0 c.loop-test.true, (taken c.before.before.before.before.before.before.before.before).walking.width)
+    omega (arith, bit_left c.before.loop.invariant.0 c.loop-test.true, (taken c.before.before.before.before.before.before.before.before).walking.width)
 
 bit-of-requires : tie.Need-bit-of-requires invariant-loop decreases-loop invariant-walk decreases-walk
 bit-of-requires c κs = omega (arith, c.before.before.loop.invariant.0.short)
 
 add-walker-4 : tie.Need-overflow-add-walker-4 invariant-loop decreases-loop invariant-walk decreases-walk
 add-walker-4 c =
-    omega (arith, bit-left c.before.before.before.before.before.loop.invariant.0 c.before.before.before.before.loop-test.true, (taken c.before.before.before.before.before.before.before.before.before.before.before.before).walking.narrow)
+    omega (arith, bit_left c.before.before.before.before.before.loop.invariant.0 c.before.before.before.before.loop-test.true, (taken c.before.before.before.before.before.before.before.before.before.before.before.before).walking.narrow)
 
 loop-less : tie.Need-loop-smaller invariant-loop decreases-loop invariant-walk decreases-walk
 loop-less c = omega (arith, c.before.before.before.before.loop-test.true)
 
 loop-again : tie.Need-loop-preserved invariant-loop decreases-loop invariant-walk decreases-walk
 loop-again c =
-    (equal-goes c.before.before.before.before.before.loop.invariant.0 c.before.before.before.before.loop-test.true (sym c.before.before.before.address-bit2.ensures ∙ c.before.if5.false ∙ c.before.before.bit-of.ensures), c.before.before.before.before.before.loop.invariant.1)
+    (equal_goes c.before.before.before.before.before.loop.invariant.0 c.before.before.before.before.loop-test.true (sym c.before.before.before.address-bit2.ensures ∙ c.before.if5.false ∙ c.before.before.bit_of.ensures), c.before.before.before.before.before.loop.invariant.1)
 
 walk-less-4 : tie.Need-walk-smaller-4 invariant-loop decreases-loop invariant-walk decreases-walk
 walk-less-4 c = let r = read (taken c.before) in omega (arith, r.start, r.near)
 
 walk-again-4 : tie.Need-walk-preserved-4 invariant-loop decreases-loop invariant-walk decreases-walk
 walk-again-4 c =
-    (default-goes (taken c.before) c.match3.rest.0.0.1 c.match3.rest.0.1 c.match3.rest.1, c.before.before.before.before.before.before.before.before.before.before.before.walk.invariant.1)
+    (default_goes (taken c.before) c.match3.rest.0.0.1 c.match3.rest.0.1 c.match3.rest.1, c.before.before.before.before.before.before.before.before.before.before.before.walk.invariant.1)
 
 add-finish : tie.Need-overflow-add-finish invariant-loop decreases-loop invariant-walk decreases-walk
 add-finish c =
-    omega (arith, bit-left c.before.before.before.before.before.loop.invariant.0 c.before.before.before.before.loop-test.true, (taken c.before.before.before.before.before.before.before.before.before.before.before.before).walking.narrow)
+    omega (arith, bit_left c.before.before.before.before.before.loop.invariant.0 c.before.before.before.before.loop-test.true, (taken c.before.before.before.before.before.before.before.before.before.before.before.before).walking.narrow)
 
 finish-requires-2 : tie.Need-finish-requires-2 invariant-loop decreases-loop invariant-walk decreases-walk
 finish-requires-2 c κs = tt
@@ -259,8 +259,8 @@ returns-7 : tie.Need-returns-7 invariant-loop decreases-loop invariant-walk decr
 returns-7 c =
     let l = comparing c.before.before.before.before.before.before in
     c.finish2.ensures
-    ∙ match-differs (taken c.before.before.before.before.before.before.before.before.before.before.before.before.before) c.before.before.before.before.before.before.before.before.before.before.before.before.match3.keys3 l.room _
-    (different-ends l c.before.before.before.before.before.loop-test.true (λ z. c.before.before.if5.true (c.before.before.before.before.address-bit2.ensures ∙ z ∙ sym c.before.before.before.bit-of.ensures))) c.before.before.before.before.before.before.loop.invariant.1.2
+    ∙ match_differs (taken c.before.before.before.before.before.before.before.before.before.before.before.before.before) c.before.before.before.before.before.before.before.before.before.before.before.before.match3.keys3 l.room _
+    (different_ends l c.before.before.before.before.before.loop-test.true (λ z. c.before.before.if5.true (c.before.before.before.before.address-bit2.ensures ∙ z ∙ sym c.before.before.before.bit_of.ensures))) c.before.before.before.before.before.before.loop.invariant.1.2
 
 pub walk-bits-spec : {M : Type 1} → statement M
 walk-bits-spec =

@@ -8,7 +8,7 @@ use Prim.Native.Nat.{ℕ, ◌-◌, ◌/◌, ◌%◌, ◌^◌, ◌≤◌}
 use lib.ListN.{length, drop, get_or}
 use lib.Seq.{drop-length}
 use Rattle.byte_numbers.specs.models.Word.{number, Bytes}
-use Rattle.asmap_codes.proofs.BitLaws.{drop-mapBits}
+use Rattle.asmap_codes.proofs.BitLaws.{drop-map_bits}
 use Rattle.asmap_window.proofs.ByteLaws.{window_bytes, next, tail-fits}
 use Rattle.asmap_window.proofs.load_tail.Statement.{statement}
 use Rattle.asmap_window.proofs.load_tail.Tie as tie
@@ -52,7 +52,7 @@ returns c i h =
     let l = c.before.loop in
     let a = c.before.before.before.args in
     let e : l.i ≡ a.b = omega arith in
-    rw (drop-mapBits a.map.now a.b, ← e) (ap (λ (k : ℕ). k / 2 ^ i % 2) l.invariant.2 ∙ window_bytes (drop l.i a.map.now) l.invariant.3 i)
+    rw (drop-map_bits a.map.now a.b, ← e) (ap (λ (k : ℕ). k / 2 ^ i % 2) l.invariant.2 ∙ window_bytes (drop l.i a.map.now) l.invariant.3 i)
 
 pub load-tail-spec : {M : Type 1} → statement M
 load-tail-spec =

@@ -2,7 +2,7 @@
 -- Assumes nothing.
 use native.Mathlib.Omega.{arith}
 use Prim.Native.Nat.{◌/◌}
-use Rattle.asmap_window.proofs.ByteLaws.{window-word, window-at, window-past}
+use Rattle.asmap_window.proofs.ByteLaws.{window-word, window_at, window_past}
 use borrow.Author.Rules.{rules}
 use Rattle.asmap_window.proofs.window.Statement.{statement}
 use Rattle.asmap_window.proofs.window.Tie as tie
@@ -19,7 +19,7 @@ shr-result c = search rules
 returns : tie.Need-returns
 returns c =
     let a = c.before.before.before.args in
-    window-at a.map.now a.at _ (window-word a.map.now (a.at / 8) _ (omega arith) c.word_at.ensures)
+    window_at a.map.now a.at _ (window-word a.map.now (a.at / 8) _ (omega arith) c.word_at.ensures)
 
 load-tail-requires : tie.Need-load-tail-requires
 load-tail-requires c κs = search rules
@@ -28,10 +28,10 @@ shr-result-2 : tie.Need-overflow-shr-result-2
 shr-result-2 c = search rules
 
 returns-2 : tie.Need-returns-2
-returns-2 c = let a = c.before.before.before.before.args in window-at a.map.now a.at _ c.load_tail.ensures
+returns-2 c = let a = c.before.before.before.before.args in window_at a.map.now a.at _ c.load_tail.ensures
 
 returns-3 : tie.Need-returns-3
-returns-3 c = let a = c.before.before.before.args in window-past a.map.now a.at (omega arith)
+returns-3 c = let a = c.before.before.before.args in window_past a.map.now a.at (omega arith)
 
 pub window-spec : {M : Type 1} → statement M
 window-spec =

@@ -9,8 +9,8 @@ use Prim.Native.Nat.{ℕ, ◌-◌, ◌≤◌}
 use lib.ListN.{length, take}
 use lib.Seq.{take-length}
 use Rattle.candidate_bytes.specs.Candidate.{same}
-use Rattle.candidate_bytes.proofs.Sames.{same-on, same_differs, same-unequal}
-use Rattle.candidate_bytes.proofs.SameNumbers.{same-words}
+use Rattle.candidate_bytes.proofs.Sames.{same_on, same_differs, same_unequal}
+use Rattle.candidate_bytes.proofs.SameNumbers.{same_words}
 use Rattle.candidate_bytes.proofs.same_bytes.Statement.{statement}
 use Rattle.candidate_bytes.proofs.same_bytes.Tie as tie
 
@@ -21,7 +21,7 @@ abbrev decreases-loop : tie.decreases-loop
 decreases-loop a b i₀ i = i
 
 returns : tie.Need-returns invariant-loop decreases-loop
-returns c = sym (same-unequal c.before.before.before.args.a.now c.before.before.before.args.b.now (omega arith))
+returns c = sym (same_unequal c.before.before.before.args.a.now c.before.before.before.args.b.now (omega arith))
 
 loop-holds : tie.Need-loop-init invariant-loop decreases-loop
 loop-holds c =
@@ -43,7 +43,7 @@ returns-2 c =
     let y = c.before.before.before.before.before.before.before.before.args.b.now in
     let w = c.before.before.word_at in
     let v = c.before.word-at2 in
-    let d = same-words 8 x y (l.i - 8) w.result v.result (omega arith) (omega arith) w.ensures v.ensures in
+    let d = same_words 8 x y (l.i - 8) w.result v.result (omega arith) (omega arith) w.ensures v.ensures in
     sym (l.invariant.2 ∙ same_differs x y l.i (l.i - 8) 8 (omega arith) (omega arith) (omega arith) (d ∙ ne_eqb w.result v.result c.if2.true))
 
 loop-less : tie.Need-loop-smaller invariant-loop decreases-loop
@@ -56,8 +56,8 @@ loop-again c =
     let y = c.before.before.before.before.before.before.before.before.args.b.now in
     let w = c.before.before.word_at in
     let v = c.before.word-at2 in
-    let d = same-words 8 x y (l.i - 8) w.result v.result (omega arith) (omega arith) w.ensures v.ensures in
-    (omega arith, l.invariant.1, l.invariant.2 ∙ same-on x y l.i (l.i - 8) 8 (omega arith) (omega arith) (omega arith) (d ∙ eq-eqb w.result v.result (omega arith)))
+    let d = same_words 8 x y (l.i - 8) w.result v.result (omega arith) (omega arith) w.ensures v.ensures in
+    (omega arith, l.invariant.1, l.invariant.2 ∙ same_on x y l.i (l.i - 8) 8 (omega arith) (omega arith) (omega arith) (d ∙ eq-eqb w.result v.result (omega arith)))
 
 half-at-requires : tie.Need-half-at-requires invariant-loop decreases-loop
 half-at-requires c κs = search rules
@@ -72,7 +72,7 @@ returns-3 c =
     let y = c.before.before.before.before.before.before.before.before.before.args.b.now in
     let w = c.before.before.half_at in
     let v = c.before.half-at2 in
-    let d = same-words 4 x y (l.i - 4) w.result v.result (omega arith) (omega arith) w.ensures v.ensures in
+    let d = same_words 4 x y (l.i - 4) w.result v.result (omega arith) (omega arith) w.ensures v.ensures in
     sym (l.invariant.2 ∙ same_differs x y l.i (l.i - 4) 4 (omega arith) (omega arith) (omega arith) (d ∙ ne_eqb w.result v.result c.if4.true))
 
 same-front-requires : tie.Need-same-front-requires invariant-loop decreases-loop
@@ -85,8 +85,8 @@ returns-4 c =
     let y = c.before.before.before.before.before.before.before.before.before.before.args.b.now in
     let w = c.before.before.before.half_at in
     let v = c.before.before.half-at2 in
-    let d = same-words 4 x y (l.i - 4) w.result v.result (omega arith) (omega arith) w.ensures v.ensures in
-    c.same-front.ensures ∙ sym (l.invariant.2 ∙ same-on x y l.i (l.i - 4) 4 (omega arith) (omega arith) (omega arith) (d ∙ eq-eqb w.result v.result (omega arith)))
+    let d = same_words 4 x y (l.i - 4) w.result v.result (omega arith) (omega arith) w.ensures v.ensures in
+    c.same-front.ensures ∙ sym (l.invariant.2 ∙ same_on x y l.i (l.i - 4) 4 (omega arith) (omega arith) (omega arith) (d ∙ eq-eqb w.result v.result (omega arith)))
 
 same-front-requires-2 : tie.Need-same-front-requires-2 invariant-loop decreases-loop
 same-front-requires-2 c κs = search rules

@@ -7,7 +7,7 @@ use native.Mathlib.Omega.{arith}
 use Prim.Native.Nat.{ℕ, ◌-◌, ◌≤◌}
 use lib.ListN.{length, take, get_or}
 use Rattle.candidate_bytes.specs.Candidate.{same}
-use Rattle.candidate_bytes.proofs.Sames.{same-on, same_differs, same_byte}
+use Rattle.candidate_bytes.proofs.Sames.{same_on, same_differs, same_byte}
 use Rattle.candidate_bytes.proofs.same_front.Statement.{statement}
 use Rattle.candidate_bytes.proofs.same_front.Tie as tie
 
@@ -46,7 +46,7 @@ loop-again c =
     let a = c.before.before.before.before.before.args in
     let j = l.i - 1 in
     let d = same_byte a.a.now a.b.now j (omega arith) (omega arith) ∙ eq-eqb (get_or a.a.now j 0) (get_or a.b.now j 0) (omega arith) in
-    (omega arith, omega arith, l.invariant.2 ∙ same-on a.a.now a.b.now l.i j 1 (omega arith) (omega arith) (omega arith) d)
+    (omega arith, omega arith, l.invariant.2 ∙ same_on a.a.now a.b.now l.i j 1 (omega arith) (omega arith) (omega arith) d)
 
 returns-2 : tie.Need-returns-2 invariant-loop decreases-loop
 returns-2 c =

@@ -2,7 +2,7 @@
 use borrow.Author.Rules.{rules}
 use native.Mathlib.Nat.{pow-zero, div-one}
 use native.Mathlib.Omega.{arith}
-use Rattle.decimal_columns.specs.Columns.{digitByte}
+use Rattle.decimal_columns.specs.Columns.{digit_byte}
 use Rattle.decimal_columns.proofs.last_digit.Statement.{statement}
 use Rattle.decimal_columns.proofs.last_digit.Tie as tie
 
@@ -13,7 +13,7 @@ add-result : tie.Need-overflow-add-result
 add-result c = search rules
 
 returns : tie.Need-returns
-unfolding digitByte
+unfolding digit_byte
 returns c = rw (pow-zero 10, div-one c.args.n) (omega arith)
 
 pub last-digit-spec : {M : Type 1} → statement M

@@ -5,7 +5,7 @@ use Prim.Native.Nat.{◌+◌, ◌-◌}
 use native.Mathlib.Omega.{arith}
 use lib.ListN.{length}
 use lib.Seq.{length-sets}
-use Rattle.decimal_columns.specs.Columns.{flushRight}
+use Rattle.decimal_columns.specs.Columns.{flush_right}
 use Rattle.decimal_columns.proofs.Putting.{Put, put_first, put_next, put_all}
 use Rattle.decimal_columns.proofs.put_columns.Statement.{statement}
 use Rattle.decimal_columns.proofs.put_columns.Tie as tie
@@ -53,7 +53,7 @@ same_length : tie.Need-same-length invariant-loop decreases-loop
 same_length c =
     let a = c.before.before.before.before.args in
     let l = c.before.loop in
-    ap length l.invariant.bytes ∙ length-sets a.out.now (a.at + l.left) (flushRight (a.columns - l.left) a.n)
+    ap length l.invariant.bytes ∙ length-sets a.out.now (a.at + l.left) (flush_right (a.columns - l.left) a.n)
 
 returns : tie.Need-returns invariant-loop decreases-loop
 returns c =

@@ -7,7 +7,7 @@ use lib.ListN.{length, take}
 use lib.Seq.{length-take-le}
 use Rattle.group_lists.specs.Groups.{has}
 use Rattle.group_lists.proofs.Scans.{has-append}
-use Rattle.free_groups.proofs.Marking.{first-occupied, first_taken}
+use Rattle.free_groups.proofs.Marking.{first_occupied, first_taken}
 use borrow.Author.Rules.{rules}
 use Rattle.free_groups.proofs.is_among.Statement.{statement}
 use Rattle.free_groups.proofs.is_among.Tie as tie
@@ -25,7 +25,7 @@ returns c =
     let os = a.occupied.now in
     let ts = a.taken.now in
     let n = a.count in
-    c.is-occupied.ensures ∙ ap (has g) (sym (first-occupied os ts n c.before.before.if1.true))
+    c.is-occupied.ensures ∙ ap (has g) (sym (first_occupied os ts n c.before.before.if1.true))
 
 is-occupied-requires-2 : tie.Need-is-occupied-requires-2
 is-occupied-requires-2 c κs = search rules

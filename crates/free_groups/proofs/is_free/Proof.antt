@@ -9,7 +9,7 @@ use native.Mathlib.Omega.{arith}
 use lib.ListN.{take, length-append}
 use Rattle.group_lists.specs.Groups.{has}
 use Rattle.group_lists.proofs.Scans.{has-append}
-use Rattle.free_groups.proofs.Marking.{Following, has-at, follow-mark, follow-link}
+use Rattle.free_groups.proofs.Marking.{Following, has_at, follow_mark, follow_link}
 use Rattle.free_groups.proofs.is_free.Statement.{statement}
 use Rattle.free_groups.proofs.is_free.Tie as tie
 
@@ -34,7 +34,7 @@ loop-holds c =
     let g = a.group in
     let os = a.occupied.now in
     let ts = a.taken.now in
-    follow-mark g (os ++ ts) a.marks.now a.links.now c.before.before.before.before.before.requires.0
+    follow_mark g (os ++ ts) a.marks.now a.links.now c.before.before.before.before.before.requires.0
 
 is-among-requires : tie.Need-is-among-requires invariant-loop decreases-loop
 is-among-requires c κs =
@@ -70,7 +70,7 @@ returns-2 c =
     let os = a.occupied.now in
     let ts = a.taken.now in
     let l = c.before.before.before.before.loop in
-    sym (ap not (sym (has-append g os ts) ∙ has-at g (os ++ ts) (l.count - 1) (omega (arith, l.invariant.within, c.before.before.before.loop-test.true)) (sym c.before.used-at.ensures ∙ c.if2.true)))
+    sym (ap not (sym (has-append g os ts) ∙ has_at g (os ++ ts) (l.count - 1) (omega (arith, l.invariant.within, c.before.before.before.loop-test.true)) (sym c.before.used-at.ensures ∙ c.if2.true)))
 
 sub-count : tie.Need-overflow-sub-count invariant-loop decreases-loop
 sub-count c = search rules
@@ -103,7 +103,7 @@ loop-again c =
     let os = a.occupied.now in
     let ts = a.taken.now in
     let l = c.before.before.before.before.before.loop in
-    follow-link g (os ++ ts) a.marks.now a.links.now c.before.before.before.before.before.before.before.before.before.before.before.requires.0 l.count (l.count - 1) (omega (arith, c.before.before.before.before.loop-test.true)) l.invariant (λ e. c.before.if2.false (c.before.before.used-at.ensures ∙ e))
+    follow_link g (os ++ ts) a.marks.now a.links.now c.before.before.before.before.before.before.before.before.before.before.before.requires.0 l.count (l.count - 1) (omega (arith, c.before.before.before.before.loop-test.true)) l.invariant (λ e. c.before.if2.false (c.before.before.used-at.ensures ∙ e))
 
 returns-3 : tie.Need-returns-3 invariant-loop decreases-loop
 returns-3 c =

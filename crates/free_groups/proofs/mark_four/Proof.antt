@@ -3,7 +3,7 @@
 use Prim.Native.Nat.{◌+◌}
 use native.Mathlib.Omega.{arith}
 use lib.ListN.{set, length-set}
-use Rattle.free_groups.proofs.Marking.{linked-four}
+use Rattle.free_groups.proofs.Marking.{linked_four}
 use borrow.Author.Rules.{rules}
 use Rattle.free_groups.proofs.mark_four.Statement.{statement}
 use Rattle.free_groups.proofs.mark_four.Tie as tie
@@ -116,7 +116,7 @@ same-length-2 c = search rules
 returns : tie.Need-returns
 returns c =
     let a = c.before.before.before.before.before.before.before.before.before.before.before.before.before.before.before.before.before.before.before.before.before.before.before.args in
-    linked-four a.occupied.now a.marks.now _ _ _ _ a.links.now a.i _ _ _ _ c.before.before.before.before.before.before.before.before.before.before.before.before.before.before.before.before.before.before.before.before.before.before.before.requires.0 c.before.before.before.before.before.before.before.before.before.before.before.before.before.before.before.before.before.before.before.before.before.before.before.requires.1 c.before.before.before.before.before.before.before.before.before.before.before.before.before.before.before.before.before.before.before.before.before.before.before.requires.3 c.before.before.before.before.before.before.before.before.before.before.before.before.before.before.before.before.before.put-mark.ensures c.before.before.before.before.before.before.before.before.before.before.before.before.put-mark2.ensures c.before.before.before.before.before.before.before.put-mark3.ensures c.before.before.put-mark4.ensures
+    linked_four a.occupied.now a.marks.now _ _ _ _ a.links.now a.i _ _ _ _ c.before.before.before.before.before.before.before.before.before.before.before.before.before.before.before.before.before.before.before.before.before.before.before.requires.0 c.before.before.before.before.before.before.before.before.before.before.before.before.before.before.before.before.before.before.before.before.before.before.before.requires.1 c.before.before.before.before.before.before.before.before.before.before.before.before.before.before.before.before.before.before.before.before.before.before.before.requires.3 c.before.before.before.before.before.before.before.before.before.before.before.before.before.before.before.before.before.put-mark.ensures c.before.before.before.before.before.before.before.before.before.before.before.before.put-mark2.ensures c.before.before.before.before.before.before.before.put-mark3.ensures c.before.before.put-mark4.ensures
 
 pub mark-four-spec : {M : Type 1} → statement M
 mark-four-spec =

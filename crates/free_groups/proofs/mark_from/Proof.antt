@@ -9,7 +9,7 @@ use native.Mathlib.Numerals.{add-one}
 use lib.ListN.{length, take, get_or}
 use lib.Seq.{take-length, take-suc, length-take-le}
 use Rattle.free_groups.specs.models.Marks.{Linked}
-use Rattle.free_groups.proofs.Marking.{linked-then}
+use Rattle.free_groups.proofs.Marking.{linked_then}
 use Rattle.free_groups.proofs.mark_from.Statement.{statement}
 use Rattle.free_groups.proofs.mark_from.Tie as tie
 
@@ -44,7 +44,7 @@ loop-again c =
     let l = c.before.before.before.before.before.before.before.before.before.loop in
     let gs = c.before.before.before.before.before.before.before.before.before.before.before.before.before.args.occupied.now in
     let b : l.i < length gs = omega arith in
-    let s = linked-then (take l.i gs) l.marks l.links _ _ (get_or gs l.i 0) l.i (sym (length-take-le l.i gs (omega arith))) (omega (arith, l.invariant.1, c.before.before.before.before.before.before.before.before.before.before.before.before.before.requires.1)) l.invariant.2 c.before.before.before.before.mark.ensures in
+    let s = linked_then (take l.i gs) l.marks l.links _ _ (get_or gs l.i 0) l.i (sym (length-take-le l.i gs (omega arith))) (omega (arith, l.invariant.1, c.before.before.before.before.before.before.before.before.before.before.before.before.before.requires.1)) l.invariant.2 c.before.before.before.before.mark.ensures in
     (omega arith, s.0 ∙ l.invariant.1, rw (add-one l.i, take-suc gs l.i 0 b) s.1)
 
 same_length : tie.Need-same-length invariant-loop decreases-loop

@@ -6,7 +6,7 @@ use Prim.Native.Nat.{ℕ, ◌-◌, ◌≤◌}
 use native.Mathlib.Omega.{arith}
 use lib.ListN.{length, take, length-replicate}
 use Rattle.free_groups.specs.models.Marks.{Linked}
-use Rattle.free_groups.proofs.Marking.{linked-none}
+use Rattle.free_groups.proofs.Marking.{linked_none}
 use Rattle.free_groups.proofs.mark_groups.Statement.{statement}
 use Rattle.free_groups.proofs.mark_groups.Tie as tie
 
@@ -17,7 +17,7 @@ abbrev decreases-loop : tie.decreases-loop
 decreases-loop occupied marks₀ links₀ i₀ marks links i = length occupied - i
 
 loop-holds : tie.Need-loop-init invariant-loop decreases-loop
-loop-holds c = (omega arith, refl, rw c.before.before.before.requires.0 (linked-none c.before.before.before.args.links.now))
+loop-holds c = (omega arith, refl, rw c.before.before.before.requires.0 (linked_none c.before.before.before.args.links.now))
 
 sub-loop : tie.Need-overflow-sub-loop invariant-loop decreases-loop
 sub-loop c = search rules

@@ -1,7 +1,7 @@
 -- `used_at`: the occupied groups stand in front.
 -- Assumes nothing.
 use mathlib.Core.Path.{sym}
-use Rattle.free_groups.proofs.Marking.{at-occupied, at-taken}
+use Rattle.free_groups.proofs.Marking.{at_occupied, at_taken}
 use borrow.Author.Rules.{rules}
 use Rattle.free_groups.proofs.used_at.Statement.{statement}
 use Rattle.free_groups.proofs.used_at.Tie as tie
@@ -15,7 +15,7 @@ shared-slice-read-result c = search rules
 returns : tie.Need-returns
 returns c =
     let a = c.before.before.args in
-    sym (at-occupied a.occupied.now a.taken.now a.place c.before.if1.true)
+    sym (at_occupied a.occupied.now a.taken.now a.place c.before.if1.true)
 
 sub-result : tie.Need-overflow-sub-result
 sub-result c = search rules
@@ -29,7 +29,7 @@ shared-slice-read-result-2 c = search rules
 returns-2 : tie.Need-returns-2
 returns-2 c =
     let a = c.before.before.args in
-    sym (at-taken a.occupied.now a.taken.now a.place c.before.if1.false)
+    sym (at_taken a.occupied.now a.taken.now a.place c.before.if1.false)
 
 pub used-at-spec : {M : Type 1} → statement M
 used-at-spec =

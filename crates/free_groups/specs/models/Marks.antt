@@ -5,7 +5,7 @@ use Rattle.std.specs.Prelude.{ℕ, ◌+◌, ◌-◌, ◌%◌, ◌≤◌, ◌<◌
 -- of the groups gs, k stand up to and with the last that is h modulo 4,096: none behind them is, and k is 0 where none is
 pub record Last (h : ℕ) (gs : List ℕ) (k : ℕ) : Type 0 where
   pub within : k ≤ length gs
-  pub none-behind : (q : ℕ) → k ≤ q → q < length gs → get_or gs q 0 % 4096 ≢ h
+  pub none_behind : (q : ℕ) → k ≤ q → q < length gs → get_or gs q 0 % 4096 ≢ h
   pub stands : 0 < k → get_or gs (k - 1) 0 % 4096 ≡ h
 
 -- a mark leads to the last used group that is marked there, and the link of a place to the last in front of it with the same mark

@@ -3,7 +3,7 @@
 use mathlib.Core.Path.{◌∙◌, sym, ap}
 use Prim.Native.Nat.{ℕ, ◌+◌}
 use native.Mathlib.Omega.{arith}
-use Rattle.group_lists.proofs.Scans.{part-here, part-on, one_hit, one-missed}
+use Rattle.group_lists.proofs.Scans.{part_here, part_on, one_hit, one_missed}
 use borrow.Author.Rules.{rules}
 use Rattle.group_lists.proofs.front_of_two.Statement.{statement}
 use Rattle.group_lists.proofs.front_of_two.Tie as tie
@@ -19,7 +19,7 @@ returns c =
     let a = c.before.before.args in
     let g = a.group in
     let gs = a.groups.now in
-    sym (part-here g gs a.i 1 (omega (arith, c.before.before.requires)) 1 (omega (arith, one_hit g gs a.i (omega arith) c.if1.true)) ∙ one_hit g gs a.i (omega arith) c.if1.true)
+    sym (part_here g gs a.i 1 (omega (arith, c.before.before.requires)) 1 (omega (arith, one_hit g gs a.i (omega arith) c.if1.true)) ∙ one_hit g gs a.i (omega arith) c.if1.true)
 
 add-if2 : tie.Need-overflow-add-if2
 add-if2 c = search rules
@@ -35,18 +35,18 @@ returns-2 c =
     let a = c.before.before.before.before.args in
     let g = a.group in
     let gs = a.groups.now in
-    let m = one-missed g gs a.i (omega arith) c.before.before.if1.false in
+    let m = one_missed g gs a.i (omega arith) c.before.before.if1.false in
     let h = one_hit g gs (a.i + 1) (omega arith) c.if2.true in
-    sym (part-on g gs a.i 1 (omega (arith, c.before.before.before.before.requires)) 1 (omega (arith, m)) ∙ ap (λ (k : ℕ). 1 + k) h)
+    sym (part_on g gs a.i 1 (omega (arith, c.before.before.before.before.requires)) 1 (omega (arith, m)) ∙ ap (λ (k : ℕ). 1 + k) h)
 
 returns-3 : tie.Need-returns-3
 returns-3 c =
     let a = c.before.before.before.before.args in
     let g = a.group in
     let gs = a.groups.now in
-    let m = one-missed g gs a.i (omega arith) c.before.before.if1.false in
-    let h = one-missed g gs (a.i + 1) (omega arith) c.if2.false in
-    sym (part-on g gs a.i 1 (omega (arith, c.before.before.before.before.requires)) 1 (omega (arith, m)) ∙ ap (λ (k : ℕ). 1 + k) h)
+    let m = one_missed g gs a.i (omega arith) c.before.before.if1.false in
+    let h = one_missed g gs (a.i + 1) (omega arith) c.if2.false in
+    sym (part_on g gs a.i 1 (omega (arith, c.before.before.before.before.requires)) 1 (omega (arith, m)) ∙ ap (λ (k : ℕ). 1 + k) h)
 
 pub front-of-two-spec : {M : Type 1} → statement M
 front-of-two-spec =

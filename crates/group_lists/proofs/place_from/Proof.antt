@@ -5,13 +5,13 @@ use mathlib.Core.Path.{◌≡◌, refl}
 use Prim.Native.Nat.{◌+◌, ◌-◌, ◌≤◌}
 use native.Mathlib.Omega.{arith}
 use lib.ListN.{length, drop}
-use Rattle.group_lists.specs.Scan.{inFront}
-use Rattle.group_lists.proofs.Scans.{rest-here, rest-on, one_hit, one-missed, front-done}
+use Rattle.group_lists.specs.Scan.{in_front}
+use Rattle.group_lists.proofs.Scans.{rest_here, rest_on, one_hit, one_missed, front-done}
 use Rattle.group_lists.proofs.place_from.Statement.{statement}
 use Rattle.group_lists.proofs.place_from.Tie as tie
 
 abbrev invariant-loop : tie.invariant-loop
-invariant-loop groups from group i₀ i = (i ≤ length groups) × (from + inFront group (drop from groups) ≡ i + inFront group (drop i groups))
+invariant-loop groups from group i₀ i = (i ≤ length groups) × (from + in_front group (drop from groups) ≡ i + in_front group (drop i groups))
 
 abbrev decreases-loop : tie.decreases-loop
 decreases-loop groups from group i₀ i = length groups - i
@@ -32,7 +32,7 @@ returns c =
     let g = a.group in
     let gs = a.groups.now in
     let h = one_hit g gs l.i (omega arith) c.if1.true in
-    omega (arith, l.invariant.1, rest-here g gs l.i 1 (omega arith) (omega (arith, h)), h)
+    omega (arith, l.invariant.1, rest_here g gs l.i 1 (omega arith) (omega (arith, h)), h)
 
 add-i : tie.Need-overflow-add-i invariant-loop decreases-loop
 add-i c = search rules
@@ -46,8 +46,8 @@ loop-again c =
     let a = c.before.before.before.before.args in
     let g = a.group in
     let gs = a.groups.now in
-    let m = one-missed g gs l.i (omega arith) c.if1.false in
-    (omega arith, omega (arith, l.invariant.1, m, rest-on g gs l.i 1 (omega arith) (omega (arith, m))))
+    let m = one_missed g gs l.i (omega arith) c.if1.false in
+    (omega arith, omega (arith, l.invariant.1, m, rest_on g gs l.i 1 (omega arith) (omega (arith, m))))
 
 returns-2 : tie.Need-returns-2 invariant-loop decreases-loop
 returns-2 c =

@@ -6,13 +6,13 @@ use Prim.Native.Nat.{◌+◌, ◌-◌, ◌≤◌}
 use native.Mathlib.Omega.{arith}
 use lib.ListN.{length, take, drop, length-drop}
 use lib.Seq.{length-take-le}
-use Rattle.group_lists.specs.Scan.{inFront}
-use Rattle.group_lists.proofs.Scans.{front-most, rest-here, rest-on}
+use Rattle.group_lists.specs.Scan.{in_front}
+use Rattle.group_lists.proofs.Scans.{front_most, rest_here, rest_on}
 use Rattle.group_lists.proofs.place_of.Statement.{statement}
 use Rattle.group_lists.proofs.place_of.Tie as tie
 
 abbrev invariant-loop : tie.invariant-loop
-invariant-loop groups group i₀ i = (i ≤ length groups) × (inFront group groups ≡ i + inFront group (drop i groups))
+invariant-loop groups group i₀ i = (i ≤ length groups) × (in_front group groups ≡ i + in_front group (drop i groups))
 
 abbrev decreases-loop : tie.decreases-loop
 decreases-loop groups group i₀ i = length groups - i
@@ -36,7 +36,7 @@ returns c =
     let g = a.group in
     let gs = a.groups.now in
     let e = c.before.front-of-eight.ensures in
-    omega (arith, l.invariant.1, e, rest-here g gs l.i 8 (omega arith) (omega (arith, e, c.if1.true)))
+    omega (arith, l.invariant.1, e, rest_here g gs l.i 8 (omega arith) (omega (arith, e, c.if1.true)))
 
 add-i : tie.Need-overflow-add-i invariant-loop decreases-loop
 add-i c = search rules
@@ -51,8 +51,8 @@ loop-again c =
     let g = a.group in
     let gs = a.groups.now in
     let e = c.before.front-of-eight.ensures in
-    let m : inFront g (take 8 (drop l.i gs)) ≡ 8 = omega (arith, e, c.if1.false, front-most g (take 8 (drop l.i gs)), length-take-le 8 (drop l.i gs) (omega (arith, length-drop l.i gs))) in
-    (omega arith, omega (arith, l.invariant.1, rest-on g gs l.i 8 (omega arith) (omega (arith, m))))
+    let m : in_front g (take 8 (drop l.i gs)) ≡ 8 = omega (arith, e, c.if1.false, front_most g (take 8 (drop l.i gs)), length-take-le 8 (drop l.i gs) (omega (arith, length-drop l.i gs))) in
+    (omega arith, omega (arith, l.invariant.1, rest_on g gs l.i 8 (omega arith) (omega (arith, m))))
 
 place-from-requires : tie.Need-place-from-requires invariant-loop decreases-loop
 place-from-requires c κs = search rules

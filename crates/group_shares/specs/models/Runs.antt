@@ -9,10 +9,10 @@ front g [] = 0
 front g (x ∷ xs) = cond (eqb g x) (suc (front g xs)) 0
 
 -- a group in front of runs makes the first one longer, or one of its own
-abbrev pub addRun : ℕ → List Share → List Share
-addRun g [] = share g 1 ∷ []
-addRun g (s ∷ ss) = cond (eqb g s.group) (share g (suc s.count) ∷ ss) (share g 1 ∷ s ∷ ss)
+abbrev pub add_run : ℕ → List Share → List Share
+add_run g [] = share g 1 ∷ []
+add_run g (s ∷ ss) = cond (eqb g s.group) (share g (suc s.count) ∷ ss) (share g 1 ∷ s ∷ ss)
 
 abbrev pub runs : List ℕ → List Share
 runs [] = []
-runs (g ∷ gs) = addRun g (runs gs)
+runs (g ∷ gs) = add_run g (runs gs)

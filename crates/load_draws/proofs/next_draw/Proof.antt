@@ -1,4 +1,4 @@
--- `load_draws::next_draw` meets its contract: a start has a seed that is not 0, and a refusal the seed 0 (started, not-started).
+-- `load_draws::next_draw` meets its contract: a start has a seed that is not 0, and a refusal the seed 0 (started, not_started).
 -- Assumes nothing.
 use borrow.Author.Rules.{rules}
 use mathlib.Core.Path.{◌≡◌, ◌∙◌, sym, ap}
@@ -7,7 +7,7 @@ use Prim.Native.Nat.{ℕ}
 use native.Mathlib.Omega.{arith}
 use Rattle.load_draws.specs.Draw.{next}
 use Rattle.load_draws.specs.declared.Drawn.TheVariants.{Number, Refused}
-use Rattle.load_draws.proofs.DrawLaws.{started, not-started, drawn-zero, drawn-some, next-some}
+use Rattle.load_draws.proofs.DrawLaws.{started, not_started, drawn-zero, drawn-some, next-some}
 use Rattle.load_draws.proofs.next_draw.Statement.{statement}
 use Rattle.load_draws.proofs.next_draw.Tie as tie
 
@@ -37,7 +37,7 @@ returns c =
 returns-2 : tie.Need-returns-2
 returns-2 c =
     let s = c.before.before.before.before.args.s in
-    let g = not-started s _ (sym c.before.before.before.seeded.ensures ∙ c.before.reason.given.1) in
+    let g = not_started s _ (sym c.before.before.before.seeded.ensures ∙ c.before.reason.given.1) in
     (ap Refused g.1 ∙ sym (drawn-zero s g.0), λ n q. differ q)
   where
     differ : {A : Type 0} {a b : ℕ} → Refused a ≡ Number b → A

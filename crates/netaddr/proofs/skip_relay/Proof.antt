@@ -3,7 +3,7 @@
 use mathlib.Core.Path.{◌≡◌, ◌∙◌, sym, ap}
 use borrow.Author.Tests.{eq-eqb, ne_eqb}
 use Rattle.netaddr_ranges.specs.Unroutable.{unroutable4}
-use Rattle.netaddr.specs.Relay.{skips, byPortAndAddress}
+use Rattle.netaddr.specs.Relay.{skips, by_port_and_address}
 use Rattle.netaddr.proofs.Lengths.{length_at, of-ipv4, of-ipv6}
 use borrow.Author.Rules.{rules}
 use Rattle.netaddr.proofs.skip_relay.Statement.{statement}
@@ -15,7 +15,7 @@ After-ids =
     tie.Else3
 
 -- where only the port and the address are left to ask
-after-ids : (k : After-ids) → let a = k.before.before.before.before.before.args in skips a.id a.address.now a.port ≡ byPortAndAddress a.id a.address.now a.port
+after-ids : (k : After-ids) → let a = k.before.before.before.before.before.args in skips a.id a.address.now a.port ≡ by_port_and_address a.id a.address.now a.port
 unfolding skips
 after-ids k = let a = k.before.before.before.before.before.args in
     rw (ne_eqb a.id 5 k.before.before.before.if1.false, ne_eqb a.id 3 k.before.before.if2.false, sym k.before.outside-cjdns.ensures ∙ k.if3.false)

@@ -6,21 +6,21 @@ use mathlib.Core.List.{List, [], ◌∷◌}
 use mathlib.Core.Path.{◌≡◌, ◌∙◌, sym}
 use Rattle.netaddr_ranges.specs.Unroutable.{unroutable4, held, zeros, decided}
 use Rattle.netaddr_ranges.specs.Prefix.{within, ipv6}
-use Rattle.netaddr_ranges.specs.Ranges.{embeddedRows}
-use Rattle.netaddr_ranges.proofs.Truth.{taken, passed, choose-either, unless-both}
+use Rattle.netaddr_ranges.specs.Ranges.{embedded_rows}
+use Rattle.netaddr_ranges.proofs.Truth.{taken, passed, choose_either, unless_both}
 use borrow.Author.Rules.{rules}
 use Rattle.netaddr_ipv6.proofs.ipv6_embedded_bogon.Statement.{statement}
 use Rattle.netaddr_ipv6.proofs.ipv6_embedded_bogon.Tie as tie
 
 -- the six rows as the code asks them: the three that go by the last four bytes as one
-in-turn : (a : List ℕ) → decided embeddedRows a ≡
+in-turn : (a : List ℕ) → decided embedded_rows a ≡
     cond (within (ipv6 (0x2001 ∷ []) 32) a) true
     (cond (within (ipv6 (0x2002 ∷ []) 16) a) (unroutable4 (held 2 a) || not (zeros 6 10 a))
     (cond (within (ipv6 (0x64 ∷ 0xff9b ∷ []) 96) a || within (ipv6 (0 ∷ 0 ∷ 0 ∷ 0 ∷ 0xffff ∷ []) 96) a || within (ipv6 [] 96) a) (unroutable4 (held 12 a))
     (cond (within (ipv6 (0x64 ∷ 0xff9b ∷ 0x1 ∷ []) 48) a) (unroutable4 (held 12 a) || not (zeros 6 6 a)) false)))
 unfolding decided
 in-turn a =
-    rw (← unless-both (zeros 6 10 a) (unroutable4 (held 2 a)), ← unless-both (zeros 6 6 a) (unroutable4 (held 12 a)), ← choose-either, ← choose-either)
+    rw (← unless_both (zeros 6 10 a) (unroutable4 (held 2 a)), ← unless_both (zeros 6 6 a) (unroutable4 (held 12 a)), ← choose_either, ← choose_either)
 
 -- the place after the tests of 2001::/32 and 2002::/16
 abbrev After-two : Type 0
@@ -29,7 +29,7 @@ After-two =
 
 -- the rows after these, by what the calls found
 after_two : (k : After-two) → let a = k.before.before.before.before.before.before.args.t1 in
-    decided embeddedRows a ≡
+    decided embedded_rows a ≡
     cond (k.before.before.before.before.before.ipv6-nat64.result || k.before.before.before.before.ipv6-translated.result || k.before.before.before.ipv4-compatible.result)
     (unroutable4 (held 12 a))
     (cond (within (ipv6 (0x64 ∷ 0xff9b ∷ 0x1 ∷ []) 48) a) (unroutable4 (held 12 a) || not (zeros 6 6 a)) false)

@@ -4,8 +4,8 @@ use mathlib.Core.List.{[], ◌∷◌}
 use mathlib.Core.Path.{◌∙◌, refl, sym, ap}
 use mathlib.Core.Bool.{◌&&◌}
 use Rattle.netaddr_ranges.specs.Unroutable.{zeros}
-use Rattle.netaddr_ranges.specs.Prefix.{groups, sameBytes}
-use Rattle.netaddr_ipv6.proofs.Zeros.{zero-tail}
+use Rattle.netaddr_ranges.specs.Prefix.{groups, same_bytes}
+use Rattle.netaddr_ipv6.proofs.Zeros.{zero_tail}
 use borrow.Author.Rules.{rules}
 use Rattle.netaddr_ipv6.proofs.ipv6_nat64.Statement.{statement}
 use Rattle.netaddr_ipv6.proofs.ipv6_nat64.Tie as tie
@@ -28,8 +28,8 @@ zero-bytes-requires c κs = search rules
 returns : tie.Need-returns
 unfolding zeros
 returns c = let o = c.before.args.t1 in
-    ap (λ t. sameBytes 4 (groups 8 (0x64 ∷ 0xff9b ∷ [])) o && t) c.zero-bytes.ensures
-    ∙ sym (zero-tail 4 8 (groups 8 (0x64 ∷ 0xff9b ∷ [])) o refl)
+    ap (λ t. same_bytes 4 (groups 8 (0x64 ∷ 0xff9b ∷ [])) o && t) c.zero-bytes.ensures
+    ∙ sym (zero_tail 4 8 (groups 8 (0x64 ∷ 0xff9b ∷ [])) o refl)
 
 pub ipv6-nat64-spec : {M : Type 1} → statement M
 ipv6-nat64-spec =

@@ -2,7 +2,7 @@
 -- Assumes nothing.
 use mathlib.Core.Path.{refl}
 use Rattle.netaddr_ranges.specs.Unroutable.{zeros}
-use Rattle.netaddr_ranges.specs.Ranges.{scopeRows}
+use Rattle.netaddr_ranges.specs.Ranges.{scope_rows}
 use Rattle.netaddr_ranges.proofs.Order.{joined-decided}
 use borrow.Author.Rules.{rules}
 use Rattle.netaddr_ipv6.proofs.ipv6_scope_unroutable.Statement.{statement}
@@ -22,7 +22,7 @@ array-read-loopback c = search rules
 
 returns : tie.Need-returns
 unfolding zeros
-returns c = rw c.zero-bytes.ensures (joined-decided scopeRows c.before.args.t1 (refl, (refl, (refl, (refl, tt)))))
+returns c = rw c.zero-bytes.ensures (joined-decided scope_rows c.before.args.t1 (refl, (refl, (refl, (refl, tt)))))
 
 pub ipv6-scope-unroutable-spec : {M : Type 1} → statement M
 ipv6-scope-unroutable-spec =

@@ -4,8 +4,8 @@ use mathlib.Core.List.{[], ◌∷◌}
 use mathlib.Core.Path.{◌∙◌, refl, sym, ap}
 use mathlib.Core.Bool.{◌&&◌}
 use Rattle.netaddr_ranges.specs.Unroutable.{zeros}
-use Rattle.netaddr_ranges.specs.Prefix.{groups, sameBytes, byte}
-use Rattle.netaddr_ipv6.proofs.Zeros.{zero-tail}
+use Rattle.netaddr_ranges.specs.Prefix.{groups, same_bytes, byte}
+use Rattle.netaddr_ipv6.proofs.Zeros.{zero_tail}
 use lib.Dec.{eqb}
 use borrow.Author.Rules.{rules}
 use Rattle.netaddr_ipv6.proofs.ipv6_translated.Statement.{statement}
@@ -27,8 +27,8 @@ returns : tie.Need-returns
 unfolding zeros
 returns c = let o = c.before.before.args.t1 in
     ap (λ t. t && eqb (byte 8 o) 0xff && eqb (byte 9 o) 0xff && c.zero-bytes2.result) c.before.zero-bytes.ensures
-    ∙ (ap (λ t. sameBytes 10 (groups 8 (0 ∷ 0 ∷ 0 ∷ 0 ∷ 0xffff ∷ [])) o && t) c.zero-bytes2.ensures
-    ∙ sym (zero-tail 10 2 (groups 8 (0 ∷ 0 ∷ 0 ∷ 0 ∷ 0xffff ∷ [])) o refl))
+    ∙ (ap (λ t. same_bytes 10 (groups 8 (0 ∷ 0 ∷ 0 ∷ 0 ∷ 0xffff ∷ [])) o && t) c.zero-bytes2.ensures
+    ∙ sym (zero_tail 10 2 (groups 8 (0 ∷ 0 ∷ 0 ∷ 0 ∷ 0xffff ∷ [])) o refl))
 
 pub ipv6-translated-spec : {M : Type 1} → statement M
 ipv6-translated-spec =

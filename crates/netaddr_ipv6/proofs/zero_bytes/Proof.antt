@@ -5,7 +5,7 @@ use mathlib.Core.Bool.{true}
 use mathlib.Core.Path.{◌≡◌, ◌∙◌, sym, ap}
 use native.Mathlib.Omega.{arith}
 use Rattle.netaddr_ranges.specs.Unroutable.{zeros}
-use Rattle.netaddr_ipv6.proofs.Zeros.{zeros-more, zeros-not}
+use Rattle.netaddr_ipv6.proofs.Zeros.{zeros_more, zeros_not}
 use Rattle.netaddr_ipv6.proofs.zero_bytes.Statement.{statement}
 use Rattle.netaddr_ipv6.proofs.zero_bytes.Tie as tie
 
@@ -26,7 +26,7 @@ array-read-if1 c = omega arith
 
 returns : tie.Need-returns invariant-loop decreases-loop
 returns c = let a = c.before.before.before.args in let l = c.before.before.loop in
-    sym (zeros-not a.from l.i a.to a.t1 l.invariant.0.0 (omega arith) c.if1.true)
+    sym (zeros_not a.from l.i a.to a.t1 l.invariant.0.0 (omega arith) c.if1.true)
 
 add-i : tie.Need-overflow-add-i invariant-loop decreases-loop
 add-i c = omega arith
@@ -36,7 +36,7 @@ loop-less c = omega arith
 
 loop-again : tie.Need-loop-preserved invariant-loop decreases-loop
 loop-again c = let a = c.before.before.before.args in let l = c.before.before.loop in
-    (omega arith, zeros-more a.from l.i a.to a.t1 l.invariant.0.0 l.invariant.1 c.if1.false)
+    (omega arith, zeros_more a.from l.i a.to a.t1 l.invariant.0.0 l.invariant.1 c.if1.false)
 
 returns-2 : tie.Need-returns-2 invariant-loop decreases-loop
 returns-2 c = let a = c.before.before.args in let l = c.before.loop in

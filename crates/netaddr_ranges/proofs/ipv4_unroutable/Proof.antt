@@ -1,7 +1,7 @@
 -- The thirteen tests, in the order of the ranges.
 -- Assumes nothing.
 use Rattle.netaddr_ranges.specs.Unroutable.{unroutable4}
-use Rattle.netaddr_ranges.specs.Ranges.{ipv4Ranges}
+use Rattle.netaddr_ranges.specs.Ranges.{ipv4_ranges}
 use Rattle.netaddr_ranges.proofs.Order.{joined-some}
 use borrow.Author.Rules.{rules}
 use Rattle.netaddr_ranges.proofs.ipv4_unroutable.Statement.{statement}
@@ -32,7 +32,7 @@ returns : tie.Need-returns
 unfolding unroutable4
 returns c =
     rw (c.before.before.before.ipv4-this-network.ensures, c.before.before.ipv4-shared.ensures, c.before.ipv4-benchmarking.ensures, c.ipv4-reserved.ensures)
-    (joined-some ipv4Ranges c.before.before.before.before.args.t1)
+    (joined-some ipv4_ranges c.before.before.before.before.args.t1)
 
 pub ipv4-unroutable-spec : {M : Type 1} → statement M
 ipv4-unroutable-spec =

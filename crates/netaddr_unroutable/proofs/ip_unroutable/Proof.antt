@@ -10,7 +10,7 @@ use lib.Dec.{eqb}
 use Rattle.netaddr_ranges.specs.Prefix.{byte, Range, within, ipv6}
 use Rattle.netaddr_ranges.specs.Unroutable.{unroutable4, unroutable16, held, decided}
 use Rattle.netaddr_ranges.proofs.Truth.{taken, passed}
-use Rattle.netaddr_unroutable.proofs.Begins.{apart, ordinary-routable}
+use Rattle.netaddr_unroutable.proofs.Begins.{apart, ordinary_routable}
 use Rattle.netaddr_unroutable.proofs.ip_unroutable.Statement.{statement}
 use Rattle.netaddr_unroutable.proofs.ip_unroutable.Tie as tie
 
@@ -51,7 +51,7 @@ returns-2 : tie.Need-returns-2
 returns-2 c = c.ipv6-unroutable.ensures ∙ ap unroutable16 c.before.octets16.ensures
 
 returns-3 : tie.Need-returns-3
-returns-3 c = sym (ordinary-routable c.before.before.before.before.args.address.now c.if3.true)
+returns-3 c = sym (ordinary_routable c.before.before.before.before.args.address.now c.if3.true)
 
 octets16-requires-2 : tie.Need-octets16-requires-2
 octets16-requires-2 c κs = search rules

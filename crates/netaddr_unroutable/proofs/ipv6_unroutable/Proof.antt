@@ -6,24 +6,24 @@ use mathlib.Core.List.{List, [], ◌∷◌, ◌++◌}
 use mathlib.Core.Path.{◌≡◌, ◌∙◌, refl, sym, ap}
 use borrow.Author.Rules.{rules}
 use Rattle.netaddr_ranges.specs.Prefix.{within, ipv6}
-use Rattle.netaddr_ranges.specs.Ranges.{scopeRows, specialRows, embeddedRows}
+use Rattle.netaddr_ranges.specs.Ranges.{scope_rows, special_rows, embedded_rows}
 use Rattle.netaddr_ranges.specs.Unroutable.{unroutable16, decided}
 use Rattle.netaddr_ranges.proofs.Order.{plain_then}
 use Rattle.netaddr_ranges.proofs.Truth.{taken, passed}
 use Rattle.netaddr_unroutable.proofs.ipv6_unroutable.Statement.{statement}
 use Rattle.netaddr_unroutable.proofs.ipv6_unroutable.Tie as tie
 
-groups-in-turn : (a : List ℕ) → decided (scopeRows ++ (specialRows ++ embeddedRows)) a ≡ (decided scopeRows a || decided specialRows a || decided embeddedRows a)
+groups-in-turn : (a : List ℕ) → decided (scope_rows ++ (special_rows ++ embedded_rows)) a ≡ (decided scope_rows a || decided special_rows a || decided embedded_rows a)
 groups-in-turn a =
-    plain_then scopeRows (specialRows ++ embeddedRows) a (refl, (refl, (refl, (refl, tt))))
-    ∙ (ap (λ t. decided scopeRows a || t) (plain_then specialRows embeddedRows a (refl, (refl, (refl, (refl, (refl, (refl, tt)))))))
-    ∙ sym (or_assoc (decided scopeRows a) (decided specialRows a) (decided embeddedRows a)))
+    plain_then scope_rows (special_rows ++ embedded_rows) a (refl, (refl, (refl, (refl, tt))))
+    ∙ (ap (λ t. decided scope_rows a || t) (plain_then special_rows embedded_rows a (refl, (refl, (refl, (refl, (refl, (refl, tt)))))))
+    ∙ sym (or_assoc (decided scope_rows a) (decided special_rows a) (decided embedded_rows a)))
 
 first-row : (a : List ℕ) → within (ipv6 (0xfc00 ∷ []) 8) a ≡ true → unroutable16 a ≡ false
 unfolding unroutable16 decided
 first-row a h = taken _ _ _ h
 
-other-rows : (a : List ℕ) → within (ipv6 (0xfc00 ∷ []) 8) a ≡ false → within (ipv6 (0 ∷ 0 ∷ 0 ∷ 0 ∷ 0 ∷ 0xffff ∷ []) 96) a ≡ false → unroutable16 a ≡ (decided scopeRows a || decided specialRows a || decided embeddedRows a)
+other-rows : (a : List ℕ) → within (ipv6 (0xfc00 ∷ []) 8) a ≡ false → within (ipv6 (0 ∷ 0 ∷ 0 ∷ 0 ∷ 0 ∷ 0xffff ∷ []) 96) a ≡ false → unroutable16 a ≡ (decided scope_rows a || decided special_rows a || decided embedded_rows a)
 unfolding unroutable16 decided
 other-rows a h m = passed _ _ _ h ∙ (passed _ _ _ m ∙ groups-in-turn a)
 

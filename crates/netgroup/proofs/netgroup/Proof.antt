@@ -6,10 +6,10 @@ use Rattle.candidate_bytes.proofs.Valids.{valid-length}
 use Rattle.netgroup.specs.declared.GroupAnswer.TheVariants.{Group}
 use Rattle.netgroup.specs.declared.Grouped.{Grouped}
 use Rattle.netgroup.specs.Group.{numbering}
-use Rattle.netgroup.specs.Refusal.{checkRefusal}
-use Rattle.netgroup.proofs.Refusals.{check-limit}
+use Rattle.netgroup.specs.Refusal.{check_refusal}
+use Rattle.netgroup.proofs.Refusals.{check_limit}
 use Rattle.netgroup.proofs.Walked.{ended}
-use Rattle.netgroup.proofs.Calls.{call-invalid, call-refused, call-group}
+use Rattle.netgroup.proofs.Calls.{call-invalid, call_refused, call_group}
 use borrow.Author.Rules.{rules}
 use Rattle.netgroup.proofs.netgroup.Statement.{statement}
 use Rattle.netgroup.proofs.netgroup.Tie as tie
@@ -21,7 +21,7 @@ returns : tie.Need-returns
 returns c =
     let a = c.before.before.before.before.args in
     let n = numbering a.grouping a.map.now in
-    (call-invalid (checkRefusal n) n a.candidate.now (sym c.before.is-candidate.ensures ∙ not-true _ c.if1.true), tt)
+    (call-invalid (check_refusal n) n a.candidate.now (sym c.before.is-candidate.ensures ∙ not-true _ c.if1.true), tt)
 
 check-refusal-requires : tie.Need-check-refusal-requires
 check-refusal-requires c κs = search rules
@@ -33,7 +33,7 @@ returns-2 : tie.Need-returns-2
 returns-2 c =
     let a = c.before.before.before.before.before.before.before.before.args in
     let n = numbering a.grouping a.map.now in
-    (call-refused (checkRefusal n) n a.candidate.now _ (sym c.before.before.before.before.before.is-candidate.ensures ∙ not-false _ c.before.before.before.before.if1.false) (sym c.before.before.before.check-refusal.ensures ∙ c.before.checked.given.1), tt)
+    (call_refused (check_refusal n) n a.candidate.now _ (sym c.before.before.before.before.before.is-candidate.ensures ∙ not-false _ c.before.before.before.before.if1.false) (sym c.before.before.before.check-refusal.ensures ∙ c.before.checked.given.1), tt)
 
 enum_told : tie.Need-enum-told
 enum_told c = search rules
@@ -41,14 +41,14 @@ enum_told c = search rules
 group-of-requires : tie.Need-group-of-requires
 group-of-requires c κs =
     let a = c.before.before.before.before.before.before.before.args in
-    (valid-length a.candidate.now (sym c.before.before.before.before.is-candidate.ensures ∙ not-false _ c.before.before.before.if1.false), check-limit (numbering a.grouping a.map.now) (sym c.before.before.check-refusal.ensures ∙ c.enum_told.given.1))
+    (valid-length a.candidate.now (sym c.before.before.before.before.is-candidate.ensures ∙ not-false _ c.before.before.before.if1.false), check_limit (numbering a.grouping a.map.now) (sym c.before.before.check-refusal.ensures ∙ c.enum_told.given.1))
 
 returns-3 : tie.Need-returns-3
 returns-3 c =
     let a = c.before.before.before.before.before.before.before.before.args in
     let n = numbering a.grouping a.map.now in
     let passed = sym c.before.before.before.check-refusal.ensures ∙ c.before.enum_told.given.1 in
-    let found = call-group (checkRefusal n) n a.candidate.now (sym c.before.before.before.before.before.is-candidate.ensures ∙ not-false _ c.before.before.before.before.if1.false) passed in
+    let found = call_group (check_refusal n) n a.candidate.now (sym c.before.before.before.before.before.is-candidate.ensures ∙ not-false _ c.before.before.before.before.if1.false) passed in
     (ap (λ (x : Grouped). Group x.group) c.Group-of.ensures ∙ found, ended n a.candidate.now passed)
 
 pub netgroup-spec : {M : Type 1} → statement M

@@ -6,9 +6,9 @@ use Rattle.candidate_bytes.proofs.Valids.{valid-length}
 use Rattle.netgroup.specs.declared.GroupAnswer.TheVariants.{Group}
 use Rattle.netgroup.specs.declared.Grouped.{Grouped}
 use Rattle.netgroup.specs.Group.{numbering}
-use Rattle.netgroup.specs.Refusal.{limitRefusal}
+use Rattle.netgroup.specs.Refusal.{limit_refusal}
 use Rattle.netgroup.proofs.Walked.{ended}
-use Rattle.netgroup.proofs.Calls.{call-invalid, call-refused, call-group}
+use Rattle.netgroup.proofs.Calls.{call-invalid, call_refused, call_group}
 use borrow.Author.Rules.{rules}
 use Rattle.netgroup.proofs.netgroup_unchecked.Statement.{statement}
 use Rattle.netgroup.proofs.netgroup_unchecked.Tie as tie
@@ -20,7 +20,7 @@ returns : tie.Need-returns
 returns c =
     let a = c.before.before.before.before.args in
     let n = numbering a.grouping a.map.now in
-    (call-invalid (limitRefusal n) n a.candidate.now (sym c.before.is-candidate.ensures ∙ not-true _ c.if1.true), λ h. tt)
+    (call-invalid (limit_refusal n) n a.candidate.now (sym c.before.is-candidate.ensures ∙ not-true _ c.if1.true), λ h. tt)
 
 limit-refusal-requires : tie.Need-limit-refusal-requires
 limit-refusal-requires c κs = search rules
@@ -32,7 +32,7 @@ returns-2 : tie.Need-returns-2
 returns-2 c =
     let a = c.before.before.before.before.before.before.before.before.args in
     let n = numbering a.grouping a.map.now in
-    (call-refused (limitRefusal n) n a.candidate.now _ (sym c.before.before.before.before.before.is-candidate.ensures ∙ not-false _ c.before.before.before.before.if1.false) (sym c.before.before.before.limit-refusal.ensures ∙ c.before.limited.given.1), λ h. tt)
+    (call_refused (limit_refusal n) n a.candidate.now _ (sym c.before.before.before.before.before.is-candidate.ensures ∙ not-false _ c.before.before.before.before.if1.false) (sym c.before.before.before.limit-refusal.ensures ∙ c.before.limited.given.1), λ h. tt)
 
 enum_told : tie.Need-enum-told
 enum_told c = search rules
@@ -44,7 +44,7 @@ returns-3 : tie.Need-returns-3
 returns-3 c =
     let a = c.before.before.before.before.before.before.before.before.args in
     let n = numbering a.grouping a.map.now in
-    let found = call-group (limitRefusal n) n a.candidate.now (sym c.before.before.before.before.before.is-candidate.ensures ∙ not-false _ c.before.before.before.before.if1.false) (sym c.before.before.before.limit-refusal.ensures ∙ c.before.enum_told.given.1) in
+    let found = call_group (limit_refusal n) n a.candidate.now (sym c.before.before.before.before.before.is-candidate.ensures ∙ not-false _ c.before.before.before.before.if1.false) (sym c.before.before.before.limit-refusal.ensures ∙ c.before.enum_told.given.1) in
     (ap (λ (x : Grouped). Group x.group) c.Group-of.ensures ∙ found, λ h. ended n a.candidate.now h)
 
 pub netgroup-unchecked-spec : {M : Type 1} → statement M

@@ -7,7 +7,7 @@ use lib.ListN.{length-take, length-drop}
 use Rattle.candidate_bytes.specs.Candidate.{address}
 use Rattle.asmap_walk_bits.specs.declared.Ending.{Ending}
 use Rattle.asmap_walk_bits.specs.Walk.{summary}
-use Rattle.netgroup.specs.Group.{walkFor}
+use Rattle.netgroup.specs.Group.{walk_for}
 use Rattle.netgroup.proofs.Walked.{walk_ends}
 use borrow.Author.Rules.{rules}
 use Rattle.netgroup.proofs.walked_group.Statement.{statement}
@@ -47,7 +47,7 @@ returns-2 c =
     let a = c.before.before.before.before.before.before.before.before.args in
     let w = walk_ends a.map.now (address a.candidate.now) (simp (length-take, length-drop) (omega (arith, c.before.before.before.before.before.before.before.before.requires.0))) c.before.before.before.before.before.before.before.before.requires.1 in
     let q = sym w ∙ sym c.before.before.before.before.interpret.ensures.0 ∙ c.before.before.walked.given.1 in
-    let e : c.before.before.walked.given.0.0 ≡ summary (walkFor a.map.now a.candidate.now) = cc in
+    let e : c.before.before.walked.given.0.0 ≡ summary (walk_for a.map.now a.candidate.now) = cc in
     ap (λ (x : Ending). record { group = x.number; count = x.count }) e
 
 pub walked-group-spec : {M : Type 1} → statement M

@@ -3,17 +3,17 @@
 use Rattle.std.specs.Prelude.{ℕ, Bool, true, false, cond, List}
 use Rattle.netgroup.specs.declared.Grouping.{Grouping}
 use Rattle.netgroup.specs.declared.Grouping.TheVariants.{Prefixes, OldPrefixes, Map}
-use Rattle.netgroup.specs.Group.{prefixGroup, oldPrefixGroup}
+use Rattle.netgroup.specs.Group.{prefix_group, old_prefix_group}
 
-abbrev pub isMap : Grouping → Bool
-isMap Prefixes = false
-isMap OldPrefixes = false
-isMap Map = true
+abbrev pub is_map : Grouping → Bool
+is_map Prefixes = false
+is_map OldPrefixes = false
+is_map Map = true
 
-abbrev pub isOld : Grouping → Bool
-isOld Prefixes = false
-isOld OldPrefixes = true
-isOld Map = false
+abbrev pub is_old : Grouping → Bool
+is_old Prefixes = false
+is_old OldPrefixes = true
+is_old Map = false
 
-abbrev pub byNumbers : Bool → List ℕ → ℕ
-byNumbers old c = cond old (oldPrefixGroup c) (prefixGroup c)
+abbrev pub by_numbers : Bool → List ℕ → ℕ
+by_numbers old c = cond old (old_prefix_group c) (prefix_group c)

@@ -1,9 +1,9 @@
--- `pick_refusal` is `pickRefusal` of a map taken as it is: the first refusal that there is.
+-- `pick_refusal` is `pick_refusal` of a map taken as it is: the first refusal that there is.
 -- Assumes nothing.
 use mathlib.Core.Path.{◌∙◌, sym}
 use Rattle.netgroup.specs.Group.{numbering}
-use Rattle.netgroup.specs.Refusal.{limitRefusal}
-use Rattle.netgroup_pick.proofs.PickRefusals.{first-list, then_map, then-room}
+use Rattle.netgroup.specs.Refusal.{limit_refusal}
+use Rattle.netgroup_pick.proofs.PickRefusals.{first_list, then_map, then_room}
 use borrow.Author.Rules.{rules}
 use Rattle.netgroup_pick.proofs.pick_refusal.Statement.{statement}
 use Rattle.netgroup_pick.proofs.pick_refusal.Tie as tie
@@ -17,8 +17,8 @@ enum-known-listed c = search rules
 returns : tie.Need-returns
 returns c =
     let a = c.before.before.before.before.before.before.before.before.before.args in
-    let m = limitRefusal (numbering a.grouping a.map.now) in
-    sym (first-list m a.candidates.now a.occupied.now a.max a.picks.now a.groups.now _ (sym c.before.before.before.list-refusal.ensures ∙ c.before.listed.given.1))
+    let m = limit_refusal (numbering a.grouping a.map.now) in
+    sym (first_list m a.candidates.now a.occupied.now a.max a.picks.now a.groups.now _ (sym c.before.before.before.list-refusal.ensures ∙ c.before.listed.given.1))
 
 enum_told : tie.Need-enum-told
 enum_told c = search rules
@@ -32,7 +32,7 @@ enum-known-limited c = search rules
 returns-2 : tie.Need-returns-2
 returns-2 c =
     let a = c.before.before.before.before.before.before.before.before.before.before.before.before.args in
-    let m = limitRefusal (numbering a.grouping a.map.now) in
+    let m = limit_refusal (numbering a.grouping a.map.now) in
     sym (then_map m a.candidates.now a.occupied.now a.max a.picks.now a.groups.now _
     (sym c.before.before.before.before.before.before.list-refusal.ensures ∙ c.before.before.before.before.enum_told.given.1) (sym c.before.before.before.limit-refusal.ensures ∙ c.before.limited.given.1))
 
@@ -45,9 +45,9 @@ room-refusal-requires c κs = search rules
 returns-3 : tie.Need-returns-3
 returns-3 c =
     let a = c.before.before.before.before.before.before.before.before.before.before.before.before.args in
-    let m = limitRefusal (numbering a.grouping a.map.now) in
+    let m = limit_refusal (numbering a.grouping a.map.now) in
     c.room-refusal.ensures
-    ∙ sym (then-room m a.candidates.now a.occupied.now a.max a.picks.now a.groups.now
+    ∙ sym (then_room m a.candidates.now a.occupied.now a.max a.picks.now a.groups.now
     (sym c.before.before.before.before.before.before.list-refusal.ensures ∙ c.before.before.before.before.enum_told.given.1) (sym c.before.before.before.limit-refusal.ensures ∙ c.before.enum-told2.given.1))
 
 pub pick-refusal-spec : {M : Type 1} → statement M

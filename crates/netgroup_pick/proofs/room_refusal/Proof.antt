@@ -1,4 +1,4 @@
--- `room_refusal` is `roomRefusal`.
+-- `room_refusal` is `room_refusal`.
 -- Assumes nothing.
 use borrow.Author.Rules.{rules}
 use borrow.Author.Tests.{lt-ltb, le-ltb}

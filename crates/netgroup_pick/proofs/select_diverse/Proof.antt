@@ -2,9 +2,9 @@
 -- Assumes nothing.
 use mathlib.Core.Path.{◌∙◌, sym}
 use Rattle.netgroup.specs.Group.{numbering}
-use Rattle.netgroup.specs.Refusal.{checkRefusal}
-use Rattle.netgroup_pick.proofs.PickRefusals.{first-list, then_map}
-use Rattle.netgroup_pick.proofs.Picks.{refused, checked-is-unchecked}
+use Rattle.netgroup.specs.Refusal.{check_refusal}
+use Rattle.netgroup_pick.proofs.PickRefusals.{first_list, then_map}
+use Rattle.netgroup_pick.proofs.Picks.{refused, checked_is_unchecked}
 use borrow.Author.Rules.{rules}
 use Rattle.netgroup_pick.proofs.select_diverse.Statement.{statement}
 use Rattle.netgroup_pick.proofs.select_diverse.Tie as tie
@@ -19,7 +19,7 @@ returns : tie.Need-returns
 returns c =
     let a = c.before.before.before.before.before.before.before.before.before.args in
     let n = numbering a.grouping a.map.now in
-    (refused (checkRefusal n) n a.candidates.now a.occupied.now a.max a.picks.now a.groups.now _ (first-list (checkRefusal n) a.candidates.now a.occupied.now a.max a.picks.now a.groups.now _ (sym c.before.before.before.list-refusal.ensures ∙ c.before.listed.given.1)), (tt, tt))
+    (refused (check_refusal n) n a.candidates.now a.occupied.now a.max a.picks.now a.groups.now _ (first_list (check_refusal n) a.candidates.now a.occupied.now a.max a.picks.now a.groups.now _ (sym c.before.before.before.list-refusal.ensures ∙ c.before.listed.given.1)), (tt, tt))
 
 enum_told : tie.Need-enum-told
 enum_told c = search rules
@@ -34,7 +34,7 @@ returns-2 : tie.Need-returns-2
 returns-2 c =
     let a = c.before.before.before.before.before.before.before.before.before.before.before.before.args in
     let n = numbering a.grouping a.map.now in (
-      refused (checkRefusal n) n a.candidates.now a.occupied.now a.max a.picks.now a.groups.now _ (then_map (checkRefusal n) a.candidates.now a.occupied.now a.max a.picks.now a.groups.now _ (sym c.before.before.before.before.before.before.list-refusal.ensures ∙ c.before.before.before.before.enum_told.given.1) (sym c.before.before.before.check-refusal.ensures ∙ c.before.checked.given.1)),
+      refused (check_refusal n) n a.candidates.now a.occupied.now a.max a.picks.now a.groups.now _ (then_map (check_refusal n) a.candidates.now a.occupied.now a.max a.picks.now a.groups.now _ (sym c.before.before.before.before.before.before.list-refusal.ensures ∙ c.before.before.before.before.enum_told.given.1) (sym c.before.before.before.check-refusal.ensures ∙ c.before.checked.given.1)),
       (tt, tt),
     )
 
@@ -56,7 +56,7 @@ returns-3 c =
     let n = numbering a.grouping a.map.now in
     let u = c.before.before.before.before.select-diverse-unchecked in
     let passed = sym c.before.before.before.before.before.before.before.before.before.check-refusal.ensures ∙ c.before.before.before.before.before.before.before.enum-told2.given.1 in
-    (u.ensures.0 ∙ checked-is-unchecked n a.candidates.now a.occupied.now a.max a.picks.now a.groups.now (sym c.before.before.before.before.before.before.before.before.before.before.before.before.list-refusal.ensures ∙ c.before.before.before.before.before.before.before.before.before.before.enum_told.given.1) passed, (u.ensures.1.0, u.ensures.1.1 passed))
+    (u.ensures.0 ∙ checked_is_unchecked n a.candidates.now a.occupied.now a.max a.picks.now a.groups.now (sym c.before.before.before.before.before.before.before.before.before.before.before.before.list-refusal.ensures ∙ c.before.before.before.before.before.before.before.before.before.before.enum_told.given.1) passed, (u.ensures.1.0, u.ensures.1.1 passed))
 
 pub select-diverse-spec : {M : Type 1} → statement M
 select-diverse-spec =

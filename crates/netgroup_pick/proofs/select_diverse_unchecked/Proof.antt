@@ -6,10 +6,10 @@ use native.Mathlib.Omega.{arith}
 use lib.ListN.{get_or}
 use Rattle.netgroup.proofs.Walked.{ended}
 use Rattle.netgroup.specs.Group.{numbering}
-use Rattle.netgroup.specs.Refusal.{limitRefusal}
-use Rattle.peer_lists.specs.Candidates.{candidatesOf}
-use Rattle.netgroup_pick.proofs.PickRefusals.{none-ready}
-use Rattle.netgroup_pick.proofs.Picks.{refused, first-are-places, first_fits, picked-whole, picked-demand}
+use Rattle.netgroup.specs.Refusal.{limit_refusal}
+use Rattle.peer_lists.specs.Candidates.{candidates_of}
+use Rattle.netgroup_pick.proofs.PickRefusals.{none_ready}
+use Rattle.netgroup_pick.proofs.Picks.{refused, first_are_places, first_fits, picked-whole, picked_demand}
 use borrow.Author.Rules.{rules}
 use Rattle.netgroup_pick.proofs.select_diverse_unchecked.Statement.{statement}
 use Rattle.netgroup_pick.proofs.select_diverse_unchecked.Tie as tie
@@ -30,7 +30,7 @@ returns : tie.Need-returns
 returns c =
     let a = c.before.before.before.before.before.before.before.before.before.before.before.args in
     let n = numbering a.grouping a.map.now in
-    (refused (limitRefusal n) n a.candidates.now a.occupied.now a.max a.picks.now a.groups.now _ (sym c.before.before.before.pick-refusal.ensures ∙ c.before.why.given.1), (tt, λ h. tt))
+    (refused (limit_refusal n) n a.candidates.now a.occupied.now a.max a.picks.now a.groups.now _ (sym c.before.before.before.pick-refusal.ensures ∙ c.before.why.given.1), (tt, λ h. tt))
 
 enum_told : tie.Need-enum-told
 enum_told c = search rules
@@ -39,18 +39,18 @@ marked-pass-requires : tie.Need-marked-pass-requires
 marked-pass-requires c κs =
     let a = c.before.before.before.before.before.before.before.before.before.before.before.before.args in
     let n = numbering a.grouping a.map.now in
-    none-ready n a.candidates.now a.occupied.now a.max a.picks.now a.groups.now (sym c.before.before.before.before.pick-refusal.ensures ∙ c.before.before.enum_told.given.1)
+    none_ready n a.candidates.now a.occupied.now a.max a.picks.now a.groups.now (sym c.before.before.before.before.pick-refusal.ensures ∙ c.before.before.enum_told.given.1)
 
 fill-rest-requires : tie.Need-fill-rest-requires
 fill-rest-requires c κs =
     let a = c.before.before.before.before.before.before.before.before.before.before.before.before.before.before.before.before.before.before.args in
     let n = numbering a.grouping a.map.now in
-    let ready = none-ready n a.candidates.now a.occupied.now a.max a.picks.now a.groups.now (sym c.before.before.before.before.before.before.before.before.before.before.pick-refusal.ensures ∙ c.before.before.before.before.before.before.before.before.enum_told.given.1) in
+    let ready = none_ready n a.candidates.now a.occupied.now a.max a.picks.now a.groups.now (sym c.before.before.before.before.before.before.before.before.before.before.pick-refusal.ensures ∙ c.before.before.before.before.before.before.before.before.enum_told.given.1) in
     let f = c.before.before.before.before.before.marked-pass in (
       ready.few,
-      omega (arith, ready.room-picks, f.auto.1.1.1.1.1.0),
+      omega (arith, ready.room_picks, f.auto.1.1.1.1.1.0),
       first_fits n a.candidates.now a.occupied.now a.max a.picks.now a.groups.now f.result _ _ f.ensures,
-      first-are-places n a.candidates.now a.occupied.now a.max a.picks.now a.groups.now f.result _ _ f.ensures,
+      first_are_places n a.candidates.now a.occupied.now a.max a.picks.now a.groups.now f.result _ _ f.ensures,
     )
 
 same-length-3 : tie.Need-same-length-3
@@ -65,8 +65,8 @@ returns-2 c =
     let n = numbering a.grouping a.map.now in
     let f = c.before.before.before.before.before.before.before.before.marked-pass in
     let r = c.before.before.fill-rest in (
-      picked-whole n a.candidates.now a.occupied.now a.max a.picks.now a.groups.now f.result _ _ f.ensures r.result _ r.ensures (limitRefusal n) (sym c.before.before.before.before.before.before.before.before.before.before.before.before.before.pick-refusal.ensures ∙ c.before.before.before.before.before.before.before.before.before.before.before.enum_told.given.1),
-      (picked-demand n a.candidates.now a.occupied.now a.max a.picks.now a.groups.now f.result _ _ f.ensures r.result _ r.ensures, λ h i k. ended n (get_or (candidatesOf a.candidates.now) i []) h),
+      picked-whole n a.candidates.now a.occupied.now a.max a.picks.now a.groups.now f.result _ _ f.ensures r.result _ r.ensures (limit_refusal n) (sym c.before.before.before.before.before.before.before.before.before.before.before.before.before.pick-refusal.ensures ∙ c.before.before.before.before.before.before.before.before.before.before.before.enum_told.given.1),
+      (picked_demand n a.candidates.now a.occupied.now a.max a.picks.now a.groups.now f.result _ _ f.ensures r.result _ r.ensures, λ h i k. ended n (get_or (candidates_of a.candidates.now) i []) h),
     )
 
 pub select-diverse-unchecked-spec : {M : Type 1} → statement M

@@ -7,9 +7,9 @@ use native.Mathlib.Omega.{arith}
 use lib.ListN.{length, drop}
 use lib.Seq.{sets}
 use Rattle.group_shares.specs.models.Runs.{runs}
-use Rattle.group_shares.proofs.RunLaws.{run-goes}
+use Rattle.group_shares.proofs.RunLaws.{run_goes}
 use Rattle.page_lines.specs.Line.{lines}
-use Rattle.page_lines.proofs.LineLaws.{lines_next, lines-room, lines-done}
+use Rattle.page_lines.proofs.LineLaws.{lines_next, lines_room, lines-done}
 use Rattle.page_lines.proofs.put_lines.Statement.{statement}
 use Rattle.page_lines.proofs.put_lines.Tie as tie
 
@@ -45,8 +45,8 @@ put-line-requires c κs =
     let gs = c.before.before.before.before.before.before.before.args.groups.now in
     let l = c.before.before.before.before.loop in
     let e = c.before.before.run-end.ensures in
-    let w = run-goes gs l.i (omega arith) in
-    (omega (arith, l.invariant.2, lines-room gs l.i (omega arith)), omega (arith, e), omega arith, c.before.before.before.before.before.before.before.requires.0)
+    let w = run_goes gs l.i (omega arith) in
+    (omega (arith, l.invariant.2, lines_room gs l.i (omega arith)), omega (arith, e), omega arith, c.before.before.before.before.before.before.before.requires.0)
 
 add_at : tie.Need-overflow-add-at invariant-loop decreases-loop
 add_at c = search rules
@@ -55,15 +55,15 @@ loop-less : tie.Need-loop-smaller invariant-loop decreases-loop
 loop-less c =
     let gs = c.before.before.before.before.before.before.before.before.before.before.args.groups.now in
     let l = c.before.before.before.before.before.before.before.loop in
-    omega (arith, c.before.before.before.before.before.run-end.ensures, run-goes gs l.i (omega arith))
+    omega (arith, c.before.before.before.before.before.run-end.ensures, run_goes gs l.i (omega arith))
 
 loop-again : tie.Need-loop-preserved invariant-loop decreases-loop
 loop-again c =
     let gs = c.before.before.before.before.before.before.before.before.before.before.args.groups.now in
     let l = c.before.before.before.before.before.before.before.loop in
     let e = c.before.before.before.before.before.run-end.ensures in
-    let w = run-goes gs l.i (omega arith) in
-    (omega (arith, e), omega arith, rw e (omega (arith, l.invariant.2, lines-room gs l.i (omega arith))), lines_next (length gs) gs l.out _ l.i l.at c.before.before.before.before.before.run-end.result (omega arith) e _ (omega (arith, e)) c.before.before.put-line.ensures ∙ l.invariant.3)
+    let w = run_goes gs l.i (omega arith) in
+    (omega (arith, e), omega arith, rw e (omega (arith, l.invariant.2, lines_room gs l.i (omega arith))), lines_next (length gs) gs l.out _ l.i l.at c.before.before.before.before.before.run-end.result (omega arith) e _ (omega (arith, e)) c.before.before.put-line.ensures ∙ l.invariant.3)
 
 same_length : tie.Need-same-length invariant-loop decreases-loop
 same_length c = search rules

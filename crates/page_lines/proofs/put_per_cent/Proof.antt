@@ -1,10 +1,10 @@
--- `put_per_cent`: the whole, the point, the tenth (per-cent-put).
+-- `put_per_cent`: the whole, the point, the tenth (per_cent-put).
 -- Assumes nothing.
 use borrow.Author.Rules.{rules}
 use Prim.Native.Nat.{◌+◌}
 use native.Mathlib.Omega.{arith}
 use lib.ListN.{length-set}
-use Rattle.page_lines.proofs.LineLaws.{per-cent-put}
+use Rattle.page_lines.proofs.LineLaws.{per_cent-put}
 use Rattle.page_lines.proofs.put_per_cent.Statement.{statement}
 use Rattle.page_lines.proofs.put_per_cent.Tie as tie
 
@@ -32,7 +32,7 @@ same_length c = search rules
 returns : tie.Need-returns
 returns c =
     let a = c.before.before.before.before.before.before.args in
-    per-cent-put a.out.now _ a.at a.n _ c.before.before.before.put-columns.ensures c.last-digit.ensures
+    per_cent-put a.out.now _ a.at a.n _ c.before.before.before.put-columns.ensures c.last-digit.ensures
 
 pub put-per-cent-spec : {M : Type 1} → statement M
 put-per-cent-spec =

@@ -4,7 +4,7 @@ use borrow.Author.Rules.{rules}
 use mathlib.Core.Path.{◌≡◌, sym}
 use Prim.Native.Nat.{◌+◌, ◌-◌, ◌*◌}
 use native.Mathlib.Omega.{arith}
-use Rattle.peer_lists.proofs.Lists.{candidate-at}
+use Rattle.peer_lists.proofs.Lists.{candidate_at_lem}
 use lib.ListN.{length-drop, length-take}
 use Rattle.peer_lists.proofs.candidate_at.Statement.{statement}
 use Rattle.peer_lists.proofs.candidate_at.Tie as tie
@@ -31,7 +31,7 @@ returns : tie.Need-returns
 returns c =
     let a = c.before.args in
     let e : 20 * a.i + 20 - 20 * a.i ≡ 20 = omega arith in
-    rw e (sym (candidate-at a.candidates.now a.i (omega arith)), simp (length-take, length-drop) (omega arith))
+    rw e (sym (candidate_at_lem a.candidates.now a.i (omega arith)), simp (length-take, length-drop) (omega arith))
 
 pub candidate-at-spec : {M : Type 1} → statement M
 candidate-at-spec =

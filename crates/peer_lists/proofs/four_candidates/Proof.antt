@@ -1,4 +1,4 @@
--- `four_candidates` is `allValid` of four, one after the other.
+-- `four_candidates` is `all_valid` of four, one after the other.
 -- Assumes nothing.
 use borrow.Author.Tests.{not-true, not-false}
 use mathlib.Core.Path.{◌≡◌, ◌∙◌, sym, ap}
@@ -8,8 +8,8 @@ use Prim.Native.Nat.{◌+◌}
 use native.Mathlib.Omega.{arith}
 use lib.ListN.{get_or}
 use Rattle.candidate_bytes.specs.Candidate.{valid}
-use Rattle.peer_lists.specs.Candidates.{candidatesOf}
-use Rattle.peer_lists.proofs.Lists.{four, length-candidates}
+use Rattle.peer_lists.specs.Candidates.{candidates_of}
+use Rattle.peer_lists.proofs.Lists.{four, length_candidates}
 use borrow.Author.Rules.{rules}
 use Rattle.peer_lists.proofs.four_candidates.Statement.{statement}
 use Rattle.peer_lists.proofs.four_candidates.Tie as tie
@@ -23,9 +23,9 @@ is-candidate-requires c κs = search rules
 returns : tie.Need-returns
 returns c =
     let a = c.before.before.before.before.args in
-    let all = candidatesOf a.candidates.now in
-    let f = four all a.i (omega (arith, c.before.before.before.before.requires, length-candidates a.candidates.now)) in
-    let v1 : valid (get_or all a.i []) ≡ false = ap valid (sym c.before.before.candidate-at.ensures.0) ∙ sym c.before.is-candidate.ensures ∙ not-true _ c.if1.true in
+    let all = candidates_of a.candidates.now in
+    let f = four all a.i (omega (arith, c.before.before.before.before.requires, length_candidates a.candidates.now)) in
+    let v1 : valid (get_or all a.i []) ≡ false = ap valid (sym c.before.before.candidate_at_lem.ensures.0) ∙ sym c.before.is-candidate.ensures ∙ not-true _ c.if1.true in
     sym (f ∙ rw v1)
 
 add-candidate-at : tie.Need-overflow-add-candidate-at
@@ -40,9 +40,9 @@ is-candidate-requires-2 c κs = search rules
 returns-2 : tie.Need-returns-2
 returns-2 c =
     let a = c.before.before.before.before.before.before.before.args in
-    let all = candidatesOf a.candidates.now in
-    let f = four all a.i (omega (arith, c.before.before.before.before.before.before.before.requires, length-candidates a.candidates.now)) in
-    let v1 : valid (get_or all a.i []) ≡ true = ap valid (sym c.before.before.before.before.before.candidate-at.ensures.0) ∙ sym c.before.before.before.before.is-candidate.ensures ∙ not-false _ c.before.before.before.if1.false in
+    let all = candidates_of a.candidates.now in
+    let f = four all a.i (omega (arith, c.before.before.before.before.before.before.before.requires, length_candidates a.candidates.now)) in
+    let v1 : valid (get_or all a.i []) ≡ true = ap valid (sym c.before.before.before.before.before.candidate_at_lem.ensures.0) ∙ sym c.before.before.before.before.is-candidate.ensures ∙ not-false _ c.before.before.before.if1.false in
     let v2 : valid (get_or all (a.i + 1) []) ≡ false = ap valid (sym c.before.before.candidate-at2.ensures.0) ∙ sym c.before.is-candidate2.ensures ∙ not-true _ c.if2.true in
     sym (f ∙ rw (v1, v2))
 
@@ -58,9 +58,9 @@ is-candidate-requires-3 c κs = search rules
 returns-3 : tie.Need-returns-3
 returns-3 c =
     let a = c.before.before.before.before.before.before.before.before.before.before.args in
-    let all = candidatesOf a.candidates.now in
-    let f = four all a.i (omega (arith, c.before.before.before.before.before.before.before.before.before.before.requires, length-candidates a.candidates.now)) in
-    let v1 : valid (get_or all a.i []) ≡ true = ap valid (sym c.before.before.before.before.before.before.before.before.candidate-at.ensures.0) ∙ sym c.before.before.before.before.before.before.before.is-candidate.ensures ∙ not-false _ c.before.before.before.before.before.before.if1.false in
+    let all = candidates_of a.candidates.now in
+    let f = four all a.i (omega (arith, c.before.before.before.before.before.before.before.before.before.before.requires, length_candidates a.candidates.now)) in
+    let v1 : valid (get_or all a.i []) ≡ true = ap valid (sym c.before.before.before.before.before.before.before.before.candidate_at_lem.ensures.0) ∙ sym c.before.before.before.before.before.before.before.is-candidate.ensures ∙ not-false _ c.before.before.before.before.before.before.if1.false in
     let v2 : valid (get_or all (a.i + 1) []) ≡ true = ap valid (sym c.before.before.before.before.before.candidate-at2.ensures.0) ∙ sym c.before.before.before.before.is-candidate2.ensures ∙ not-false _ c.before.before.before.if2.false in
     let v3 : valid (get_or all (a.i + 2) []) ≡ false = ap valid (sym c.before.before.candidate-at3.ensures.0) ∙ sym c.before.is-candidate3.ensures ∙ not-true _ c.if3.true in
     sym (f ∙ rw (v1, v2, v3))
@@ -77,9 +77,9 @@ is-candidate-requires-4 c κs = search rules
 returns-4 : tie.Need-returns-4
 returns-4 c =
     let a = c.before.before.before.before.before.before.before.before.before.before.before.before.args in
-    let all = candidatesOf a.candidates.now in
-    let f = four all a.i (omega (arith, c.before.before.before.before.before.before.before.before.before.before.before.before.requires, length-candidates a.candidates.now)) in
-    let v1 : valid (get_or all a.i []) ≡ true = ap valid (sym c.before.before.before.before.before.before.before.before.before.before.candidate-at.ensures.0) ∙ sym c.before.before.before.before.before.before.before.before.before.is-candidate.ensures ∙ not-false _ c.before.before.before.before.before.before.before.before.if1.false in
+    let all = candidates_of a.candidates.now in
+    let f = four all a.i (omega (arith, c.before.before.before.before.before.before.before.before.before.before.before.before.requires, length_candidates a.candidates.now)) in
+    let v1 : valid (get_or all a.i []) ≡ true = ap valid (sym c.before.before.before.before.before.before.before.before.before.before.candidate_at_lem.ensures.0) ∙ sym c.before.before.before.before.before.before.before.before.before.is-candidate.ensures ∙ not-false _ c.before.before.before.before.before.before.before.before.if1.false in
     let v2 : valid (get_or all (a.i + 1) []) ≡ true = ap valid (sym c.before.before.before.before.before.before.before.candidate-at2.ensures.0) ∙ sym c.before.before.before.before.before.before.is-candidate2.ensures ∙ not-false _ c.before.before.before.before.before.if2.false in
     let v3 : valid (get_or all (a.i + 2) []) ≡ true = ap valid (sym c.before.before.before.before.candidate-at3.ensures.0) ∙ sym c.before.before.before.is-candidate3.ensures ∙ not-false _ c.before.before.if3.false in
     sym (f ∙ rw (v1, v2, v3) (ap valid (sym c.before.candidate-at4.ensures.0) ∙ sym c.is-candidate4.ensures))

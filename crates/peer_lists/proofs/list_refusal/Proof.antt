@@ -1,4 +1,4 @@
--- `list_refusal` is `listRefusal`, by the tests that led to each return.
+-- `list_refusal` is `list_refusal`, by the tests that led to each return.
 -- Assumes nothing.
 use mathlib.Core.Path.{◌∙◌, sym}
 use native.Mathlib.Omega.{arith}

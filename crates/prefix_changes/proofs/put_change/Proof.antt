@@ -5,8 +5,8 @@ use mathlib.Core.List.{List}
 use Prim.Native.Nat.{ℕ, ◌+◌}
 use lib.Seq.{sets}
 use Rattle.byte_numbers.specs.Numbers.{bytes4}
-use Rattle.byte_numbers.proofs.Buffers.{sets-append-at}
-use Rattle.prefix_records.specs.models.Cursor.{recordAt}
+use Rattle.byte_numbers.proofs.Buffers.{sets-append_at}
+use Rattle.prefix_records.specs.models.Cursor.{record_at}
 use borrow.Author.Rules.{rules}
 use Rattle.prefix_changes.proofs.put_change.Statement.{statement}
 use Rattle.prefix_changes.proofs.put_change.Tie as tie
@@ -28,7 +28,7 @@ returns c =
     let k = c.before.before.before.before.before.before.before.before.before.args in
     c.before.before.put-number.ensures
     ∙ ap (λ (o : List ℕ). sets o (k.at + 24) (bytes4 k.new)) c.before.before.before.before.before.before.put_record.ensures
-    ∙ sym (sets-append-at k.out.now k.at (k.at + 24) (recordAt k.a k.len k.old) (bytes4 k.new) refl)
+    ∙ sym (sets-append_at k.out.now k.at (k.at + 24) (record_at k.a k.len k.old) (bytes4 k.new) refl)
 
 pub put-change-spec : {M : Type 1} → statement M
 put-change-spec =

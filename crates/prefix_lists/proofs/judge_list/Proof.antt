@@ -7,8 +7,8 @@ use native.Mathlib.Omega.{arith}
 use borrow.Author.Tests.{not-true, not-false}
 use Rattle.prefix_lists.specs.List.{count_of, earliest, is_number, judge}
 use Rattle.prefix_lists.specs.models.End.{Ends}
-use Rattle.prefix_lists.proofs.FitLaws.{ends-start, ends_next, fitting}
-use Rattle.prefix_lists.proofs.JudgeLaws.{left, number_read, judge-uneven, judge-even, judge-unfit, judge-number, judge-next, judge-closing, closing-no, closing-yes}
+use Rattle.prefix_lists.proofs.FitLaws.{ends_start, ends_next, fitting}
+use Rattle.prefix_lists.proofs.JudgeLaws.{left, number_read, judge_uneven, judge_even, judge_unfit, judge-number, judge-next, judge_closing, closing_no, closing_yes}
 use Rattle.prefix_lists.proofs.judge_list.Statement.{statement}
 use Rattle.prefix_lists.proofs.judge_list.Tie as tie
 
@@ -20,10 +20,10 @@ abbrev decreases-loop : tie.decreases-loop
 decreases-loop records given width count i₀ end₀ i end = count - i
 
 returns : tie.Need-returns invariant-loop decreases-loop
-returns c = let a = c.before.before.args in judge-uneven a.width a.records.now a.given c.if1.true
+returns c = let a = c.before.before.args in judge_uneven a.width a.records.now a.given c.if1.true
 
 loop-holds : tie.Need-loop-init invariant-loop decreases-loop
-loop-holds c = let a = c.before.before.args in (omega arith, judge-even a.width a.records.now a.given c.if1.false, ends-start a.records.now)
+loop-holds c = let a = c.before.before.args in (omega arith, judge_even a.width a.records.now a.given c.if1.false, ends_start a.records.now)
 
 fits-at-requires : tie.Need-fits-at-requires invariant-loop decreases-loop
 fits-at-requires c κs = (omega (arith, c.loop-test.true, c.before.before.if1.false), c.before.before.before.before.requires, c.before.loop.invariant.2)
@@ -32,7 +32,7 @@ returns-2 : tie.Need-returns-2 invariant-loop decreases-loop
 returns-2 c =
     let a = c.before.before.before.before.before.before.args in
     let k = c.before.before.before.loop in
-    sym (k.invariant.1 ∙ judge-unfit a.width a.records.now a.given (count_of a.records.now) k.i c.before.before.loop-test.true (sym c.before.fits-at.ensures ∙ not-true _ c.if2.true))
+    sym (k.invariant.1 ∙ judge_unfit a.width a.records.now a.given (count_of a.records.now) k.i c.before.before.loop-test.true (sym c.before.fits-at.ensures ∙ not-true _ c.if2.true))
 
 mul_at : tie.Need-overflow-mul-at invariant-loop decreases-loop
 mul_at c = record { fits = omega (arith, c.before.before.loop-test.true, c.before.before.before.before.if1.false, c.before.before.before.before.before.before.well-formed) }
@@ -50,7 +50,7 @@ returns-3 : tie.Need-returns-3 invariant-loop decreases-loop
 returns-3 c =
     let a = c.before.before.before.before.before.before.before.before.before.args in
     let k = c.before.before.before.before.before.before.loop in
-    let n = ap is_number (number_read a.records.now k.i ∙ sym c.before.before.number-at.ensures) ∙ sym c.before.is-number.ensures ∙ not-true _ c.if3.true in
+    let n = ap is_number (number_read a.records.now k.i ∙ sym c.before.before.number_at_lem.ensures) ∙ sym c.before.is-number.ensures ∙ not-true _ c.if3.true in
     sym (k.invariant.1 ∙ judge-number a.width a.records.now a.given (count_of a.records.now) k.i c.before.before.before.before.before.loop-test.true (sym c.before.before.before.before.fits-at.ensures ∙ not-false _ c.before.before.before.if2.false) n)
 
 address-at-requires : tie.Need-address-at-requires invariant-loop decreases-loop
@@ -80,10 +80,10 @@ loop-again c =
     let k = c.before.before.before.before.before.before.before.before.before.loop in
     let more = c.before.before.before.before.before.before.before.before.loop-test.true in
     let fit = sym c.before.before.before.before.before.before.before.fits-at.ensures ∙ not-false _ c.before.before.before.before.before.before.if2.false in
-    let n = ap is_number (number_read a.records.now k.i ∙ sym c.before.before.before.before.before.number-at.ensures) ∙ sym c.before.before.before.before.is-number.ensures ∙ not-false _ c.before.before.before.if3.false in (
+    let n = ap is_number (number_read a.records.now k.i ∙ sym c.before.before.before.before.before.number_at_lem.ensures) ∙ sym c.before.before.before.before.is-number.ensures ∙ not-false _ c.before.before.before.if3.false in (
       omega (arith, more),
       k.invariant.1 ∙ judge-next a.width a.records.now a.given (count_of a.records.now) k.i more fit n,
-      ends_next a.records.now k.i _ _ (λ j. omega (arith, c.before.before.before.before.before.before.before.before.before.before.before.shared-slice-known.given j)) (fitting a.width a.records.now k.i fit).clean c.before.before.address-at.ensures c.behind.ensures,
+      ends_next a.records.now k.i _ _ (λ j. omega (arith, c.before.before.before.before.before.before.before.before.before.before.before.shared-slice-known.given j)) (fitting a.width a.records.now k.i fit).clean c.before.before.address_at_lem.ensures c.behind.ensures,
     )
 
 is-number-requires-2 : tie.Need-is-number-requires-2 invariant-loop decreases-loop
@@ -93,13 +93,13 @@ returns-4 : tie.Need-returns-4 invariant-loop decreases-loop
 returns-4 c =
     let a = c.before.before.before.before.before.before.args in
     let k = c.before.before.before.loop in
-    sym (k.invariant.1 ∙ judge-closing a.width a.records.now a.given (count_of a.records.now) k.i c.before.before.loop-test.false ∙ closing-no a.given (sym c.before.is-number2.ensures ∙ not-true _ c.if4.true))
+    sym (k.invariant.1 ∙ judge_closing a.width a.records.now a.given (count_of a.records.now) k.i c.before.before.loop-test.false ∙ closing_no a.given (sym c.before.is-number2.ensures ∙ not-true _ c.if4.true))
 
 returns-5 : tie.Need-returns-5 invariant-loop decreases-loop
 returns-5 c =
     let a = c.before.before.before.before.before.before.args in
     let k = c.before.before.before.loop in
-    sym (k.invariant.1 ∙ judge-closing a.width a.records.now a.given (count_of a.records.now) k.i c.before.before.loop-test.false ∙ closing-yes a.given (sym c.before.is-number2.ensures ∙ not-false _ c.if4.false))
+    sym (k.invariant.1 ∙ judge_closing a.width a.records.now a.given (count_of a.records.now) k.i c.before.before.loop-test.false ∙ closing_yes a.given (sym c.before.is-number2.ensures ∙ not-false _ c.if4.false))
 
 pub judge-list-spec : {M : Type 1} → statement M
 judge-list-spec =

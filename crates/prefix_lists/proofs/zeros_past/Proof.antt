@@ -2,7 +2,7 @@
 -- Assumes nothing.
 use mathlib.Core.Path.{◌∙◌}
 use native.Mathlib.Omega.{arith}
-use Rattle.prefix_lists.proofs.HalfLaws.{past-low, past-high, past_ones}
+use Rattle.prefix_lists.proofs.HalfLaws.{past-low, past_high, past_ones}
 use borrow.Author.Rules.{rules}
 use Rattle.prefix_lists.proofs.zeros_past.Statement.{statement}
 use Rattle.prefix_lists.proofs.zeros_past.Tie as tie
@@ -20,7 +20,7 @@ zeros-below-requires-2 : tie.Need-zeros-below-requires-2
 zeros-below-requires-2 c κs = search rules
 
 returns-2 : tie.Need-returns-2
-returns-2 c = c.zeros-below2.ensures ∙ past-high c.before.before.before.before.args.a c.before.before.before.before.args.length (omega (arith, c.before.before.struct_known.given)) c.before.before.before.if1.false c.before.if2.true
+returns-2 c = c.zeros-below2.ensures ∙ past_high c.before.before.before.before.args.a c.before.before.before.before.args.length (omega (arith, c.before.before.struct_known.given)) c.before.before.before.if1.false c.before.if2.true
 
 returns-3 : tie.Need-returns-3
 returns-3 c = past_ones c.before.before.before.args.a c.before.before.before.args.length (omega (arith, c.before.struct_known.given)) c.before.before.if1.false c.if2.false

@@ -8,5 +8,5 @@ abbrev pub Ends : ℕ → Address → Type 0
 Ends e a = (value_of a ≡ e % 2 ^ 128) × (e ≤ 2 ^ 128)
 
 -- Whether record i may begin at the address x where e is held as its earliest: the first one may begin anywhere, none behind all addresses.
-abbrev pub mayBegin : ℕ → ℕ → ℕ → Bool
-mayBegin i e x = eqb i 0 || (not (eqb e 0) && leb e x)
+abbrev pub may_begin : ℕ → ℕ → ℕ → Bool
+may_begin i e x = eqb i 0 || (not (eqb e 0) && leb e x)

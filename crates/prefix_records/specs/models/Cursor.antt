@@ -15,5 +15,5 @@ Behind a l r =
     × (value_of a + 2 ^ (128 - l) ≡ 2 ^ 128 → value_of r ≡ 0)
 
 -- the record of a piece that begins at an address
-abbrev pub recordAt : Address → ℕ → ℕ → List ℕ
-recordAt a l n = (big8 a.high ++ big8 a.low) ++ (l ∷ 0 ∷ 0 ∷ 0 ∷ []) ++ bytes4 n
+abbrev pub record_at : Address → ℕ → ℕ → List ℕ
+record_at a l n = (big8 a.high ++ big8 a.low) ++ (l ∷ 0 ∷ 0 ∷ 0 ∷ []) ++ bytes4 n

@@ -9,14 +9,14 @@ use Rattle.prefix_records.specs.models.Cursor.{value_of}
 use Rattle.prefix_runs.specs.models.Runs.{Cut}
 use Rattle.prefix_runs.specs.models.Pieces.{top, Joined}
 use Rattle.prefix_runs.proofs.EndLaws.{address_below}
-use Rattle.prefix_runs.proofs.PieceLaws.{piece-length, first-gap, record-piece, gap-piece}
+use Rattle.prefix_runs.proofs.PieceLaws.{piece-length, first_gap, record-piece, gap-piece}
 use Rattle.prefix_runs.proofs.piece_below.Statement.{statement}
 use Rattle.prefix_runs.proofs.piece_below.Tie as tie
 
 returns : tie.Need-returns
 returns c =
     let k = c.before.before in
-    first-gap k.args.records.now k.args.given (value_of k.args.end) (subst (Cut _ _) c.if1.true k.requires.1)
+    first_gap k.args.records.now k.args.given (value_of k.args.end) (subst (Cut _ _) c.if1.true k.requires.1)
 
 sub-last : tie.Need-overflow-sub-last
 sub-last c = search rules
@@ -54,9 +54,9 @@ returns-2 c =
     let j = k.args.under - 1 in
     let s : k.args.under ≡ suc j = omega (arith, c.before.before.before.before.before.before.if1.false) in
     let cut = subst (Cut k.args.records.now (top (value_of k.args.end))) s k.requires.1 in
-    record-piece k.args.records.now k.args.given (value_of k.args.end) k.requires.0 j cut _ _ c.before.before.before.before.before.address-at.ensures c.before.before.before.behind.ensures _
+    record-piece k.args.records.now k.args.given (value_of k.args.end) k.requires.0 j cut _ _ c.before.before.before.before.before.address_at_lem.ensures c.before.before.before.behind.ensures _
     (eqb-true _ _ (sym c.before.before.same.ensures ∙ c.before.if2.true))
-    c.number-at.ensures
+    c.number_at_lem.ensures
 
 returns-3 : tie.Need-returns-3
 returns-3 c =
@@ -67,7 +67,7 @@ returns-3 c =
     let cut = subst (Cut k.args.records.now (top u)) s k.requires.1 in
     let past = c.before.before.behind.result in
     subst (λ (n : ℕ). Joined k.args.records.now k.args.given (top u) (record { first = past; number = k.args.given; under = n })) (sym s)
-    (gap-piece k.args.records.now k.args.given u k.requires.0 j cut _ past c.before.before.before.before.address-at.ensures c.before.before.behind.ensures
+    (gap-piece k.args.records.now k.args.given u k.requires.0 j cut _ past c.before.before.before.before.address_at_lem.ensures c.before.before.behind.ensures
     (address_below k.args.end (omega (arith, k.ranges)) (omega (arith, k.ranges)))
     (eqb-false _ _ (sym c.before.same.ensures ∙ c.if2.false)))
 

@@ -1,4 +1,4 @@
--- `compared` is `comparedTo`, by the equality of bytes.
+-- `compared` is `compared_to`, by the equality of bytes.
 -- Assumes nothing.
 use borrow.Author.Rules.{rules}
 use borrow.Author.Tests.{lt-ltb, le-ltb}
@@ -7,7 +7,7 @@ use mathlib.Core.Path.{◌≡◌, refl, ◌∙◌, ap}
 use Prim.Native.Nat.{ℕ, ◌-◌}
 use lib.ListN.{take}
 use Rattle.candidate_bytes.specs.Candidate.{same}
-use Rattle.replay_outcomes.specs.Answers.{seenAs}
+use Rattle.replay_outcomes.specs.Answers.{seen_as}
 use Rattle.replay_outcomes.proofs.compared.Statement.{statement}
 use Rattle.replay_outcomes.proofs.compared.Tie as tie
 
@@ -37,7 +37,7 @@ returns-2 c =
     let a = c.before.before.before.before.before.before.before.before.args in
     let n : c.before.before.before.before.before.before.taken.result - 0 ≡ a.out.n = omega (arith, c.before.before.before.before.before.before.taken.ensures.0) in
     rw (le-ltb 40 a.out.n (omega arith))
-    (c.seen_as.ensures ∙ ap seenAs (c.before.same_bytes.ensures ∙ ap (λ (k : ℕ). same (take k a.out.bytes) a.answer.now) n))
+    (c.seen_as.ensures ∙ ap seen_as (c.before.same_bytes.ensures ∙ ap (λ (k : ℕ). same (take k a.out.bytes) a.answer.now) n))
 
 pub compared-spec : {M : Type 1} → statement M
 compared-spec =

@@ -8,9 +8,9 @@ use native.Mathlib.Omega.{arith}
 use lib.ListN.{length, take, get_or, length-set}
 use lib.Seq.{take_all}
 use Rattle.netgroup.specs.declared.Grouped.{Grouped}
-use Rattle.netgroup.specs.Group.{numbering, groupedOf}
-use Rattle.peer_lists.specs.Candidates.{candidatesOf}
-use Rattle.peer_lists.proofs.Lists.{length-candidates}
+use Rattle.netgroup.specs.Group.{numbering, grouped_of}
+use Rattle.peer_lists.specs.Candidates.{candidates_of}
+use Rattle.peer_lists.proofs.Lists.{length_candidates}
 use Rattle.pick_passes.specs.Ranked.{groups_of}
 use Rattle.pick_passes.proofs.Lists.{length-groups, group_at}
 use Rattle.spread_page.proofs.PageLaws.{found-next}
@@ -18,7 +18,7 @@ use Rattle.spread_page.proofs.find_groups.Statement.{statement}
 use Rattle.spread_page.proofs.find_groups.Tie as tie
 
 abbrev invariant-loop : tie.invariant-loop
-invariant-loop candidates grouping map groups₀ n i₀ groups i = (i ≤ n) × (n ≡ length candidates / 20) × (length groups ≡ length groups₀) × (take i groups ≡ take i (groups_of (numbering grouping map) (candidatesOf candidates)))
+invariant-loop candidates grouping map groups₀ n i₀ groups i = (i ≤ n) × (n ≡ length candidates / 20) × (length groups ≡ length groups₀) × (take i groups ≡ take i (groups_of (numbering grouping map) (candidates_of candidates)))
 
 abbrev decreases-loop : tie.decreases-loop
 decreases-loop candidates grouping map groups₀ n i₀ groups i = n - i
@@ -49,10 +49,10 @@ loop-again c =
     let l = c.before.before.before.loop in
     let a = c.before.before.before.before.before.before.before.args in
     let n = numbering a.grouping a.map.now in
-    let all = candidatesOf a.candidates.now in
-    let q = length-candidates a.candidates.now in
+    let all = candidates_of a.candidates.now in
+    let q = length_candidates a.candidates.now in
     let i : l.i < length all = omega arith in
-    let found : c.Group-of.result ≡ groupedOf n (get_or all l.i []) = c.Group-of.ensures ∙ ap (groupedOf n) c.before.candidate-at.ensures.0 in
+    let found : c.Group-of.result ≡ grouped_of n (get_or all l.i []) = c.Group-of.ensures ∙ ap (grouped_of n) c.before.candidate_at_lem.ensures.0 in
     let same : c.Group-of.result.group ≡ get_or (groups_of n all) l.i 0 = ap (λ (x : Grouped). x.group) found ∙ sym (group_at n all l.i i) in
     (omega arith, refl, length-set l.groups l.i _ ∙ l.invariant.2, found-next (groups_of n all) l.groups l.i _ (omega (arith, length-groups n all)) (omega arith) l.invariant.3 same)
 
@@ -64,9 +64,9 @@ returns c =
     let l = c.before.loop in
     let a = c.before.before.before.before.before.args in
     let n = numbering a.grouping a.map.now in
-    let all = candidatesOf a.candidates.now in
+    let all = candidates_of a.candidates.now in
     let e : length a.candidates.now / 20 ≡ l.i = omega arith in
-    ap (λ (k : ℕ). take k l.groups) e ∙ l.invariant.3 ∙ take_all l.i (groups_of n all) (omega (arith, length-groups n all, length-candidates a.candidates.now))
+    ap (λ (k : ℕ). take k l.groups) e ∙ l.invariant.3 ∙ take_all l.i (groups_of n all) (omega (arith, length-groups n all, length_candidates a.candidates.now))
 
 pub find-groups-spec : {M : Type 1} → statement M
 find-groups-spec =

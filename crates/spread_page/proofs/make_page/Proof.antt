@@ -9,7 +9,7 @@ use lib.ListN.{length}
 use lib.Seq.{length-take-le}
 use Rattle.asmap_records.specs.Output.{Made}
 use Rattle.page_lines.specs.Line.{page_of}
-use Rattle.spread_page.proofs.PageLaws.{hands-same}
+use Rattle.spread_page.proofs.PageLaws.{hands_same}
 use Rattle.spread_page.proofs.make_page.Statement.{statement}
 use Rattle.spread_page.proofs.make_page.Tie as tie
 
@@ -43,7 +43,7 @@ same_length : tie.Need-same-length
 same_length c = search rules
 
 returns : tie.Need-returns
-returns c = hands-same (ap (λ (gs : List ℕ). Made (page_of gs)) c.before.before.before.before.before.before.before.before.before.find-groups.ensures) c.before.before.before.before.sort-page.ensures
+returns c = hands_same (ap (λ (gs : List ℕ). Made (page_of gs)) c.before.before.before.before.before.before.before.before.before.find-groups.ensures) c.before.before.before.before.sort-page.ensures
 
 pub make-page-spec : {M : Type 1} → statement M
 make-page-spec =

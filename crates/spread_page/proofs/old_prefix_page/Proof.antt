@@ -1,7 +1,7 @@
 -- `old_prefix_page` is the page over no map, in the old numbering.
 -- Assumes nothing.
 use borrow.Author.Rules.{rules}
-use Rattle.spread_page.specs.Page.{spreadUnchecked, oldPrefixPage}
+use Rattle.spread_page.specs.Page.{spread_unchecked, old_prefix_page}
 use Rattle.spread_page.proofs.old_prefix_page.Statement.{statement}
 use Rattle.spread_page.proofs.old_prefix_page.Tie as tie
 
@@ -18,7 +18,7 @@ same_length : tie.Need-same-length
 same_length c = search rules
 
 returns : tie.Need-returns
-unfolding spreadUnchecked oldPrefixPage
+unfolding spread_unchecked old_prefix_page
 returns c = let p = c.before.before.page-unchecked.ensures in (p.0, p.1.0)
 
 pub old-prefix-page-spec : {M : Type 1} → statement M

@@ -4,14 +4,14 @@ use borrow.Author.Rules.{rules}
 use mathlib.Core.Path.{◌∙◌, sym}
 use mathlib.Core.List.{[]}
 use native.Mathlib.Omega.{arith}
-use Rattle.peer_lists.proofs.Refusals.{none-listed}
+use Rattle.peer_lists.proofs.Refusals.{none_listed}
 use Rattle.netgroup.specs.Group.{numbering}
-use Rattle.netgroup.specs.Refusal.{checkRefusal}
-use Rattle.netgroup.proofs.Refusals.{check-limit}
-use Rattle.asmap_records.proofs.OutputLaws.{hands-no}
-use Rattle.spread_page.specs.Page.{spreadPage}
+use Rattle.netgroup.specs.Refusal.{check_refusal}
+use Rattle.netgroup.proofs.Refusals.{check_limit}
+use Rattle.asmap_records.proofs.OutputLaws.{hands_no}
+use Rattle.spread_page.specs.Page.{spread_page}
 use Rattle.spread_page.specs.Promise.{Told, Unaborted}
-use Rattle.spread_page.proofs.PageLaws.{list-refused, map-refused, page-made, hands-same, told-either, unaborted-either}
+use Rattle.spread_page.proofs.PageLaws.{list_refused, map_refused, page_made, hands_same, told_either, unaborted_either}
 use Rattle.spread_page.proofs.page.Statement.{statement}
 use Rattle.spread_page.proofs.page.Tie as tie
 
@@ -22,11 +22,11 @@ enum-known-listed : tie.Need-enum-known-listed
 enum-known-listed c = search rules
 
 returns : tie.Need-returns
-unfolding spreadPage Told Unaborted
+unfolding spread_page Told Unaborted
 returns c =
     let a = c.before.before.before.before.before.before.before.args in
     let n = numbering a.grouping a.map.now in
-    (hands-no (spreadPage n a.candidates.now) a.out.now _ (list-refused (checkRefusal n) n a.candidates.now _ (sym c.before.before.before.candidates-refusal.ensures ∙ c.before.listed.given.1)), (tt, tt))
+    (hands_no (spread_page n a.candidates.now) a.out.now _ (list_refused (check_refusal n) n a.candidates.now _ (sym c.before.before.before.candidates-refusal.ensures ∙ c.before.listed.given.1)), (tt, tt))
 
 enum_told : tie.Need-enum-told
 enum_told c = search rules
@@ -38,30 +38,30 @@ enum-known-checked : tie.Need-enum-known-checked
 enum-known-checked c = search rules
 
 returns-2 : tie.Need-returns-2
-unfolding spreadPage Told Unaborted
+unfolding spread_page Told Unaborted
 returns-2 c =
     let a = c.before.before.before.before.before.before.before.before.before.before.args in
     let n = numbering a.grouping a.map.now in
-    (hands-no (spreadPage n a.candidates.now) a.out.now _ (map-refused (checkRefusal n) n a.candidates.now _ (sym c.before.before.before.before.before.before.candidates-refusal.ensures ∙ c.before.before.before.before.enum_told.given.1) (sym c.before.before.before.check-refusal.ensures ∙ c.before.checked.given.1)), (tt, tt))
+    (hands_no (spread_page n a.candidates.now) a.out.now _ (map_refused (check_refusal n) n a.candidates.now _ (sym c.before.before.before.before.before.before.candidates-refusal.ensures ∙ c.before.before.before.before.enum_told.given.1) (sym c.before.before.before.check-refusal.ensures ∙ c.before.checked.given.1)), (tt, tt))
 
 enum-told-2 : tie.Need-enum-told-2
 enum-told-2 c = search rules
 
 make-page-requires : tie.Need-make-page-requires
-make-page-requires c κs = (none-listed c.before.before.before.before.before.before.before.before.before.before.args.candidates.now [] (sym c.before.before.before.before.before.before.candidates-refusal.ensures ∙ c.before.before.before.before.enum_told.given.1), check-limit (numbering c.before.before.before.before.before.before.before.before.before.before.args.grouping c.before.before.before.before.before.before.before.before.before.before.args.map.now) (sym c.before.before.before.check-refusal.ensures ∙ c.before.enum-told2.given.1))
+make-page-requires c κs = (none_listed c.before.before.before.before.before.before.before.before.before.before.args.candidates.now [] (sym c.before.before.before.before.before.before.candidates-refusal.ensures ∙ c.before.before.before.before.enum_told.given.1), check_limit (numbering c.before.before.before.before.before.before.before.before.before.before.args.grouping c.before.before.before.before.before.before.before.before.before.before.args.map.now) (sym c.before.before.before.check-refusal.ensures ∙ c.before.enum-told2.given.1))
 
 same_length : tie.Need-same-length
 same_length c = search rules
 
 returns-3 : tie.Need-returns-3
-unfolding spreadPage
+unfolding spread_page
 returns-3 c =
     let a = c.before.before.before.before.before.before.before.before.before.before.before.before.before.args in
     let n = numbering a.grouping a.map.now in
     let listed = sym c.before.before.before.before.before.before.before.before.before.candidates-refusal.ensures ∙ c.before.before.before.before.before.before.before.enum_told.given.1 in
     let checked = sym c.before.before.before.before.before.before.check-refusal.ensures ∙ c.before.before.before.before.enum-told2.given.1 in
     let p = c.before.before.make-page in
-    (hands-same (sym (page-made (checkRefusal n) n a.candidates.now listed checked)) p.ensures, (told-either n a.candidates.now p.result (none-listed a.candidates.now [] listed) (λ i. omega (arith, c.before.before.before.before.before.before.before.before.before.before.before.before.shared-slice-known.given i)), unaborted-either n a.candidates.now p.result checked))
+    (hands_same (sym (page_made (check_refusal n) n a.candidates.now listed checked)) p.ensures, (told_either n a.candidates.now p.result (none_listed a.candidates.now [] listed) (λ i. omega (arith, c.before.before.before.before.before.before.before.before.before.before.before.before.shared-slice-known.given i)), unaborted_either n a.candidates.now p.result checked))
 
 pub page-spec : {M : Type 1} → statement M
 page-spec =

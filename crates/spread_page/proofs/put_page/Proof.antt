@@ -5,7 +5,7 @@ use mathlib.Core.Path.{refl}
 use native.Mathlib.Omega.{arith}
 use lib.ListN.{length}
 use Rattle.asmap_records.specs.Output.{Made}
-use Rattle.asmap_records.proofs.OutputLaws.{hands-short, hands-made}
+use Rattle.asmap_records.proofs.OutputLaws.{hands_short, hands_made}
 use Rattle.group_shares.specs.models.Runs.{runs}
 use Rattle.page_lines.specs.Line.{lines}
 use Rattle.page_lines.proofs.LineLaws.{length-lines}
@@ -20,7 +20,7 @@ returns c =
     let a = c.before.before.before.before.args in
     let gs = a.groups.now in
     let bs = lines (length gs) (runs gs) in
-    hands-short (Made bs) a.out.now bs refl (omega (arith, length-lines (length gs) (runs gs), c.before.count_runs.ensures, c.if1.true))
+    hands_short (Made bs) a.out.now bs refl (omega (arith, length-lines (length gs) (runs gs), c.before.count_runs.ensures, c.if1.true))
 
 put-lines-requires : tie.Need-put-lines-requires
 put-lines-requires c κs = search rules
@@ -36,7 +36,7 @@ returns-2 c =
     let a = c.before.before.before.before.before.before.before.before.args in
     let gs = a.groups.now in
     let bs = lines (length gs) (runs gs) in
-    hands-made (Made bs) a.out.now bs _ _ refl (omega (arith, length-lines (length gs) (runs gs), c.before.before.before.before.before.count_runs.ensures)) (omega (arith, length-lines (length gs) (runs gs), c.before.before.before.before.before.count_runs.ensures, c.before.before.before.before.if1.false)) c.before.before.put-lines.ensures
+    hands_made (Made bs) a.out.now bs _ _ refl (omega (arith, length-lines (length gs) (runs gs), c.before.before.before.before.before.count_runs.ensures)) (omega (arith, length-lines (length gs) (runs gs), c.before.before.before.before.before.count_runs.ensures, c.before.before.before.before.if1.false)) c.before.before.put-lines.ensures
 
 pub put-page-spec : {M : Type 1} → statement M
 put-page-spec =

@@ -1,10 +1,10 @@
--- `sort_page`: the lines of the sorted groups are the page (sorted-page).
+-- `sort_page`: the lines of the sorted groups are the page (sorted_page).
 -- Assumes nothing.
 use borrow.Author.Rules.{rules}
 use mathlib.Core.Path.{ap}
 use native.Mathlib.Omega.{arith}
 use Rattle.asmap_records.specs.Output.{Made}
-use Rattle.spread_page.proofs.PageLaws.{sorted-page, hands-same}
+use Rattle.spread_page.proofs.PageLaws.{sorted_page, hands_same}
 use Rattle.spread_page.proofs.sort_page.Statement.{statement}
 use Rattle.spread_page.proofs.sort_page.Tie as tie
 
@@ -24,7 +24,7 @@ same-length-3 : tie.Need-same-length-3
 same-length-3 c = search rules
 
 returns : tie.Need-returns
-returns c = hands-same (ap Made (sorted-page c.before.before.before.before.before.before.before.before.before.before.before.before.before.before.before.args.groups.now _ c.before.before.before.before.before.before.before.before.before.sort-groups.ensures (omega arith))) c.before.before.put-page.ensures
+returns c = hands_same (ap Made (sorted_page c.before.before.before.before.before.before.before.before.before.before.before.before.before.before.before.args.groups.now _ c.before.before.before.before.before.before.before.before.before.sort-groups.ensures (omega arith))) c.before.before.put-page.ensures
 
 pub sort-page-spec : {M : Type 1} → statement M
 sort-page-spec =

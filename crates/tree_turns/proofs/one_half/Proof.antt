@@ -2,7 +2,7 @@
 -- Assumes nothing.
 use borrow.Author.Rules.{rules}
 use native.Mathlib.Omega.{arith}
-use Rattle.tree_turns.proofs.HalfLaws.{one-high-fits, one-high, one-low-fits, one-low}
+use Rattle.tree_turns.proofs.HalfLaws.{one_high-fits, one_high, one-low-fits, one-low}
 use Rattle.tree_turns.proofs.one_half.Statement.{statement}
 use Rattle.tree_turns.proofs.one_half.Tie as tie
 
@@ -13,10 +13,10 @@ shl-step : tie.Need-overflow-shl-step
 shl-step c = search rules
 
 add-t7 : tie.Need-overflow-add-t7
-add-t7 c = record { fits = one-high-fits c.before.before.args.first c.before.before.args.depth (omega (arith, c.struct_known.given)) (omega (arith, c.struct_known.given)) c.before.if1.true c.before.before.requires.1 }
+add-t7 c = record { fits = one_high-fits c.before.before.args.first c.before.before.args.depth (omega (arith, c.struct_known.given)) (omega (arith, c.struct_known.given)) c.before.if1.true c.before.before.requires.1 }
 
 returns : tie.Need-returns
-returns c = one-high c.before.before.args.first c.before.before.args.depth (omega (arith, c.struct_known.given)) c.before.if1.true
+returns c = one_high c.before.before.args.first c.before.before.args.depth (omega (arith, c.struct_known.given)) c.before.if1.true
 
 sub-step-2 : tie.Need-overflow-sub-step-2
 sub-step-2 c = search rules

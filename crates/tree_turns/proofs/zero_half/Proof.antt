@@ -2,7 +2,7 @@
 -- Assumes nothing.
 use borrow.Author.Rules.{rules}
 use native.Mathlib.Omega.{arith}
-use Rattle.tree_turns.proofs.HalfLaws.{zero-high-fits, zero_high, zero-low-fits, zero-low}
+use Rattle.tree_turns.proofs.HalfLaws.{zero_high-fits, zero_high, zero-low-fits, zero-low}
 use Rattle.tree_turns.proofs.zero_half.Statement.{statement}
 use Rattle.tree_turns.proofs.zero_half.Tie as tie
 
@@ -13,7 +13,7 @@ shl-step : tie.Need-overflow-shl-step
 shl-step c = search rules
 
 sub-t7 : tie.Need-overflow-sub-t7
-sub-t7 c = zero-high-fits c.before.before.args.first c.before.before.args.depth (omega (arith, c.struct_known.given)) c.before.before.requires.0 c.before.if1.true c.before.before.requires.2
+sub-t7 c = zero_high-fits c.before.before.args.first c.before.before.args.depth (omega (arith, c.struct_known.given)) c.before.before.requires.0 c.before.if1.true c.before.before.requires.2
 
 returns : tie.Need-returns
 returns c = zero_high c.before.before.args.first c.before.before.args.depth (omega (arith, c.struct_known.given)) c.before.before.requires.0 c.before.if1.true c.before.before.requires.2

@@ -27,10 +27,10 @@ use denote.Triple.Entry.{alive, on_entry}
 use denote.Triple.Spec.{triple_of}
 use denote.Triple.Statement.{Triple}
 use denote.Triple.Table.{cited}
-use Rattle.asmap_items.specs.Items.{bitsLeft}
+use Rattle.asmap_items.specs.Items.{bits_left}
 use Rattle.asmap_reader.specs.declared.BitReader.{BitReader}
 use Rattle.asmap_reader.proofs.ByHand.{Ends, leaves, asks, finish}
-use Rattle.asmap_reader.proofs.Held.{lft, Reader, bytes, machine, reader-vals, reader-tells, reader-typed, Map, map_of}
+use Rattle.asmap_reader.proofs.Held.{lft, Reader, bytes, machine, reader_vals, reader_tells, reader_typed, Map, map_of}
 use Rattle.asmap_items.specs.contracts.bits_left as bits_left
 use Rattle.asmap_items.proofs.bits_left.Symbol as bits-left-def
 use Rattle.asmap_items.proofs.bits_left.Met as bits-left-thm
@@ -45,7 +45,7 @@ module _ {M : Type 1} {𝓤 : Ura M} (𝓛 : Logic 𝓤) (mem : Memory → SProp
 
   followed : Is (Reader κs) d (machine d) → ent 𝓤 (on_entry 𝓛 left.signature κs qs (d, tt) (machine d, tt)) (WpFn 𝓤 H C Λ code.function (machine d) ((Ends 𝓛 left.ended (left.clauses 𝓛 mem run)).post ((κs, qs, tt, (d, tt), (machine d, tt)), tt)))
   followed is =
-      let wt = (reader-typed 𝓛 (lft κs) d (machine d) is).0 in
+      let wt = (reader_typed 𝓛 (lft κs) d (machine d) is).0 in
       qed 𝓛 (raw (alive 𝓛 left.signature κs qs) ∷ ‵ (owns (Reader κs ∷ []) (d, tt) (machine d, tt)) ∷ []) ∵ enter ! C Λ code.function (machine d) _ $
       alloc1 ! (λ l₀. alloc1 ! (λ l₁. alloc1 ! (λ l₂. alloc1 ! (λ l₃. alloc0 ! $ params1 ! $ pass1 ! (init ! 4 refl wt) $ pass0 ! $
       assigns ! (of_opd ! (load ! (from ! (fld ! refl (stop !))) (look_in ! 4 (sub ! 0 refl (whole !))))) (from ! (stop !)) (init ! 2 refl (tt, wt.1.0)) $
@@ -54,7 +54,7 @@ module _ {M : Type 1} {𝓤 : Ura M} (𝓛 : Logic 𝓤) (mem : Memory → SProp
       move ! (9 ∷ []) $ fsplit ! $ move ! (1 ∷ []) $ drop ! $ use1 𝓛 (‵ (Map 𝓛 κs d.map)) (map_of 𝓛 κs d) $
       nothing ! $ owned ! usize (Is usize) (uint_Makes 𝓛 w64) d.at _ (refl, wt.1.1.0.fits) $ fjoin ! $ move ! (1 ∷ 0 ∷ []) $ fjoin ! $ move ! (0 ∷ 9 ∷ []) $
       asks ! fm bits_left.ended (bits_left.clauses 𝓛 mem run) met (κs, qs, tt, (d.map, (d.at, tt)), (bytes d.map, (vint w64 d.at ∷ [], tt))) tt (id⊢ 𝓤 (emp 𝓤))
-      (λ (n : ℕ). n ≡ bitsLeft d.map.now d.at) (λ n ws. id⊢ 𝓤 _)
+      (λ (n : ℕ). n ≡ bits_left d.map.now d.at) (λ n ws. id⊢ 𝓤 _)
       (and_then ! (load ! (from ! (stop !)) (look ! 3 refl)) (and_then ! (load ! (from ! (stop !)) (look ! 1 refl)) (no_more !))) (λ u n e is'.
       -- the entries: the answer; the token; _3 _2 _1 _0
       land ! (from ! (stop !)) (init ! 8 refl ((uint_Lawful 𝓛 w64).typed n _ is').0) $
@@ -65,7 +65,7 @@ module _ {M : Type 1} {𝓤 : Ura M} (𝓛 : Logic 𝓤) (mem : Memory → SProp
 pub left-spec : {M : Type 1} → stated.statement M
 unfolding code.routine
 left-spec 𝓤 𝓛 𝓜 𝓡 =
-    finish 𝓛 𝓜 𝓡 left.ended (left.clauses 𝓛 𝓜.mem 𝓡.run) ((λ κs x f. refl), tt) (λ κs. (reader-vals κs, tt)) (λ κs. (reader-tells κs, tt))
+    finish 𝓛 𝓜 𝓡 left.ended (left.clauses 𝓛 𝓜.mem 𝓡.run) ((λ κs x f. refl), tt) (λ κs. (reader_vals κs, tt)) (λ κs. (reader_tells κs, tt))
     code.env key.name code.function (code.unfolded 𝓤 𝓛.H 𝓜 𝓡)
     (λ fm κs qs bounds a g are. followed 𝓛 𝓜.mem 𝓡.run (tables 𝓤 𝓛.H 𝓜 𝓡 code.env).C (tables 𝓤 𝓛.H 𝓜 𝓡 code.env).Λ fm
     (cited 𝓤 𝓛.H (triple_of 𝓛 bits_left.signature (bits_left.spec 𝓛 𝓜.mem 𝓡.run)) 𝓜 𝓡 code.env bits-left-def.name bits-left-def.routine code.calls-asmap-items::bits-left (bits-left-thm.met 𝓤 𝓛 𝓜 𝓡))

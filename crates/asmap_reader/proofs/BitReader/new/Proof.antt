@@ -26,7 +26,7 @@ use denote.Triple.Entry.{alive, on_entry}
 use Rattle.asmap_reader.specs.declared.BitReader.{BitReader}
 use Rattle.asmap_reader.proofs.BitReader.TheLaws as T'
 use Rattle.asmap_reader.proofs.ByHand.{Ends, leaves, finish}
-use Rattle.asmap_reader.proofs.Held.{Reader, bytes, machine, reader-of}
+use Rattle.asmap_reader.proofs.Held.{Reader, bytes, machine, reader_of}
 use Rattle.asmap_reader.specs.contracts.BitReader.new.Key as key
 use Rattle.asmap_reader.specs.contracts.BitReader.new as new
 use Rattle.asmap_reader.proofs.BitReader.new.Statement as stated
@@ -46,7 +46,7 @@ module _ {M : Type 1} {𝓤 : Ura M} (𝓛 : Logic 𝓤) (mem : Memory → SProp
       -- the entries: _1 _0, two for each; the token; what the map owns
       assigns ! (agg ! (and_then ! (load ! (from ! (stop !)) (look ! 0 refl)) (and_then ! (lit ! tt) (no_more !)))) (from ! (stop !)) (init ! 2 refl (tt, (wt.1, (record { fits = lit< tt }, tt)))) $
       returns ! (look ! 2 refl) $ forget ! 0 refl $ forget ! 2 refl $ move ! (2 ∷ 3 ∷ []) $ free1 ! $ free1 ! $ free0 ! $
-      move ! (1 ∷ []) $ fsplit ! $ use1 𝓛 (‵ ((Reader κs).own_val made (machine made))) (reader-of 𝓛 κs made (lit< tt)) $ keep ! (0 ∷ 2 ∷ []) $
+      move ! (1 ∷ []) $ fsplit ! $ use1 𝓛 (‵ ((Reader κs).own_val made (machine made))) (reader_of 𝓛 κs made (lit< tt)) $ keep ! (0 ∷ 2 ∷ []) $
       by ! (leaves 𝓛 new.ended (new.clauses 𝓛 mem run) ((κs, qs, tt, (s, tt), (bytes s, tt)), tt) (T'.lowered made) made (tt, tt) (fact_i 𝓤 _ (emp 𝓤) (refl, refl)))))
 
 pub new_spec : {M : Type 1} → stated.statement M

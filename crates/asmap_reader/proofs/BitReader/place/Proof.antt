@@ -24,7 +24,7 @@ use denote.Steps.{owned}
 use denote.Triple.Entry.{alive, on_entry}
 use Rattle.asmap_reader.specs.declared.BitReader.{BitReader}
 use Rattle.asmap_reader.proofs.ByHand.{Ends, leaves, finish}
-use Rattle.asmap_reader.proofs.Held.{lft, Reader, machine, reader-vals, reader-tells, reader-typed}
+use Rattle.asmap_reader.proofs.Held.{lft, Reader, machine, reader_vals, reader_tells, reader_typed}
 use Rattle.asmap_reader.specs.contracts.BitReader.place.Key as key
 use Rattle.asmap_reader.specs.contracts.BitReader.place as place
 use Rattle.asmap_reader.proofs.BitReader.place.Statement as stated
@@ -35,7 +35,7 @@ module _ {M : Type 1} {𝓤 : Ura M} (𝓛 : Logic 𝓤) (mem : Memory → SProp
 
   followed : Is (Reader κs) d (machine d) → ent 𝓤 (on_entry 𝓛 place.signature κs qs (d, tt) (machine d, tt)) (WpFn 𝓤 H C Λ code.function (machine d) ((Ends 𝓛 place.ended (place.clauses 𝓛 mem run)).post ((κs, qs, tt, (d, tt), (machine d, tt)), tt)))
   followed is =
-      let wt = (reader-typed 𝓛 (lft κs) d (machine d) is).0 in
+      let wt = (reader_typed 𝓛 (lft κs) d (machine d) is).0 in
       qed 𝓛 (raw (alive 𝓛 place.signature κs qs) ∷ ‵ (owns (Reader κs ∷ []) (d, tt) (machine d, tt)) ∷ []) ∵ enter ! C Λ code.function (machine d) _ $
       alloc1 ! (λ l₀. alloc1 ! (λ l₁. alloc0 ! $ params1 ! $ pass1 ! (init ! 0 refl wt) $ pass0 ! $
       -- the entries: _1 _0, two for each; the token; what the reader owns
@@ -47,6 +47,6 @@ module _ {M : Type 1} {𝓤 : Ura M} (𝓛 : Logic 𝓤) (mem : Memory → SProp
 pub place-spec : {M : Type 1} → stated.statement M
 unfolding code.routine
 place-spec 𝓤 𝓛 𝓜 𝓡 =
-    finish 𝓛 𝓜 𝓡 place.ended (place.clauses 𝓛 𝓜.mem 𝓡.run) ((λ κs x f. refl), tt) (λ κs. (reader-vals κs, tt)) (λ κs. (reader-tells κs, tt))
+    finish 𝓛 𝓜 𝓡 place.ended (place.clauses 𝓛 𝓜.mem 𝓡.run) ((λ κs x f. refl), tt) (λ κs. (reader_vals κs, tt)) (λ κs. (reader_tells κs, tt))
     code.env key.name code.function (code.unfolded 𝓤 𝓛.H 𝓜 𝓡)
     (λ fm κs qs bounds a g are. followed 𝓛 𝓜.mem 𝓡.run (tables 𝓤 𝓛.H 𝓜 𝓡 code.env).C (tables 𝓤 𝓛.H 𝓜 𝓡 code.env).Λ κs qs a.0 are.0)

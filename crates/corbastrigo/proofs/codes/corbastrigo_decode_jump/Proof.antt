@@ -1,8 +1,8 @@
 -- What the decoder answered is handed out, and it is what Core reads (`core-code`).
 -- Assumes nothing.
 use Rattle.asmap_codes.specs.Row.{jump_row}
-use Rattle.asmap_codes.specs.Core.{fileOf}
-use Rattle.answer_codes.specs.Codes.{codeRead}
+use Rattle.asmap_codes.specs.Core.{file_of}
+use Rattle.answer_codes.specs.Codes.{code_read}
 use Rattle.answers.proofs.Handing.{hands}
 use Rattle.answers.proofs.NeverZeroCodes.{code_read}
 use Rattle.answers.proofs.Promised.{core-code}
@@ -20,8 +20,8 @@ returns : tie.Need-returns
 returns c =
     let a = c.before.before.before.before.before.args in
     let d = c.before.before.before.decode-jump.ensures in
-    let h = hands codeRead d.0 (code_read a.map.now a.at jump_row) c.hand-code.ensures in
-    (h, core-code a.map.now a.at ((fileOf a.map.now).decodeJump a.at) d.0 d.1 h)
+    let h = hands code_read d.0 (code_read a.map.now a.at jump_row) c.hand-code.ensures in
+    (h, core-code a.map.now a.at ((file_of a.map.now).decode_jump a.at) d.0 d.1 h)
 
 pub corbastrigo-decode-jump-spec : {M : Type 1} → statement M
 corbastrigo-decode-jump-spec = tie.close (tie.spec decode-jump-requires hand-code-requires returns)

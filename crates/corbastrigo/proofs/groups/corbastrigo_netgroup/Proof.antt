@@ -2,10 +2,10 @@
 -- Assumes nothing.
 use mathlib.Core.Path.{◌∙◌, subst}
 use Rattle.netgroup.specs.Group.{numbering}
-use Rattle.netgroup.specs.Netgroup.{netgroupOf, Whole}
-use Rattle.answer_groups.specs.Groups.{groupFound}
+use Rattle.netgroup.specs.Netgroup.{netgroup_of, Whole}
+use Rattle.answer_groups.specs.Groups.{group_found}
 use Rattle.answers.proofs.Handing.{hands}
-use Rattle.answers.proofs.NeverZeroGroups.{netgroup-found}
+use Rattle.answers.proofs.NeverZeroGroups.{netgroup_found}
 use Rattle.answers.proofs.Promised.{found}
 use borrow.Author.Rules.{rules}
 use Rattle.corbastrigo.proofs.groups.corbastrigo_netgroup.Statement.{statement}
@@ -25,8 +25,8 @@ returns c =
     let a = c.before.before.before.before.before.before.args in
     let g = c.before.before.netgroup.ensures in
     let n = numbering c.before.before.before.grouping-of.result a.map.now in
-    let h = hands groupFound g.0 (netgroup-found n a.candidate.now) c.hand-group.ensures in
-    rw (← c.before.before.before.grouping-of.ensures) (h, λ z. subst (Whole n a.candidate.now) (g.0 ∙ found (netgroupOf n a.candidate.now) h z) g.1)
+    let h = hands group_found g.0 (netgroup_found n a.candidate.now) c.hand-group.ensures in
+    rw (← c.before.before.before.grouping-of.ensures) (h, λ z. subst (Whole n a.candidate.now) (g.0 ∙ found (netgroup_of n a.candidate.now) h z) g.1)
 
 pub corbastrigo-netgroup-spec : {M : Type 1} → statement M
 corbastrigo-netgroup-spec =

@@ -1,8 +1,8 @@
 -- The group that was found is handed out.
 -- Assumes nothing.
-use Rattle.answer_groups.specs.Groups.{groupFound}
+use Rattle.answer_groups.specs.Groups.{group_found}
 use Rattle.answers.proofs.Handing.{hands}
-use Rattle.answers.proofs.NeverZeroGroups.{prefix-group-found}
+use Rattle.answers.proofs.NeverZeroGroups.{prefix_group_found}
 use borrow.Author.Rules.{rules}
 use Rattle.corbastrigo.proofs.groups.corbastrigo_prefix_group.Statement.{statement}
 use Rattle.corbastrigo.proofs.groups.corbastrigo_prefix_group.Tie as tie
@@ -14,7 +14,7 @@ hand-group-requires : tie.Need-hand-group-requires
 hand-group-requires c κs = search rules
 
 returns : tie.Need-returns
-returns c = hands groupFound c.before.before.prefix-group.ensures (prefix-group-found c.before.before.before.before.args.candidate.now) c.hand-group.ensures
+returns c = hands group_found c.before.before.prefix-group.ensures (prefix_group_found c.before.before.before.before.args.candidate.now) c.hand-group.ensures
 
 pub corbastrigo-prefix-group-spec : {M : Type 1} → statement M
 corbastrigo-prefix-group-spec =

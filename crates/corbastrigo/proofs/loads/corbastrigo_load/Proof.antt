@@ -6,10 +6,10 @@ use lib.ListN.{length}
 use Rattle.asmap_records.specs.Output.{within, answer_of}
 use Rattle.asmap_load.specs.Load.{load_of}
 use Rattle.asmap_load.specs.Promise.{WritesLoad}
-use Rattle.answer_bytes.specs.Bytes.{bytesWritten}
+use Rattle.answer_bytes.specs.Bytes.{bytes_written}
 use Rattle.answers.proofs.Handing.{hands}
-use Rattle.answers.proofs.NeverZeroLoads.{load-written}
-use Rattle.answers.proofs.Promised.{of-written}
+use Rattle.answers.proofs.NeverZeroLoads.{load_written}
+use Rattle.answers.proofs.Promised.{of_written}
 use Rattle.corbastrigo.proofs.loads.corbastrigo_load.Statement.{statement}
 use Rattle.corbastrigo.proofs.loads.corbastrigo_load.Tie as tie
 
@@ -27,8 +27,8 @@ returns c =
     let a = c.before.before.before.before.before.before.before.args in
     let p = c.before.before.before.before.load.ensures in
     let k = length a.out.now in
-    let h = hands bytesWritten p.0.answer (load-written k a.seed a.pairs) c.hand-bytes.ensures in
-    (record { hands = h; output = p.0.output }, λ z. of-written (WritesLoad a.seed a.pairs _) (answer_of (within k (load_of a.seed a.pairs))) p.1 p.0.answer h z _ refl)
+    let h = hands bytes_written p.0.answer (load_written k a.seed a.pairs) c.hand-bytes.ensures in
+    (record { hands = h; output = p.0.output }, λ z. of_written (WritesLoad a.seed a.pairs _) (answer_of (within k (load_of a.seed a.pairs))) p.1 p.0.answer h z _ refl)
 
 pub corbastrigo-load-spec : {M : Type 1} → statement M
 corbastrigo-load-spec = tie.close (tie.spec load-requires hand-bytes-requires same_length returns)

@@ -1,9 +1,9 @@
--- How the walk ended is handed out, and what is promised of it (`walk-finished`, `core-number`).
+-- How the walk ended is handed out, and what is promised of it (`walk_finished`, `core-number`).
 -- Assumes nothing.
-use Rattle.answer_maps.specs.Maps.{walkMade}
+use Rattle.answer_maps.specs.Maps.{walk_made}
 use Rattle.answers.proofs.Handing.{hands}
-use Rattle.answers.proofs.Promised.{walk-finished, core-number}
-use Rattle.answers.proofs.NeverZeroMaps.{walk-made}
+use Rattle.answers.proofs.Promised.{walk_finished, core-number}
+use Rattle.answers.proofs.NeverZeroMaps.{walk_made_lem}
 use borrow.Author.Rules.{rules}
 use Rattle.corbastrigo.proofs.maps.corbastrigo_interpret.Statement.{statement}
 use Rattle.corbastrigo.proofs.maps.corbastrigo_interpret.Tie as tie
@@ -19,8 +19,8 @@ returns c =
     let a = c.before.before.before.before.before.before.before.before.args in
     let w = c.before.before.before.before.before.interpret.ensures in
     let h = c.hand-walk.ensures in (
-      hands walkMade w.0 (walk-made a.map.now a.address.now) h,
-      (walk-finished a.map.now a.address.now _ _ _ _ _ _ _ w.1.0 h, core-number a.map.now a.address.now _ _ _ _ _ _ _ w.1.1 h),
+      hands walk_made w.0 (walk_made_lem a.map.now a.address.now) h,
+      (walk_finished a.map.now a.address.now _ _ _ _ _ _ _ w.1.0 h, core-number a.map.now a.address.now _ _ _ _ _ _ _ w.1.1 h),
     )
 
 pub corbastrigo-interpret-spec : {M : Type 1} → statement M

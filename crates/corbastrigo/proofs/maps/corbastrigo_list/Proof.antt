@@ -1,7 +1,7 @@
 -- What the listing wrote, and how many bytes; what is promised beside.
 -- Assumes nothing.
 use lib.ListN.{length}
-use Rattle.answer_bytes.specs.Bytes.{bytesWritten}
+use Rattle.answer_bytes.specs.Bytes.{bytes_written}
 use Rattle.answers.proofs.Handing.{hands}
 use Rattle.answers.proofs.NeverZeroMaps.{list_written}
 use borrow.Author.Rules.{rules}
@@ -21,7 +21,7 @@ returns : tie.Need-returns
 returns c =
     let a = c.before.before.before.before.before.before.before.before.args in
     let w = c.before.before.before.before.list.ensures.0 in
-    (record { hands = hands bytesWritten w.answer (list_written (length a.out.now) a.map.now 128) c.hand-bytes.ensures; output = w.output }, c.before.before.before.before.list.ensures.1)
+    (record { hands = hands bytes_written w.answer (list_written (length a.out.now) a.map.now 128) c.hand-bytes.ensures; output = w.output }, c.before.before.before.before.list.ensures.1)
 
 pub corbastrigo-list-spec : {M : Type 1} → statement M
 corbastrigo-list-spec =

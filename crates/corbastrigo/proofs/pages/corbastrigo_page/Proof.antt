@@ -4,12 +4,12 @@ use borrow.Author.Rules.{rules}
 use lib.ListN.{length}
 use Rattle.netgroup.specs.Group.{numbering}
 use Rattle.asmap_records.specs.Output.{within, answer_of}
-use Rattle.spread_page.specs.Page.{spreadPage}
+use Rattle.spread_page.specs.Page.{spread_page}
 use Rattle.spread_page.specs.Promise.{Told, Unaborted}
-use Rattle.answer_bytes.specs.Bytes.{bytesWritten}
+use Rattle.answer_bytes.specs.Bytes.{bytes_written}
 use Rattle.answers.proofs.Handing.{hands}
-use Rattle.answers.proofs.NeverZeroGroups.{page-written}
-use Rattle.answers.proofs.Promised.{of-written}
+use Rattle.answers.proofs.NeverZeroGroups.{page_written}
+use Rattle.answers.proofs.Promised.{of_written}
 use Rattle.corbastrigo.proofs.pages.corbastrigo_page.Statement.{statement}
 use Rattle.corbastrigo.proofs.pages.corbastrigo_page.Tie as tie
 
@@ -31,9 +31,9 @@ returns c =
     let p = c.before.before.before.before.page.ensures in
     let n = numbering c.before.before.before.before.before.before.grouping-of.result a.map.now in
     let bytes = a.candidates.now in
-    let h = hands bytesWritten p.0.answer (page-written (length a.out.now) n bytes) c.hand-bytes.ensures in
-    let y = answer_of (within (length a.out.now) (spreadPage n bytes)) in
-    rw (← c.before.before.before.before.before.before.grouping-of.ensures) (record { hands = h; output = p.0.output }, (of-written (Told n bytes) y p.1.0 p.0.answer h, of-written (Unaborted n bytes) y p.1.1 p.0.answer h))
+    let h = hands bytes_written p.0.answer (page_written (length a.out.now) n bytes) c.hand-bytes.ensures in
+    let y = answer_of (within (length a.out.now) (spread_page n bytes)) in
+    rw (← c.before.before.before.before.before.before.grouping-of.ensures) (record { hands = h; output = p.0.output }, (of_written (Told n bytes) y p.1.0 p.0.answer h, of_written (Unaborted n bytes) y p.1.1 p.0.answer h))
 
 pub corbastrigo-page-spec : {M : Type 1} → statement M
 corbastrigo-page-spec =

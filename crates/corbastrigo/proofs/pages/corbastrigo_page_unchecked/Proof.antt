@@ -4,12 +4,12 @@ use borrow.Author.Rules.{rules}
 use lib.ListN.{length}
 use Rattle.netgroup.specs.Group.{numbering}
 use Rattle.asmap_records.specs.Output.{within, answer_of}
-use Rattle.spread_page.specs.Page.{spreadUnchecked}
+use Rattle.spread_page.specs.Page.{spread_unchecked}
 use Rattle.spread_page.specs.Promise.{Told, Unaborted}
-use Rattle.answer_bytes.specs.Bytes.{bytesWritten}
+use Rattle.answer_bytes.specs.Bytes.{bytes_written}
 use Rattle.answers.proofs.Handing.{hands}
-use Rattle.answers.proofs.NeverZeroGroups.{unchecked-written}
-use Rattle.answers.proofs.Promised.{of-written}
+use Rattle.answers.proofs.NeverZeroGroups.{unchecked_written}
+use Rattle.answers.proofs.Promised.{of_written}
 use Rattle.corbastrigo.proofs.pages.corbastrigo_page_unchecked.Statement.{statement}
 use Rattle.corbastrigo.proofs.pages.corbastrigo_page_unchecked.Tie as tie
 
@@ -31,9 +31,9 @@ returns c =
     let p = c.before.before.before.before.page-unchecked.ensures in
     let n = numbering c.before.before.before.before.before.before.grouping-of.result a.map.now in
     let bytes = a.candidates.now in
-    let h = hands bytesWritten p.0.answer (unchecked-written (length a.out.now) n bytes) c.hand-bytes.ensures in
-    let y = answer_of (within (length a.out.now) (spreadUnchecked n bytes)) in
-    rw (← c.before.before.before.before.before.before.grouping-of.ensures) (record { hands = h; output = p.0.output }, (of-written (Told n bytes) y p.1.0 p.0.answer h, λ e. of-written (Unaborted n bytes) y (p.1.1 e) p.0.answer h))
+    let h = hands bytes_written p.0.answer (unchecked_written (length a.out.now) n bytes) c.hand-bytes.ensures in
+    let y = answer_of (within (length a.out.now) (spread_unchecked n bytes)) in
+    rw (← c.before.before.before.before.before.before.grouping-of.ensures) (record { hands = h; output = p.0.output }, (of_written (Told n bytes) y p.1.0 p.0.answer h, λ e. of_written (Unaborted n bytes) y (p.1.1 e) p.0.answer h))
 
 pub corbastrigo-page-unchecked-spec : {M : Type 1} → statement M
 corbastrigo-page-unchecked-spec =

@@ -2,9 +2,9 @@
 -- Assumes nothing.
 use borrow.Author.Rules.{rules}
 use lib.ListN.{length}
-use Rattle.answer_bytes.specs.Bytes.{bytesNeeded}
+use Rattle.answer_bytes.specs.Bytes.{bytes_needed}
 use Rattle.answers.proofs.Handing.{hands}
-use Rattle.answers.proofs.NeverZeroMaps.{compare-needed-at}
+use Rattle.answers.proofs.NeverZeroMaps.{compare_needed_at}
 use Rattle.corbastrigo.proofs.widths.corbastrigo_compare_bytes_bits.Statement.{statement}
 use Rattle.corbastrigo.proofs.widths.corbastrigo_compare_bytes_bits.Tie as tie
 
@@ -21,7 +21,7 @@ returns : tie.Need-returns
 returns c =
     let a = c.before.before.before.before.before.before.before.before.before.args in
     let w = c.before.before.before.before.compare-bytes-bits.ensures.0 in
-    (record { hands = hands bytesNeeded w.answer (compare-needed-at (length a.first.now) a.old-map.now a.new-map.now a.width) c.hand-needed.ensures; output = w.output }, c.before.before.before.before.compare-bytes-bits.ensures.1)
+    (record { hands = hands bytes_needed w.answer (compare_needed_at (length a.first.now) a.old-map.now a.new-map.now a.width) c.hand-needed.ensures; output = w.output }, c.before.before.before.before.compare-bytes-bits.ensures.1)
 
 pub corbastrigo-compare-bytes-bits-spec : {M : Type 1} → statement M
 corbastrigo-compare-bytes-bits-spec =

@@ -2,9 +2,9 @@
 -- Assumes nothing.
 use borrow.Author.Rules.{rules}
 use lib.ListN.{length}
-use Rattle.answer_bytes.specs.Bytes.{bytesWritten}
+use Rattle.answer_bytes.specs.Bytes.{bytes_written}
 use Rattle.answers.proofs.Handing.{hands}
-use Rattle.answers.proofs.NeverZeroMaps.{list-written-at}
+use Rattle.answers.proofs.NeverZeroMaps.{list_written_at}
 use Rattle.corbastrigo.proofs.widths.corbastrigo_list_bits.Statement.{statement}
 use Rattle.corbastrigo.proofs.widths.corbastrigo_list_bits.Tie as tie
 
@@ -21,7 +21,7 @@ returns : tie.Need-returns
 returns c =
     let a = c.before.before.before.before.before.before.before.before.args in
     let w = c.before.before.before.before.list-bits.ensures.0 in
-    (record { hands = hands bytesWritten w.answer (list-written-at (length a.out.now) a.map.now a.width) c.hand-bytes.ensures; output = w.output }, c.before.before.before.before.list-bits.ensures.1)
+    (record { hands = hands bytes_written w.answer (list_written_at (length a.out.now) a.map.now a.width) c.hand-bytes.ensures; output = w.output }, c.before.before.before.before.list-bits.ensures.1)
 
 pub corbastrigo-list-bits-spec : {M : Type 1} → statement M
 corbastrigo-list-bits-spec =

@@ -1,12 +1,12 @@
--- The check's verdict at a width is handed out, and it is Core's (`core-verdict-at`).
+-- The check's verdict at a width is handed out, and it is Core's (`core-verdict_at`).
 -- Assumes nothing.
 use borrow.Author.Rules.{rules}
 use mathlib.Core.Path.{subst}
-use Rattle.asmap_check.specs.Check.{checkAt, LikeCoreAt}
-use Rattle.answer_maps.specs.Maps.{mapChecked}
+use Rattle.asmap_check.specs.Check.{check_at, LikeCoreAt}
+use Rattle.answer_maps.specs.Maps.{map_checked}
 use Rattle.answers.proofs.Handing.{hands}
-use Rattle.answers.proofs.Promised.{core-verdict-at}
-use Rattle.answers.proofs.NeverZeroMaps.{map-checked-at}
+use Rattle.answers.proofs.Promised.{core-verdict_at}
+use Rattle.answers.proofs.NeverZeroMaps.{map_checked_at}
 use Rattle.corbastrigo.proofs.widths.corbastrigo_sanity_check_bits.Statement.{statement}
 use Rattle.corbastrigo.proofs.widths.corbastrigo_sanity_check_bits.Tie as tie
 
@@ -21,8 +21,8 @@ returns c =
     let a = c.before.before.before.before.before.args in
     let m = a.map.now in
     let v = c.before.before.before.sanity-check-bits.ensures in
-    let h = hands mapChecked v.0 (map-checked-at m a.width) c.hand-verdict.ensures in
-    (h, core-verdict-at m a.width (checkAt m a.width) (subst (LikeCoreAt m a.width) v.0 v.1) h)
+    let h = hands map_checked v.0 (map_checked_at m a.width) c.hand-verdict.ensures in
+    (h, core-verdict_at m a.width (check_at m a.width) (subst (LikeCoreAt m a.width) v.0 v.1) h)
 
 pub corbastrigo-sanity-check-bits-spec : {M : Type 1} → statement M
 corbastrigo-sanity-check-bits-spec =

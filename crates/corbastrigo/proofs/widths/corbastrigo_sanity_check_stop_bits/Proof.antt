@@ -1,9 +1,9 @@
 -- Where the check at a width stops is handed out.
 -- Assumes nothing.
 use borrow.Author.Rules.{rules}
-use Rattle.answer_maps.specs.Maps.{checkStopped}
+use Rattle.answer_maps.specs.Maps.{check_stopped}
 use Rattle.answers.proofs.Handing.{hands}
-use Rattle.answers.proofs.NeverZeroMaps.{check-stopped-at}
+use Rattle.answers.proofs.NeverZeroMaps.{check_stopped_at}
 use Rattle.corbastrigo.proofs.widths.corbastrigo_sanity_check_stop_bits.Statement.{statement}
 use Rattle.corbastrigo.proofs.widths.corbastrigo_sanity_check_stop_bits.Tie as tie
 
@@ -16,7 +16,7 @@ hand-stop-requires c κs = search rules
 returns : tie.Need-returns
 returns c =
     let a = c.before.before.before.before.before.args in
-    hands checkStopped c.before.before.before.sanity-check-stop-bits.ensures (check-stopped-at a.map.now a.width) c.hand-stop.ensures
+    hands check_stopped c.before.before.before.sanity-check-stop-bits.ensures (check_stopped_at a.map.now a.width) c.hand-stop.ensures
 
 pub corbastrigo-sanity-check-stop-bits-spec : {M : Type 1} → statement M
 corbastrigo-sanity-check-stop-bits-spec =

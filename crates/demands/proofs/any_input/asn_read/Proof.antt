@@ -1,9 +1,9 @@
 -- By what the call promises.
 -- Assumes nothing.
 use mathlib.Core.Path.{refl}
-use Rattle.asmap_codes.specs.Row.{asnRow}
-use Rattle.asmap_codes.specs.Core.{fileOf}
-use Rattle.demand_statements.proofs.CodeAnswers.{code_reads, core-reads}
+use Rattle.asmap_codes.specs.Row.{asn_row}
+use Rattle.asmap_codes.specs.Core.{file_of}
+use Rattle.demand_statements.proofs.CodeAnswers.{code_reads, core_reads}
 use borrow.Author.Rules.{rules}
 use Rattle.demands.proofs.any_input.asn_read.Statement.{statement}
 use Rattle.demands.proofs.any_input.asn_read.Tie as tie
@@ -15,7 +15,7 @@ returns : tie.Need-returns
 returns c =
     let a = c.before.before.before.before.args in
     let e = c.corbastrigo-decode-asn.ensures in
-    (code_reads a.map.now a.at asnRow refl e.0, core-reads a.map.now a.at _ _ _ ((fileOf a.map.now).decodeASN a.at) e.1)
+    (code_reads a.map.now a.at asn_row refl e.0, core_reads a.map.now a.at _ _ _ ((file_of a.map.now).decode_asn a.at) e.1)
 
 pub asn-read-spec : {M : Type 1} → statement M
 asn-read-spec = tie.close (tie.spec corbastrigo-decode-asn-requires returns)

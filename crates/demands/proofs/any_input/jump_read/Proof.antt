@@ -2,8 +2,8 @@
 -- Assumes nothing.
 use mathlib.Core.Path.{refl}
 use Rattle.asmap_codes.specs.Row.{jump_row}
-use Rattle.asmap_codes.specs.Core.{fileOf}
-use Rattle.demand_statements.proofs.CodeAnswers.{code_reads, core-reads}
+use Rattle.asmap_codes.specs.Core.{file_of}
+use Rattle.demand_statements.proofs.CodeAnswers.{code_reads, core_reads}
 use borrow.Author.Rules.{rules}
 use Rattle.demands.proofs.any_input.jump_read.Statement.{statement}
 use Rattle.demands.proofs.any_input.jump_read.Tie as tie
@@ -15,7 +15,7 @@ returns : tie.Need-returns
 returns c =
     let a = c.before.before.before.before.args in
     let e = c.corbastrigo-decode-jump.ensures in
-    (code_reads a.map.now a.at jump_row refl e.0, core-reads a.map.now a.at _ _ _ ((fileOf a.map.now).decodeJump a.at) e.1)
+    (code_reads a.map.now a.at jump_row refl e.0, core_reads a.map.now a.at _ _ _ ((file_of a.map.now).decode_jump a.at) e.1)
 
 pub jump-read-spec : {M : Type 1} → statement M
 jump-read-spec = tie.close (tie.spec corbastrigo-decode-jump-requires returns)

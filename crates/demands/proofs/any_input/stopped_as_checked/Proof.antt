@@ -1,6 +1,6 @@
--- By what the two calls promise (`stops-as-checked`).
+-- By what the two calls promise (`stops_as_checked`).
 -- Assumes nothing.
-use Rattle.demand_statements.proofs.MapAnswers.{checks, stops, stops-as-checked}
+use Rattle.demand_statements.proofs.MapAnswers.{checks, stops, stops_as_checked}
 use borrow.Author.Rules.{rules}
 use Rattle.demands.proofs.any_input.stopped_as_checked.Statement.{statement}
 use Rattle.demands.proofs.any_input.stopped_as_checked.Tie as tie
@@ -17,7 +17,7 @@ corbastrigo-sanity-check-requires c κs = search rules
 returns-2 : tie.Need-returns-2
 returns-2 c = λ _.
     let m = c.before.before.before.before.before.before.before.before.args.map.now in
-    stops-as-checked m 128 (stops m 128 c.before.before.before.before.corbastrigo-sanity-check-stop.ensures) c.before.before.before.if1.false (checks m 128 c.corbastrigo-sanity-check.ensures.0)
+    stops_as_checked m 128 (stops m 128 c.before.before.before.before.corbastrigo-sanity-check-stop.ensures) c.before.before.before.if1.false (checks m 128 c.corbastrigo-sanity-check.ensures.0)
 
 pub stopped-as-checked-spec : {M : Type 1} → statement M
 stopped-as-checked-spec =

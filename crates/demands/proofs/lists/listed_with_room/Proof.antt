@@ -1,6 +1,6 @@
--- By what the two calls promise (`unlisted`, `with-room`).
+-- By what the two calls promise (`unlisted`, `with_room`).
 -- Assumes nothing.
-use Rattle.demand_statements.proofs.ListAnswers.{unlisted, with-room}
+use Rattle.demand_statements.proofs.ListAnswers.{unlisted, with_room}
 use borrow.Author.Rules.{rules}
 use Rattle.demands.proofs.lists.listed_with_room.Statement.{statement}
 use Rattle.demands.proofs.lists.listed_with_room.Tie as tie
@@ -22,7 +22,7 @@ same_length c = search rules
 returns-2 : tie.Need-returns-2
 returns-2 c =
     let a = c.before.before.before.before.before.before.before.before.before.before.args in
-    with-room a.map.now 128 a.out.now _ c.before.before.before.before.before.before.corbastrigo-list-bytes.ensures c.before.before.corbastrigo-list.ensures.0
+    with_room a.map.now 128 a.out.now _ c.before.before.before.before.before.before.corbastrigo-list-bytes.ensures c.before.before.corbastrigo-list.ensures.0
 
 pub listed-with-room-spec : {M : Type 1} → statement M
 listed-with-room-spec =

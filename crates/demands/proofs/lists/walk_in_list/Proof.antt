@@ -1,8 +1,8 @@
--- By what the two calls promise (`walk-in-list`).
+-- By what the two calls promise (`walk_in_list_lem`).
 -- Assumes nothing.
 use native.Mathlib.Omega.{arith}
-use Rattle.demand_statements.proofs.MapAnswers.{over-128}
-use Rattle.demand_statements.proofs.WalkLaws.{ends-128}
+use Rattle.demand_statements.proofs.MapAnswers.{over_128}
+use Rattle.demand_statements.proofs.WalkLaws.{ends_128}
 use Rattle.demand_statements.proofs.ListAnswers as answers
 use borrow.Author.Rules.{rules}
 use Rattle.demands.proofs.lists.walk_in_list.Statement.{statement}
@@ -28,7 +28,7 @@ returns-2 c =
     let a = c.before.before.before.before.before.before.before.before.before.before.before.before.before.before.args in
     let l = c.before.before.before.before.before.before.before.before.corbastrigo-list.ensures in
     let w = c.corbastrigo-interpret.ensures in
-    answers.walk-in-list a.map.now a.address.now 128 (omega arith) a.out.now _ (λ i. omega (arith, c.before.before.before.before.before.before.before.before.before.before.before.before.shared-slice-known2.given i)) l.0 l.1 c.before.before.before.before.before.if1.false (over-128 a.map.now a.address.now w.0) (ends-128 a.map.now a.address.now w.1.0)
+    answers.walk_in_list_lem a.map.now a.address.now 128 (omega arith) a.out.now _ (λ i. omega (arith, c.before.before.before.before.before.before.before.before.before.before.before.before.shared-slice-known2.given i)) l.0 l.1 c.before.before.before.before.before.if1.false (over_128 a.map.now a.address.now w.0) (ends_128 a.map.now a.address.now w.1.0)
 
 pub walk-in-list-spec : {M : Type 1} → statement M
 walk-in-list-spec =

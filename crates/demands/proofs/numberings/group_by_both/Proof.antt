@@ -2,7 +2,7 @@
 -- Assumes nothing.
 use mathlib.Core.Path.{refl}
 use native.Mathlib.Omega.{arith}
-use Rattle.demand_statements.proofs.PickAnswers.{group-concluded, prefix-concluded}
+use Rattle.demand_statements.proofs.PickAnswers.{group_concluded, prefix_concluded}
 use Rattle.demand_statements.proofs.ApartLaws.{renumbered}
 use borrow.Author.Rules.{rules}
 use Rattle.demands.proofs.numberings.group_by_both.Statement.{statement}
@@ -27,9 +27,9 @@ returns-2 : tie.Need-returns-2
 returns-2 c =
     let x = c.before.before.before.before.before.before.before.args.candidate.now in
     let q = c.corbastrigo-netgroup.ensures in
-    let old = (prefix-concluded x c.before.before.before.before.corbastrigo-prefix-group.ensures).0 in
-    let new = (group-concluded 0 _ x q.0 q.1).0 in
-    λ z. renumbered x _ _ (old (omega arith)) ((new z).by-prefix refl)
+    let old = (prefix_concluded x c.before.before.before.before.corbastrigo-prefix-group.ensures).0 in
+    let new = (group_concluded 0 _ x q.0 q.1).0 in
+    λ z. renumbered x _ _ (old (omega arith)) ((new z).by_prefix refl)
 
 pub group-by-both-spec : {M : Type 1} → statement M
 group-by-both-spec =

@@ -2,7 +2,7 @@
 -- Assumes nothing.
 use mathlib.Core.Path.{refl}
 use native.Mathlib.Omega.{arith}
-use Rattle.demand_statements.proofs.PickAnswers.{group-concluded}
+use Rattle.demand_statements.proofs.PickAnswers.{group_concluded}
 use Rattle.demand_statements.proofs.ApartLaws.{apart}
 use borrow.Author.Rules.{rules}
 use Rattle.demands.proofs.numberings.groups_apart.Statement.{statement}
@@ -34,10 +34,10 @@ returns-2 c =
     let a = c.before.before.before.before.before.before.before.before.before.args in
     let p = c.before.before.before.before.corbastrigo-netgroup.ensures in
     let q = c.corbastrigo-netgroup2.ensures in
-    let g = (group-concluded 0 _ a.candidate.now p.0 p.1).0 in
-    let h = (group-concluded 0 _ a.other.now q.0 q.1).0 in
+    let g = (group_concluded 0 _ a.candidate.now p.0 p.1).0 in
+    let h = (group_concluded 0 _ a.other.now q.0 q.1).0 in
     λ z.
-    apart a.candidate.now a.other.now _ _ (λ i. omega (arith, c.before.before.before.before.before.before.before.before.shared-slice-known.given i)) (λ i. omega (arith, c.before.before.before.before.before.before.before.shared-slice-known2.given i)) ((g (omega arith)).by-prefix refl) ((h z).by-prefix refl)
+    apart a.candidate.now a.other.now _ _ (λ i. omega (arith, c.before.before.before.before.before.before.before.before.shared-slice-known.given i)) (λ i. omega (arith, c.before.before.before.before.before.before.before.shared-slice-known2.given i)) ((g (omega arith)).by_prefix refl) ((h z).by_prefix refl)
 
 pub groups-apart-spec : {M : Type 1} → statement M
 groups-apart-spec =

@@ -1,7 +1,7 @@
 -- By what the call promises.
 -- Assumes nothing.
 use borrow.Author.Rules.{rules}
-use Rattle.demand_statements.proofs.PageAnswers.{old-page-concluded}
+use Rattle.demand_statements.proofs.PageAnswers.{old_page_concluded}
 use Rattle.demands.proofs.pages.page_by_old_prefixes.Statement.{statement}
 use Rattle.demands.proofs.pages.page_by_old_prefixes.Tie as tie
 
@@ -15,7 +15,7 @@ returns : tie.Need-returns
 returns c =
     let a = c.before.before.before.before.before.before.before.args in
     let p = c.before.before.corbastrigo-old-prefix-page.ensures in
-    old-page-concluded a.candidates.now a.out.now _ p.0 p.1
+    old_page_concluded a.candidates.now a.out.now _ p.0 p.1
 
 pub page-by-old-prefixes-spec : {M : Type 1} → statement M
 page-by-old-prefixes-spec =

@@ -1,7 +1,7 @@
 -- By what the call promises.
 -- Assumes nothing.
 use borrow.Author.Rules.{rules}
-use Rattle.demand_statements.proofs.PageAnswers.{page-concluded}
+use Rattle.demand_statements.proofs.PageAnswers.{page_concluded}
 use Rattle.demands.proofs.pages.spread_page.Statement.{statement}
 use Rattle.demands.proofs.pages.spread_page.Tie as tie
 
@@ -15,7 +15,7 @@ returns : tie.Need-returns
 returns c =
     let a = c.before.before.before.before.before.before.before.before.args in
     let p = c.before.before.corbastrigo-page.ensures in
-    page-concluded a.map.now a.candidates.now a.out.now _ a.has-map p.0 p.1.0 p.1.1
+    page_concluded a.map.now a.candidates.now a.out.now _ a.has-map p.0 p.1.0 p.1.1
 
 pub spread-page-spec : {M : Type 1} → statement M
 spread-page-spec = tie.close (tie.spec corbastrigo-page-requires same_length returns)

@@ -1,6 +1,6 @@
 -- By what the call promises.
 -- Assumes nothing.
-use Rattle.demand_statements.proofs.PickAnswers.{old-pick-concluded}
+use Rattle.demand_statements.proofs.PickAnswers.{old_pick_concluded}
 use borrow.Author.Rules.{rules}
 use Rattle.demands.proofs.picks.pick_by_old_prefixes.Statement.{statement}
 use Rattle.demands.proofs.picks.pick_by_old_prefixes.Tie as tie
@@ -18,7 +18,7 @@ returns : tie.Need-returns
 returns c =
     let a = c.before.before.before.before.before.before.before.before.before.before.before.before.before.before.before.args in
     let p = c.before.before.before.before.corbastrigo-old-prefix-pick.ensures in
-    old-pick-concluded a.candidates.now a.occupied.now a.max a.picks.now a.groups.now p.0 p.1
+    old_pick_concluded a.candidates.now a.occupied.now a.max a.picks.now a.groups.now p.0 p.1
 
 pub pick-by-old-prefixes-spec : {M : Type 1} → statement M
 pick-by-old-prefixes-spec =

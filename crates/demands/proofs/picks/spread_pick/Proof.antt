@@ -1,6 +1,6 @@
 -- By what the calls promise.
 -- Assumes nothing.
-use Rattle.demand_statements.proofs.PickAnswers.{pick-concluded}
+use Rattle.demand_statements.proofs.PickAnswers.{pick_concluded}
 use borrow.Author.Rules.{rules}
 use Rattle.demands.proofs.picks.spread_pick.Statement.{statement}
 use Rattle.demands.proofs.picks.spread_pick.Tie as tie
@@ -18,7 +18,7 @@ returns : tie.Need-returns
 returns c =
     let a = c.before.before.before.before.before.before.before.before.before.before.before.before.before.before.before.before.args in
     let p = c.before.before.before.before.corbastrigo-select-diverse.ensures in
-    pick-concluded a.map.now a.candidates.now a.occupied.now a.max a.picks.now a.groups.now a.has-map p.0 p.1.0 p.1.1
+    pick_concluded a.map.now a.candidates.now a.occupied.now a.max a.picks.now a.groups.now a.has-map p.0 p.1.0 p.1.1
 
 pub spread-pick-spec : {M : Type 1} → statement M
 spread-pick-spec =

@@ -1,9 +1,9 @@
--- By what the two calls promise (`unpacked-again`).
+-- By what the two calls promise (`unpacked_again`).
 -- Assumes nothing.
 use mathlib.Core.Path.{sym}
 use native.Mathlib.Omega.{arith}
 use lib.Seq.{length-take-le}
-use Rattle.demand_statements.proofs.TripLaws.{wrote, inside, unpacked-again}
+use Rattle.demand_statements.proofs.TripLaws.{wrote, inside, unpacked_again}
 use borrow.Author.Rules.{rules}
 use Rattle.demands.proofs.same.packed_then_unpacked.Statement.{statement}
 use Rattle.demands.proofs.same.packed_then_unpacked.Tie as tie
@@ -34,7 +34,7 @@ same-length-3 c = search rules
 
 returns-2 : tie.Need-returns-2
 returns-2 c =
-    unpacked-again c.before.before.before.before.before.before.before.before.before.before.before.before.before.before.before.args.records.now 128 (λ i. omega (arith, c.before.before.before.before.before.before.before.before.before.before.before.before.before.before.shared-slice-known.given i)) c.before.before.before.before.before.before.before.before.before.corbastrigo-pack.ensures c.before.before.before.before.before.before.if1.false c.before.before.corbastrigo-unpack.ensures
+    unpacked_again c.before.before.before.before.before.before.before.before.before.before.before.before.before.before.before.args.records.now 128 (λ i. omega (arith, c.before.before.before.before.before.before.before.before.before.before.before.before.before.before.shared-slice-known.given i)) c.before.before.before.before.before.before.before.before.before.corbastrigo-pack.ensures c.before.before.before.before.before.before.if1.false c.before.before.corbastrigo-unpack.ensures
 
 pub packed-then-unpacked-spec : {M : Type 1} → statement M
 packed-then-unpacked-spec =

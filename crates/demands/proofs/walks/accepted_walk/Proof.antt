@@ -1,8 +1,8 @@
 -- By what the two calls promise (`unwalked`, `walked_on`).
 -- Assumes nothing.
 use mathlib.Core.Path.{refl}
-use Rattle.demand_statements.proofs.WalkLaws.{ends-128, numbers-128, unwalked, walked_on}
-use Rattle.demand_statements.proofs.MapAnswers.{over-128}
+use Rattle.demand_statements.proofs.WalkLaws.{ends_128, numbers_128, unwalked, walked_on}
+use Rattle.demand_statements.proofs.MapAnswers.{over_128}
 use borrow.Author.Rules.{rules}
 use Rattle.demands.proofs.walks.accepted_walk.Statement.{statement}
 use Rattle.demands.proofs.walks.accepted_walk.Tie as tie
@@ -20,7 +20,7 @@ returns-2 : tie.Need-returns-2
 returns-2 c =
     let a = c.before.before.before.before.before.before.before.before.before.before.before.args in
     let w = c.corbastrigo-interpret.ensures in
-    walked_on a.map.now a.address.now 128 refl c.before.before.before.before.before.before.corbastrigo-sanity-check.ensures.0 c.before.before.before.before.before.if1.false (over-128 a.map.now a.address.now w.0) (ends-128 a.map.now a.address.now w.1.0) (numbers-128 a.map.now a.address.now w.1.1)
+    walked_on a.map.now a.address.now 128 refl c.before.before.before.before.before.before.corbastrigo-sanity-check.ensures.0 c.before.before.before.before.before.if1.false (over_128 a.map.now a.address.now w.0) (ends_128 a.map.now a.address.now w.1.0) (numbers_128 a.map.now a.address.now w.1.1)
 
 pub accepted-walk-spec : {M : Type 1} → statement M
 accepted-walk-spec =

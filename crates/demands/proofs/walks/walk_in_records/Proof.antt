@@ -1,8 +1,8 @@
--- By what the two calls promise (`walk-listed`).
+-- By what the two calls promise (`walk_listed`).
 -- Assumes nothing.
-use Rattle.demand_statements.proofs.MapAnswers.{over-128}
-use Rattle.demand_statements.proofs.WalkLaws.{ends-128}
-use Rattle.demand_statements.proofs.RecordAnswers.{walk-listed}
+use Rattle.demand_statements.proofs.MapAnswers.{over_128}
+use Rattle.demand_statements.proofs.WalkLaws.{ends_128}
+use Rattle.demand_statements.proofs.RecordAnswers.{walk_listed}
 use borrow.Author.Rules.{rules}
 use Rattle.demands.proofs.walks.walk_in_records.Statement.{statement}
 use Rattle.demands.proofs.walks.walk_in_records.Tie as tie
@@ -26,7 +26,7 @@ returns-2 : tie.Need-returns-2
 returns-2 c =
     let a = c.before.before.before.before.before.before.before.before.before.before.before.before.before.before.args in
     let w = c.corbastrigo-interpret.ensures in
-    walk-listed a.map.now a.address.now 128 c.before.before.before.before.before.before.before.before.corbastrigo-unpack.ensures c.before.before.before.before.before.if1.false (over-128 a.map.now a.address.now w.0) (ends-128 a.map.now a.address.now w.1.0)
+    walk_listed a.map.now a.address.now 128 c.before.before.before.before.before.before.before.before.corbastrigo-unpack.ensures c.before.before.before.before.before.if1.false (over_128 a.map.now a.address.now w.0) (ends_128 a.map.now a.address.now w.1.0)
 
 pub walk-in-records-spec : {M : Type 1} → statement M
 walk-in-records-spec =

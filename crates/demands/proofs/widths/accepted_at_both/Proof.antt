@@ -1,7 +1,7 @@
--- By what the two calls promise (`not-at-32`, `also-at-128`).
+-- By what the two calls promise (`not_at_32`, `also_at_128`).
 -- Assumes nothing.
 use borrow.Author.Rules.{rules}
-use Rattle.demand_statements.proofs.WidthAnswers.{not-at-32, also-at-128}
+use Rattle.demand_statements.proofs.WidthAnswers.{not_at_32, also_at_128}
 use Rattle.demands.proofs.widths.accepted_at_both.Statement.{statement}
 use Rattle.demands.proofs.widths.accepted_at_both.Tie as tie
 
@@ -10,14 +10,14 @@ corbastrigo-sanity-check-bits-requires c κs = search rules
 
 returns : tie.Need-returns
 returns c =
-    not-at-32 c.before.before.before.before.before.args.map.now c.before.corbastrigo-sanity-check-bits.ensures.0 c.if1.true
+    not_at_32 c.before.before.before.before.before.args.map.now c.before.corbastrigo-sanity-check-bits.ensures.0 c.if1.true
 
 corbastrigo-sanity-check-requires : tie.Need-corbastrigo-sanity-check-requires
 corbastrigo-sanity-check-requires c κs = search rules
 
 returns-2 : tie.Need-returns-2
 returns-2 c =
-    also-at-128 c.before.before.before.before.before.before.before.before.args.map.now c.corbastrigo-sanity-check.ensures.0
+    also_at_128 c.before.before.before.before.before.before.before.before.args.map.now c.corbastrigo-sanity-check.ensures.0
 
 pub accepted-at-both-spec : {M : Type 1} → statement M
 accepted-at-both-spec =

@@ -1,7 +1,7 @@
--- By what the two calls promise (`unwalked-at`, `walked-on-at`).
+-- By what the two calls promise (`unwalked_at`, `walked_on_at`).
 -- Assumes nothing.
 use borrow.Author.Rules.{rules}
-use Rattle.demand_statements.proofs.WidthAnswers.{unwalked-at, walked-on-at}
+use Rattle.demand_statements.proofs.WidthAnswers.{unwalked_at, walked_on_at}
 use Rattle.demands.proofs.widths.accepted_walk.Statement.{statement}
 use Rattle.demands.proofs.widths.accepted_walk.Tie as tie
 
@@ -11,7 +11,7 @@ corbastrigo-sanity-check-bits-requires c κs = search rules
 returns : tie.Need-returns
 returns c =
     let a = c.before.before.before.before.before.before.args in
-    let u = unwalked-at a.map.now a.address.now a.width c.before.corbastrigo-sanity-check-bits.ensures.0 c.if1.true in
+    let u = unwalked_at a.map.now a.address.now a.width c.before.corbastrigo-sanity-check-bits.ensures.0 c.if1.true in
     (λ h. (u h).0, λ h. (u h).1)
 
 corbastrigo-interpret-bits-requires : tie.Need-corbastrigo-interpret-bits-requires
@@ -21,7 +21,7 @@ returns-2 : tie.Need-returns-2
 returns-2 c =
     let a = c.before.before.before.before.before.before.before.before.before.before.before.args in
     let w = c.corbastrigo-interpret-bits.ensures in
-    let u = walked-on-at a.map.now a.address.now a.width c.before.before.before.before.before.before.corbastrigo-sanity-check-bits.ensures.0 c.before.before.before.before.before.if1.false w.0 w.1.0 w.1.1 in
+    let u = walked_on_at a.map.now a.address.now a.width c.before.before.before.before.before.before.corbastrigo-sanity-check-bits.ensures.0 c.before.before.before.before.before.if1.false w.0 w.1.0 w.1.1 in
     (λ h. (u h).0, λ h. (u h).1)
 
 pub accepted-walk-spec : {M : Type 1} → statement M

@@ -1,11 +1,11 @@
--- By what the two calls promise (`unpacked-again-at`).
+-- By what the two calls promise (`unpacked_again_at`).
 -- Assumes nothing.
 use borrow.Author.Rules.{rules}
 use mathlib.Core.Path.{sym}
 use native.Mathlib.Omega.{arith}
 use lib.Seq.{length-take-le}
 use Rattle.demand_statements.proofs.TripLaws.{wrote, inside}
-use Rattle.demand_statements.proofs.WidthAnswers.{unpacked-again-at}
+use Rattle.demand_statements.proofs.WidthAnswers.{unpacked_again_at}
 use Rattle.demands.proofs.widths.packed_then_unpacked.Statement.{statement}
 use Rattle.demands.proofs.widths.packed_then_unpacked.Tie as tie
 
@@ -38,7 +38,7 @@ same-length-3 c = search rules
 returns-2 : tie.Need-returns-2
 returns-2 c =
     let a = c.before.before.before.before.before.before.before.before.before.before.before.before.before.before.before.args in
-    unpacked-again-at a.records.now a.width (λ i. omega (arith, c.before.before.before.before.before.before.before.before.before.before.before.before.before.before.shared-slice-known.given i)) c.before.before.before.before.before.before.before.before.before.corbastrigo-pack.ensures c.before.before.before.before.before.before.if1.false c.before.before.corbastrigo-unpack-bits.ensures
+    unpacked_again_at a.records.now a.width (λ i. omega (arith, c.before.before.before.before.before.before.before.before.before.before.before.before.before.before.shared-slice-known.given i)) c.before.before.before.before.before.before.before.before.before.corbastrigo-pack.ensures c.before.before.before.before.before.before.if1.false c.before.before.corbastrigo-unpack-bits.ensures
 
 pub packed-then-unpacked-spec : {M : Type 1} → statement M
 packed-then-unpacked-spec =

@@ -1,8 +1,8 @@
--- By what the two calls promise (`walk-in-list-at`).
+-- By what the two calls promise (`walk_in_list_at`).
 -- Assumes nothing.
 use borrow.Author.Rules.{rules}
 use native.Mathlib.Omega.{arith}
-use Rattle.demand_statements.proofs.WidthAnswers.{walk-in-list-at}
+use Rattle.demand_statements.proofs.WidthAnswers.{walk_in_list_at}
 use Rattle.demands.proofs.widths.walk_in_list.Statement.{statement}
 use Rattle.demands.proofs.widths.walk_in_list.Tie as tie
 
@@ -26,7 +26,7 @@ returns-2 c =
     let a = c.before.before.before.before.before.before.before.before.before.before.before.before.before.before.args in
     let l = c.before.before.before.before.before.before.before.before.corbastrigo-list-bits.ensures in
     let w = c.corbastrigo-interpret-bits.ensures in
-    walk-in-list-at a.map.now a.address.now a.width a.out.now _ (λ i. omega (arith, c.before.before.before.before.before.before.before.before.before.before.before.before.shared-slice-known2.given i)) l.0 l.1 c.before.before.before.before.before.if1.false w.0 w.1.0
+    walk_in_list_at a.map.now a.address.now a.width a.out.now _ (λ i. omega (arith, c.before.before.before.before.before.before.before.before.before.before.before.before.shared-slice-known2.given i)) l.0 l.1 c.before.before.before.before.before.if1.false w.0 w.1.0
 
 pub walk-in-list-spec : {M : Type 1} → statement M
 walk-in-list-spec =

@@ -1,7 +1,7 @@
--- By what the two calls promise (`walk-listed-at`).
+-- By what the two calls promise (`walk_listed_at`).
 -- Assumes nothing.
 use borrow.Author.Rules.{rules}
-use Rattle.demand_statements.proofs.WidthAnswers.{walk-listed-at}
+use Rattle.demand_statements.proofs.WidthAnswers.{walk_listed_at}
 use Rattle.demands.proofs.widths.walk_in_records.Statement.{statement}
 use Rattle.demands.proofs.widths.walk_in_records.Tie as tie
 
@@ -24,7 +24,7 @@ returns-2 : tie.Need-returns-2
 returns-2 c =
     let a = c.before.before.before.before.before.before.before.before.before.before.before.before.before.before.args in
     let w = c.corbastrigo-interpret-bits.ensures in
-    walk-listed-at a.map.now a.address.now a.width c.before.before.before.before.before.before.before.before.corbastrigo-unpack-bits.ensures c.before.before.before.before.before.if1.false w.0 w.1.0
+    walk_listed_at a.map.now a.address.now a.width c.before.before.before.before.before.before.before.before.corbastrigo-unpack-bits.ensures c.before.before.before.before.before.if1.false w.0 w.1.0
 
 pub walk-in-records-spec : {M : Type 1} → statement M
 walk-in-records-spec =

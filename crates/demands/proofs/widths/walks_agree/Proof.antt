@@ -1,7 +1,7 @@
--- By what the three calls promise (`agreed-at`).
+-- By what the three calls promise (`agreed_at`).
 -- Assumes nothing.
 use borrow.Author.Rules.{rules}
-use Rattle.demand_statements.proofs.WidthAnswers.{agreed-at}
+use Rattle.demand_statements.proofs.WidthAnswers.{agreed_at}
 use Rattle.demands.proofs.widths.walks_agree.Statement.{statement}
 use Rattle.demands.proofs.widths.walks_agree.Tie as tie
 
@@ -35,7 +35,7 @@ returns-3 c =
     let l = c.before.before.before.before.before.before.before.before.before.before.before.before.before.before.corbastrigo-compare-bytes-bits.ensures in
     let o = c.before.before.before.before.before.before.corbastrigo-interpret-bits.ensures in
     let n = c.corbastrigo-interpret-bits2.ensures in
-    agreed-at a.old-map.now a.new-map.now a.address.now a.width a.first.now _ l.0 l.1 c.before.before.before.before.before.before.before.before.before.before.before.if1.false o.0 o.1.0 c.before.before.before.before.before.if2.false n.0 n.1.0
+    agreed_at a.old-map.now a.new-map.now a.address.now a.width a.first.now _ l.0 l.1 c.before.before.before.before.before.before.before.before.before.before.before.if1.false o.0 o.1.0 c.before.before.before.before.before.if2.false n.0 n.1.0
 
 pub walks-agree-spec : {M : Type 1} → statement M
 walks-agree-spec =

@@ -1,4 +1,4 @@
--- `byte` is `withByte`, by the room that is left.
+-- `byte` is `with_byte`, by the room that is left.
 -- Assumes nothing.
 use borrow.Author.Rules.{rules}
 use borrow.Author.Tests.{lt-ltb, le-ltb}

@@ -5,7 +5,7 @@ use mathlib.Core.Path.{◌≡◌, ◌∙◌, refl, sym, ap}
 use Prim.Native.Nat.{ℕ, suc, ◌-◌, ◌/◌}
 use native.Mathlib.Omega.{arith}
 use Rattle.replay_outcomes.specs.declared.Out.{Out}
-use Rattle.replay_outcomes.specs.Answers.{withByte, with_number}
+use Rattle.replay_outcomes.specs.Answers.{with_byte, with_number}
 use Rattle.replay_outcomes.proofs.Out.number.Statement.{statement}
 use Rattle.replay_outcomes.proofs.Out.number.Tie as tie
 
@@ -35,7 +35,7 @@ unfolding with_number
 loop-again c =
     let l = c.before.before.before.loop in
     let e : l.left ≡ suc (l.left - 1) = omega arith in
-    let o = c.byte.ensures ∙ ap (λ (x : ℕ). withByte l.out x) c.before.low.ensures in
+    let o = c.byte.ensures ∙ ap (λ (x : ℕ). with_byte l.out x) c.before.low.ensures in
     l.invariant ∙ ap (λ (n : ℕ). with_number n l.out l.rest) e ∙ ap (λ (out : Out). with_number (l.left - 1) out (l.rest / 256)) (sym o)
 
 returns : tie.Need-returns invariant-loop decreases-loop

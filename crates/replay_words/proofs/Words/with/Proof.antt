@@ -1,4 +1,4 @@
--- `with` is `withWord`, by the two cases of a word's end and the room that is left.
+-- `with` is `with_word`, by the two cases of a word's end and the room that is left.
 -- Assumes nothing.
 use borrow.Author.Rules.{rules}
 use borrow.Author.Tests.{lt-ltb, le-ltb}
@@ -10,18 +10,18 @@ use lib.ListN.{set}
 use Rattle.replay_words.specs.declared.Words.{Words}
 use Rattle.replay_words.specs.declared.WordEnd.{WordEnd}
 use Rattle.replay_words.specs.declared.WordEnd.TheVariants.{At, Unread}
-use Rattle.replay_words.specs.Words.{withWord}
+use Rattle.replay_words.specs.Words.{with_word}
 use Rattle.replay_words.proofs.Words.with.Statement.{statement}
 use Rattle.replay_words.proofs.Words.with.Tie as tie
 
-unread : (w : Words) (e : WordEnd) → e ≡ Unread → record { count = w.count; unread = true; ends = w.ends; last = w.last } ≡ withWord w e
-unread w e h = sym (ap (withWord w) h)
+unread : (w : Words) (e : WordEnd) → e ≡ Unread → record { count = w.count; unread = true; ends = w.ends; last = w.last } ≡ with_word w e
+unread w e h = sym (ap (with_word w) h)
 
 kept : (w : Words) (e : WordEnd) (p : ℕ) → e ≡ At p → w.count < 9
-    → record { count = w.count + 1; unread = w.unread; ends = set w.ends (w.count + 1) p; last = p } ≡ withWord w e
+    → record { count = w.count + 1; unread = w.unread; ends = set w.ends (w.count + 1) p; last = p } ≡ with_word w e
 kept w e p h l = rw (h, lt-ltb w.count 9 l)
 
-full : (w : Words) (e : WordEnd) (p : ℕ) → e ≡ At p → 9 ≤ w.count → w ≡ withWord w e
+full : (w : Words) (e : WordEnd) (p : ℕ) → e ≡ At p → 9 ≤ w.count → w ≡ with_word w e
 full w e p h l = rw (h, le-ltb w.count 9 l)
 
 enum-known-end : tie.Need-enum-known-end
