@@ -1,5 +1,7 @@
 // What a call that writes bytes came to, or one that tells how many it would write, as numbers: unpack and pack (document 01, Unpack and
 // pack), the listing (document 02, CR 1), the comparison and the page (CR 4). The exported calls hand it out by these functions.
+#![tactic(auto)]
+
 ghost use Rattle.std.specs.Prelude.{◌≡◌, ◌∷◌, []};
 ghost use Rattle.answer_outcome.specs.Outcome.{handed};
 ghost use Rattle.answer_bytes.specs.Bytes.{bytes_written, bytes_needed};

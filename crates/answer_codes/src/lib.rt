@@ -1,4 +1,6 @@
 // What reading and writing codes and instructions came to (document 01, Codes), as numbers. The exported calls hand it out by these functions.
+#![tactic(auto)]
+
 ghost use Rattle.std.specs.Prelude.{◌≡◌, ◌∷◌, []};
 ghost use Rattle.answer_outcome.specs.Outcome.{handed};
 ghost use Rattle.answer_codes.specs.Codes.{code_read, instruction_read, bits_written};

@@ -1,5 +1,7 @@
 // What a draw came to (document 02, CR 6), as numbers. The exported call hands it out by this function; what a load came to is handed out as other
 // written bytes are (`answer_bytes`).
+#![tactic(auto)]
+
 ghost use Rattle.std.specs.Prelude.{◌≡◌, ◌∷◌, []};
 ghost use Rattle.answer_outcome.specs.Outcome.{handed};
 ghost use Rattle.answer_draws.specs.Draws.{number_drawn};

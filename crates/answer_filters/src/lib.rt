@@ -1,4 +1,6 @@
 // What the filters came to (document 01, Filters), as numbers: 1 for yes, 0 for no. The exported calls hand it out by these functions.
+#![tactic(auto)]
+
 ghost use Rattle.std.specs.Prelude.{◌≡◌, ◌∷◌, []};
 ghost use Rattle.netaddr.specs.Answer.{filtered_as, relay_as};
 ghost use Rattle.answer_outcome.specs.Outcome.{handed};

@@ -1,5 +1,7 @@
 // What the group calls, the occupied scan and the picks came to (document 01, Groups and pick), as numbers; and what a number says of a map
 // or none. The exported calls hand it out by these functions.
+#![tactic(auto)]
+
 ghost use Rattle.std.specs.Prelude.{◌≡◌, ◌∷◌, []};
 ghost use Rattle.answer_outcome.specs.Outcome.{handed};
 ghost use Rattle.answer_groups.specs.Groups.{grouping_of, group_found, scan_made, pick_made};

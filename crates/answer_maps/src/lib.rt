@@ -1,4 +1,6 @@
 // What check and walk came to (document 01, Check, Walk), as numbers. The exported calls hand it out by these functions.
+#![tactic(auto)]
+
 ghost use Rattle.std.specs.Prelude.{◌≡◌, ◌∷◌, []};
 ghost use Rattle.answer_outcome.specs.Outcome.{handed};
 ghost use Rattle.answer_maps.specs.Maps.{map_checked, check_stopped, kind_number, walk_made};

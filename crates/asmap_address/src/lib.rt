@@ -1,5 +1,7 @@
 // An address (document 01, Walk): its bits, one by one and several at once, beside those that a MATCH compares with them; and the
 // 16 bytes of an IPv4 address.
+#![tactic(auto)]
+
 ghost use Rattle.std.specs.Prelude.{◌≡◌, [], ◌∷◌, ℕ, ◌+◌, ◌-◌, ◌*◌, ◌%◌, ◌^◌, ◌≤◌, ◌<◌, eqb, length, get_or};
 ghost use Rattle.std.specs.Int.Bits.{bit_xor};
 ghost use Rattle.asmap_program.specs.Map.{address_bit, bit_of, ipv4_mapped, Width};

@@ -1,5 +1,7 @@
 // Bits written at a place of a lent output (document 01, Codes: a map's bits run from the lowest bit of each byte upward). A word
 // is pushed after the bits before it, and at the end the bits still held go out, the last byte padded with zeros.
+#![tactic(auto)]
+
 ghost use Rattle.std.specs.Prelude.{◌≡◌, true, ◌&&◌, [], ◌+◌, ◌*◌, ◌^◌, ◌≤◌, ◌<◌, length};
 ghost use Rattle.asmap_codes.specs.Bits.{low};
 ghost use Rattle.asmap_codes.specs.Row.{type_row, operand_row, in_range};

@@ -5,6 +5,8 @@
 // down and from the map's last bit to its first: a half with bit 1, then the half with bit 0 beside it, then their JUMP. It is made twice, first to
 // count the bits and then to write them, so that nothing is written where the map or the output is too long or too short. What it keeps is where
 // it stands and, for each length of prefix, how many bits there were when a half with bit 0 was begun.
+#![tactic(auto)]
+
 ghost use Rattle.std.specs.Prelude.{◌≡◌, ℕ, ◌≤◌, length, get_or};
 ghost use Rattle.prefix_records.specs.models.Cursor.{value_of};
 ghost use Rattle.prefix_lists.specs.declared.Judged.TheVariants.{Listed};

@@ -1,5 +1,7 @@
 // Two listings gone through side by side, each a state of its own: the pieces on which they differ, counted, and their records of 28 bytes where they
 // are wanted. Nothing of either listing is written down.
+#![tactic(auto)]
+
 ghost use Rattle.std.specs.Prelude.{◌≡◌, List, ◌++◌, ℕ, ◌*◌, ◌≤◌, length, eqb};
 ghost use Rattle.byte_numbers.specs.Numbers.{bytes4};
 ghost use Rattle.asmap_program.specs.Map.{limit};

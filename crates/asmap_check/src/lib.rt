@@ -1,5 +1,7 @@
 // The calls that check a map (document 01, Check): which maps are sane, the reason where one is not, where in the map the check stops, and how many
 // prefixes the map tells apart, which is counted on the way.
+#![tactic(auto)]
+
 ghost use Rattle.std.specs.Prelude.{◌≡◌, ◌≤◌, ltb, length};
 ghost use Rattle.asmap_program.specs.Map.{limit};
 ghost use Rattle.asmap_check.specs.models.Counted.{counted_as, counted_of, Few};

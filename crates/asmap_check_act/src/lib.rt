@@ -1,5 +1,7 @@
 // What the check does at one instruction (document 01, Check), on numbers: it reads the instruction and says what the loop of
 // `asmap_check` is to carry out, or why the map is refused.
+#![tactic(auto)]
+
 ghost use Rattle.std.specs.Prelude.{◌≡◌, ◌&&◌, ltb, ◌*◌, ◌^◌, ◌≤◌, ◌<◌, length};
 ghost use Rattle.asmap_program.specs.Map.{limit};
 ghost use Rattle.asmap_program.specs.Check.{is_default, is_short};

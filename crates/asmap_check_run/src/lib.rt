@@ -4,6 +4,8 @@
 // the map and numbers but never the state, which a call copies with both its arrays. The loop here (`run_check`) carries the act out; the
 // state passes through three methods alone, which touch its numbers only. A method that indexed an array would have both arrays, 640 bytes,
 // copied to it and back at each call; so the loop itself stores an open jump and reads it.
+#![tactic(auto)]
+
 ghost use Rattle.std.specs.Prelude.{◌≡◌, ◌+◌, ◌-◌, ◌≤◌, ◌<◌, max, length};
 ghost use Rattle.asmap_program.specs.Map.{limit};
 ghost use Rattle.asmap_program.specs.Check.{after_match};

@@ -1,5 +1,7 @@
 // The parts of a value's code (document 01, Codes): which size of a row has the value, how many ones stand before it, and the number
 // in the size's bits. A code's bits tell its parts, so these are one for each value.
+#![tactic(auto)]
+
 ghost use Rattle.std.specs.Prelude.{◌≡◌, true, ◌+◌, ◌^◌, ◌≤◌, ◌<◌, length};
 ghost use Rattle.asmap_codes.specs.Row.{type_row, asn_row, match_row, jump_row, operand_row, span};
 ghost use Rattle.asmap_codes.specs.models.Grown.{slow};

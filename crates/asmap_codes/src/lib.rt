@@ -1,5 +1,7 @@
 // The codes of an asmap program (document 01, Codes): the four rows of sizes, and what reading hands back. The decoder is
 // `asmap_decode`, the writer `asmap_encode`; both stand on the definitions and laws of this crate.
+#![tactic(auto)]
+
 ghost use Rattle.std.specs.Prelude.{◌≡◌, ◌+◌, ◌-◌, ◌*◌, ◌/◌, ◌^◌, ◌≤◌, ◌<◌, eqb, length, get_or};
 ghost use Rattle.asmap_codes.specs.Row.{type_row, asn_row, match_row, jump_row};
 ghost use Rattle.asmap_codes.specs.models.Grown.{stops};

@@ -1,5 +1,7 @@
 // Two maps compared for every address: the pieces on which their listings differ, as records of 28 bytes in a lent output, and how many bytes that
 // takes.
+#![tactic(auto)]
+
 ghost use Rattle.std.specs.Prelude.{true, ◌≤◌, length};
 ghost use Rattle.asmap_records.specs.Output.{Made, Hands};
 ghost use Rattle.prefix_changes.specs.Record.{change_records_of};

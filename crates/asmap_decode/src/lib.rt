@@ -1,5 +1,7 @@
 // The calls that read a code or an instruction (document 01, Codes): any map, any bit; 1 for a map over the limit, then 4 or 19 for the code that
 // is cut (document 02, CR 5).
+#![tactic(auto)]
+
 ghost use Rattle.std.specs.Prelude.{◌≡◌, true};
 ghost use Rattle.asmap_codes.specs.Row.{type_row, asn_row, match_row, jump_row, Fit};
 ghost use Rattle.asmap_codes.specs.models.Grown.{slow};

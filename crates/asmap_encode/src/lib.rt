@@ -1,4 +1,6 @@
 // Writing codes and instructions (document 01, Codes): bits in a word, by the parts of their codes.
+#![tactic(auto)]
+
 ghost use Rattle.std.specs.Prelude.{◌≡◌, ◌^◌, ◌≤◌, ◌<◌};
 ghost use Rattle.asmap_codes.specs.Row.{type_row, asn_row, match_row, jump_row};
 ghost use Rattle.asmap_encode.specs.models.Words.{Short, Shortened, after, written_as, length_written};

@@ -1,5 +1,7 @@
 // Bits written before others in a lent output, from its end to its start (document 02, CR 8: lengths must be known before bits are written, so a
 // map is built from its end). Fewer than 8 bits are held, and whole bytes go out.
+#![tactic(auto)]
+
 ghost use Rattle.std.specs.Prelude.{◌≡◌, ◌+◌, ◌^◌, ◌≤◌, ◌<◌, length};
 ghost use Rattle.asmap_codes.specs.Bits.{low};
 ghost use Rattle.asmap_front_writer.specs.models.Front.{Room, Moved, Ready, Emitted};

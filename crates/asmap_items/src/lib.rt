@@ -1,5 +1,7 @@
 // What a bit reader reads (document 01, Forms and Codes), on a plain slice and a number: one bit, or a code of one of the four rows; the place after
 // it, and how many bits are left there.
+#![tactic(auto)]
+
 ghost use Rattle.std.specs.Prelude.{◌≡◌};
 ghost use Rattle.asmap_items.specs.Items.{read_bit, read_item, place_after, bits_left};
 

@@ -1,5 +1,7 @@
 // The listing calls (document 02, CR 1): every prefix that a map tells apart, as records of 24 bytes in a lent output, and how many bytes that
 // takes. The check counts the pieces, so that an output too short is refused before the first byte is written.
+#![tactic(auto)]
+
 ghost use Rattle.std.specs.Prelude.{◌≡◌, ◌*◌, ◌≤◌, length};
 ghost use Rattle.std.proofs.lemmas.List.Edits.{sets};
 ghost use Rattle.asmap_program.specs.Map.{limit};

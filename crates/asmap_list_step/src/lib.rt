@@ -7,6 +7,8 @@
 //
 // What is still to come (a JUMP's second half with its default, or a side that differs with its number) is a stack. Each entry has used an address
 // bit of its own, so that 128 places suffice. It lies in two lent arrays and not in the state: a state by value that holds them would be copied.
+#![tactic(auto)]
+
 ghost use Rattle.std.specs.Prelude.{◌≡◌, true, false, List, ℕ, ◌≤◌, ◌<◌, length};
 ghost use Rattle.asmap_program.specs.Map.{limit, RETURN, JUMP, MATCH, DEFAULT};
 ghost use Rattle.asmap_codes.specs.Row.{asn_row, jump_row, match_row};

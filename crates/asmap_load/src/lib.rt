@@ -3,6 +3,8 @@
 //
 // The draws are made twice, first to find how long the load is and then to write it: an output too short is refused before the first byte
 // goes out, and no load is held in between.
+#![tactic(auto)]
+
 ghost use Rattle.std.specs.Prelude.{◌≡◌, ◌*◌, ◌≤◌, length};
 ghost use Rattle.std.proofs.lemmas.List.Edits.{sets};
 ghost use Rattle.asmap_bit_writer.specs.Bytes.{bytes_of};

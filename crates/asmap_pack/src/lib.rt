@@ -1,4 +1,6 @@
 // Pack (document 01, Unpack and pack): the bits of records as a map's bytes in a lent output. It runs no check.
+#![tactic(auto)]
+
 ghost use Rattle.std.specs.Prelude.{◌≡◌, List, ℕ, ◌+◌, ◌*◌, ◌/◌, ◌%◌, ◌≤◌, length, drop};
 ghost use Rattle.std.proofs.lemmas.List.Edits.{sets};
 ghost use Rattle.asmap_bit_writer.specs.Bytes.{bytes_of};

@@ -1,5 +1,7 @@
 // What an asmap program is, apart from its bits: the types and limits that the definitions of specs/ and the code of the
 // other crates share. No bit is decoded here.
+#![tactic(auto)]
+
 ghost use Rattle.std.specs.Prelude.{◌≡◌, ◌<◌};
 ghost use Rattle.asmap_program.specs.Map.{length_of, Width};
 ghost use Rattle.asmap_program.specs.Map as opcode;

@@ -1,6 +1,8 @@
 // The bit reader (document 01, Forms): a small struct that borrows a map and carries the index of the bit that comes next. Each
 // function over it is proved by hand, so they are few and thin: they take the reader apart and leave the work to `asmap_items`, whose
 // functions take a plain slice and a number. A caller that holds no reader uses `read_at`.
+#![tactic(auto)]
+
 ghost use Rattle.std.specs.Prelude.{◌≡◌};
 ghost use Rattle.asmap_items.specs.Items.{bits_left};
 ghost use Rattle.asmap_reader.specs.Reader.{moved_to, read_by, step_at};

@@ -2,6 +2,8 @@
 // they undo each other. The calls themselves are `asmap_unpack::unpack` and `asmap_pack::pack`.
 
 // What unpack and pack hand back: how many bytes they wrote, or document 01's number.
+#![tactic(auto)]
+
 #[derive(Drop)]
 pub enum Answer {
     Wrote(usize),

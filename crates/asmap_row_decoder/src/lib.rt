@@ -1,5 +1,7 @@
 // The one decoder over the four rows of sizes (document 01, Codes): a code read from a window, a number that holds the map's bits
 // from a place on. Check, walk and the calls that read a code all stand on it.
+#![tactic(auto)]
+
 ghost use Rattle.std.specs.Prelude.{◌≡◌, true, ◌+◌, ◌^◌, ◌≤◌, ◌<◌, leb, length, drop};
 ghost use Rattle.asmap_codes.specs.Bits.{map_bits, number, low};
 ghost use Rattle.asmap_codes.specs.Row.{type_row, asn_row, match_row, jump_row, operand_row, span};

@@ -1,4 +1,6 @@
 // Unpack (document 01, Unpack and pack): an accepted map's instructions, in order, as records of 16 bytes in a lent output.
+#![tactic(auto)]
+
 ghost use Rattle.std.specs.Prelude.{◌≡◌, ℕ, ◌+◌, ◌*◌, ◌≤◌, ◌<◌, length};
 ghost use Rattle.std.proofs.lemmas.List.Edits.{sets};
 ghost use Rattle.asmap_program.specs.Map.{limit};

@@ -1,4 +1,6 @@
 // The calls that walk a map by an address (document 01, Walk): which number an address is sent to, and how that was found out.
+#![tactic(auto)]
+
 ghost use Rattle.std.specs.Prelude.{◌≡◌, ◌*◌, ◌/◌};
 ghost use Rattle.asmap_walk.specs.Interpret.{interpret_over, interpret_of, interpret_at};
 ghost use Rattle.asmap_walk.specs.Promise.{Demand3, Demand3At, CoreNumber, CoreNumberAt};

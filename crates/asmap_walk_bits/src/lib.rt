@@ -1,4 +1,6 @@
 // The walk of a map by the first bits of an address (document 01, Walk), turn by turn: how it ends, of every map within the limit.
+#![tactic(auto)]
+
 ghost use Rattle.std.specs.Prelude.{◌≡◌, ◌*◌, ◌≤◌, length};
 ghost use Rattle.asmap_program.specs.Map.{limit};
 ghost use Rattle.asmap_program.specs.Walk.{walk_start};

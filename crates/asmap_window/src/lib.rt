@@ -1,4 +1,6 @@
 // The bits of a map from a place on (document 01, Codes): one, or as many as an instruction can have, as one number.
+#![tactic(auto)]
+
 ghost use Rattle.std.specs.Prelude.{◌≡◌, ◌+◌, ◌*◌, ◌≤◌, ◌<◌, length, get_or, drop};
 ghost use Rattle.asmap_codes.specs.Bits.{map_bits};
 ghost use Rattle.asmap_window.specs.models.Window.{Window};

@@ -1,5 +1,7 @@
 // Numbers in bytes: of four bytes, the lowest first, as the fields of records have them, read and written at a place; of eight bytes, the
 // highest first, as addresses have them, written; and several bytes looked at as one number, which compiles to one load.
+#![tactic(auto)]
+
 ghost use Rattle.std.specs.Prelude.{◌≡◌, [], ◌∷◌, ◌+◌, ◌*◌, ◌≤◌, length, take, drop};
 ghost use Rattle.std.proofs.lemmas.List.Edits.{sets};
 ghost use Rattle.byte_numbers.specs.Numbers.{big8, bytes4, number4};

@@ -1,5 +1,7 @@
 // A candidate's bytes: whether bytes are a candidate, and whether two rows of bytes are equal (document 01, Groups and pick). What lists
 // of candidates, the group calls and the pick share.
+#![tactic(auto)]
+
 ghost use Rattle.std.specs.Prelude.{◌≡◌, ◌≤◌, length, take};
 ghost use Rattle.candidate_bytes.specs.Candidate.{same, mapped, valid};
 

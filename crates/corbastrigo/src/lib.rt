@@ -6,6 +6,8 @@
 // - What was found goes out through the lent numbers and slices. A refused call leaves each of them as it was.
 // - Nothing is asked of the caller's data. A lent slice is a pointer and a length, in C two arguments; as in Rust no two lent
 //   outputs may overlap, nor an output and an input.
+#![tactic(auto)]
+
 pub mod builds;
 pub mod codes;
 pub mod filters;

@@ -1,4 +1,6 @@
 // Numbers in decimal, set flush right in columns (document 02, CR 4).
+#![tactic(auto)]
+
 ghost use Rattle.std.specs.Prelude.{◌≡◌, ◌+◌, ◌≤◌, ◌<◌, length};
 ghost use Rattle.std.proofs.lemmas.List.Edits.{sets};
 ghost use Rattle.decimal_columns.specs.Columns.{digit_byte, flush_right};

@@ -46,6 +46,8 @@
 // width walks to a RETURN with the number of the record in which it lies, or with the given one.
 //
 // Two maps compared: `comparisons`. Where a comparison needs no byte, the two walks by any address end with the same number.
+#![tactic(auto)]
+
 pub mod any_input;
 pub mod builds;
 pub mod comparisons;

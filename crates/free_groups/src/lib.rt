@@ -4,6 +4,8 @@
 // A group is marked at its number modulo 4,096 with its place among the used groups, counted from 1. Of two groups with one mark the later
 // place stands there, and the link of that place leads to the earlier one. So whoever asks for a group begins at its mark and follows the
 // links: these lead to all used groups that share the mark, and to no other.
+#![tactic(auto)]
+
 ghost use Rattle.std.specs.Prelude.{◌≡◌, ◌++◌, ◌+◌, ◌%◌, ◌≤◌, ◌<◌, length, replicate, take, get_or, set};
 ghost use Rattle.group_lists.specs.Groups.{has};
 ghost use Rattle.free_groups.specs.Free.{free};

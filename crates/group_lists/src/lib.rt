@@ -1,5 +1,7 @@
 // Lists of groups: whether a group is in one, and the occupied scan (document 02, CR 2). What the call of the scan and the free groups
 // of a pick share.
+#![tactic(auto)]
+
 ghost use Rattle.std.specs.Prelude.{◌≡◌, ◌+◌, ◌≤◌, length, take, drop};
 ghost use Rattle.group_lists.specs.Groups.{has};
 ghost use Rattle.group_lists.specs.Scan.{in_front, scan_of, Unread};

@@ -1,5 +1,7 @@
 // The generator of loads (document 02, CR 6): numbers drawn one after the other, the same for everyone who starts from the same seed. Shifts and
 // xors only, so that a team that has no use for this library can make the same draws in any language.
+#![tactic(auto)]
+
 ghost use Rattle.std.specs.Prelude.{◌≡◌, ◌≢◌, ℕ};
 ghost use Rattle.load_draws.specs.Draw.{default_seed, next, seeded_by, drawn_after};
 

@@ -1,4 +1,6 @@
 // The address filters (document 01, Filters): whether an address is unroutable, and which entries of an addrv2 message are not sent on.
+#![tactic(auto)]
+
 ghost use Rattle.std.specs.Prelude.{◌≡◌, true, length};
 ghost use Rattle.netaddr.specs.Answer.{filtered_as, relay_as};
 ghost use Rattle.netaddr.specs.Filter.{filter_of};

@@ -1,5 +1,7 @@
 // The IPv6 ranges of the address filters (document 01, Filters), but for IPv4 in its mapped form. An IPv6 address is an array of 16
 // bytes. Tests are joined by `&` and `|`, as those of IPv4 are.
+#![tactic(auto)]
+
 ghost use Rattle.std.specs.Prelude.{◌≡◌, ◌∷◌, [], ◌-◌, ◌≤◌};
 ghost use Rattle.netaddr_ranges.specs.Prefix.{within, ipv6};
 ghost use Rattle.netaddr_ranges.specs.Ranges.{scope_rows, special_rows, embedded_rows};

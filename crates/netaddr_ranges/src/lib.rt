@@ -1,5 +1,7 @@
 // The IPv4 ranges of the address filters (document 01, Filters). An IPv4 address is an array of 4 bytes. Tests are joined by `&` and
 // `|`, which ask both sides: the value of a test then is an expression that a contract can equate, where `&&` and `||` would branch.
+#![tactic(auto)]
+
 ghost use Rattle.std.specs.Prelude.{◌≡◌};
 ghost use Rattle.netaddr_ranges.specs.Prefix.{within, ipv4};
 ghost use Rattle.netaddr_ranges.specs.Unroutable.{unroutable4};

@@ -1,5 +1,7 @@
 // Which addresses are unroutable (document 01, Filters), by the ranges of `netaddr_ranges` and `netaddr_ipv6`. Most addresses are decided here
 // from a few bytes of the slice; arrays are made for the others only.
+#![tactic(auto)]
+
 ghost use Rattle.std.specs.Prelude.{◌≡◌, false, ◌∷◌, [], length};
 ghost use Rattle.netaddr_ranges.specs.Prefix.{within, ipv6};
 ghost use Rattle.netaddr_ranges.specs.Unroutable.{held, unroutable16};

@@ -1,4 +1,6 @@
 // The group of a peer (document 01, Groups and pick; document 02, CR 7): one candidate, and a map or none.
+#![tactic(auto)]
+
 ghost use Rattle.std.specs.Prelude.{◌≡◌, ◌+◌, ◌*◌, ◌≤◌, ◌<◌, cond, not, ◌&&◌, ◌||◌, eqb, length};
 ghost use Rattle.candidate_bytes.specs.Candidate.{family, mapped};
 ghost use Rattle.asmap_program.specs.Map.{limit};

@@ -1,4 +1,6 @@
 // The pick of peers that are spread over groups (document 01, Groups and pick).
+#![tactic(auto)]
+
 ghost use Rattle.std.specs.Prelude.{◌≡◌, min};
 ghost use Rattle.peer_lists.specs.Candidates.{candidates_of};
 ghost use Rattle.netgroup.specs.Group.{by_old_prefixes, numbering};

@@ -1,4 +1,6 @@
 // The lines of a page (document 02, CR 4): a group, how many candidates it has, and their per cent, in 25 bytes.
+#![tactic(auto)]
+
 ghost use Rattle.std.specs.Prelude.{◌≡◌, ◌+◌, ◌*◌, ◌≤◌, ◌<◌, length};
 ghost use Rattle.std.proofs.lemmas.List.Edits.{sets};
 ghost use Rattle.group_shares.specs.Spread.{share};

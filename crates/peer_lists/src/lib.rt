@@ -1,5 +1,7 @@
 // Lists of candidates: the one at a place, whether each is one, and why a list is refused (document 01, Groups and pick; What a call
 // hands back). What the group calls and the pick share.
+#![tactic(auto)]
+
 ghost use Rattle.std.specs.Prelude.{◌≡◌, [], ◌+◌, ◌/◌, ◌≤◌, ◌<◌, length, take, drop, get_or};
 ghost use Rattle.peer_lists.specs.Candidates.{candidates_of, all_valid};
 ghost use Rattle.peer_lists.specs.Refusal.{list_refusal};

@@ -1,4 +1,6 @@
 // The two passes of the pick (document 01, Groups and pick): the first over the candidates' groups, the second over the candidates.
+#![tactic(auto)]
+
 ghost use Rattle.std.specs.Prelude.{◌≡◌, [], ◌+◌, ◌/◌, ◌≤◌, ◌<◌, min, length, take, get_or};
 ghost use Rattle.peer_lists.specs.Candidates.{candidates_of};
 ghost use Rattle.free_groups.specs.models.Marks.{Linked};

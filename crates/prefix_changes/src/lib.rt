@@ -1,4 +1,6 @@
 // Two lists of pieces side by side: the pieces on which their numbers differ, what these tell of every address, and their records of 28 bytes.
+#![tactic(auto)]
+
 ghost use Rattle.std.specs.Prelude.{◌≡◌, ◌++◌, ◌+◌, ◌≤◌, length};
 ghost use Rattle.std.proofs.lemmas.List.Edits.{sets};
 ghost use Rattle.byte_numbers.specs.Numbers.{bytes4};

@@ -1,4 +1,6 @@
 // Lists of prefixes as records of 24 bytes (document 02, CR 8), read: the fields of a record, and whether a list may be built from.
+#![tactic(auto)]
+
 ghost use Rattle.std.specs.Prelude.{◌≡◌, ◌+◌, ◌-◌, ◌*◌, ◌%◌, ◌^◌, ◌≤◌, eqb, leb, length};
 ghost use Rattle.prefix_records.specs.models.Cursor.{value_of};
 ghost use Rattle.prefix_lists.specs.List.{big, zeros_at, earliest, fits, is_number, judge};

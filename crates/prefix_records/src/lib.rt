@@ -1,5 +1,7 @@
 // Prefixes as records (document 02, CR 1): pieces of the addresses, the law of those that tile, and records of 24 bytes. Pieces that tile begin
 // each where the one before it ends, so whoever writes them carries one address along and no prefix.
+#![tactic(auto)]
+
 ghost use Rattle.std.specs.Prelude.{◌≡◌, ◌+◌, ◌^◌, ◌<◌, ◌≤◌, length};
 ghost use Rattle.std.proofs.lemmas.List.Edits.{sets};
 ghost use Rattle.prefix_records.specs.models.Cursor.{Behind, record_at};

@@ -1,6 +1,8 @@
 // Runs of one number in a list of prefixes (document 02, CR 8: "all addresses of a subtree have one number, the given one between prefixes"), from
 // the highest address down. The list is read as pieces, each a prefix or the gap between two; a piece is found from where it ends, and a run is
 // joined of pieces, the last first.
+#![tactic(auto)]
+
 ghost use Rattle.std.specs.Prelude.{◌≡◌, ◌^◌, ◌≤◌, ◌<◌, eqb};
 ghost use Rattle.prefix_records.specs.models.Cursor.{value_of};
 ghost use Rattle.prefix_lists.specs.models.Listed.{Rising};

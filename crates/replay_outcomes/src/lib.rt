@@ -1,5 +1,7 @@
 // Answers as the list of answers has them, and what came of a line: our answer beside the one that the list has. It serves the program
 // `replay_vectors` alone; no contract can say what a program prints.
+#![tactic(auto)]
+
 ghost use Rattle.std.specs.Prelude.{◌≡◌, ◌%◌, length};
 ghost use Rattle.replay_outcomes.specs.Answers.{with_byte, with_number, begun_with, seen_as, compared_to, and_left};
 

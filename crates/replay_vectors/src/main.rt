@@ -3,6 +3,8 @@
 // differs, that has a wrong count of words, or that could not be read. The list is the file stdin beside src/: answers of the
 // original and, where it has no say, of documents 01 and 02 and what follows from them. The program of the same name in oracle/ writes
 // it and says what its lines hold.
+#![tactic(auto)]
+
 ghost use Rattle.std.specs.Prelude.{◌≡◌, ◌<◌, length};
 
 use crate::addresses::{mapped, relay_skip, unroutable};

@@ -1,5 +1,7 @@
 // The words of a line of the list of answers: where a line's words lie, their bytes, and the numbers that these are. How a line's text
 // becomes such words is in the program `replay_vectors`.
+#![tactic(auto)]
+
 ghost use Rattle.std.specs.Prelude.{◌≡◌, ◌%◌, ◌≤◌, ◌<◌, length, drop};
 ghost use Rattle.replay_words.specs.Words.{no_words, with_word, place_of, below, number_of, between, word_of};
 

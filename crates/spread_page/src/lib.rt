@@ -2,6 +2,8 @@
 //
 // Each candidate is walked once. Its group is kept in a local array, which is sorted by bits: with 4,096 candidates that takes less time than
 // their walks (docs/BENCHMARKS.md). Nothing is written before all lines are known to fit.
+#![tactic(auto)]
+
 ghost use Rattle.std.specs.Prelude.{◌≡◌, [], ◌/◌, ◌≤◌, length, take};
 ghost use Rattle.peer_lists.specs.Candidates.{candidates_of};
 ghost use Rattle.peer_lists.specs.Refusal.{list_refusal};

@@ -1,5 +1,7 @@
 // The turns of a pass over the tree of all addresses, from its end to its start (document 02, CR 8): where a subtree's halves start, and what is
 // done at a subtree.
+#![tactic(auto)]
+
 ghost use Rattle.std.specs.Prelude.{◌≡◌, ◌+◌, ◌-◌, ◌/◌, ◌%◌, ◌^◌, ◌≤◌, ◌<◌};
 ghost use Rattle.prefix_records.specs.models.Cursor.{value_of};
 ghost use Rattle.tree_turns.specs.models.Turns.{TurnOf};
