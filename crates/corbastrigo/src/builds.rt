@@ -8,8 +8,7 @@ use answer_bytes::hand_bytes;
 
 // Builds the map of a list of prefixes, records of 24 bytes that rise and do not overlap, with a number for all other addresses, at a width. Refusals:
 // 18; 21 for the records' length; for the first wrong record 21 for its prefix or 22 for its number; 22 for the given number; 1; 14.
-#[unsafe(no_mangle)]
-pub extern "C" fn corbastrigo_build(
+pub fn corbastrigo_build(
     records: &[u8],
     given: u32,
     width: u32,

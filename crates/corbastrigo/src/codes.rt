@@ -15,8 +15,7 @@ use answer_codes::{hand_bits, hand_code, hand_instruction};
 // 4 where it is an opcode and 19 where it is an operand.
 
 // An opcode.
-#[unsafe(no_mangle)]
-pub extern "C" fn corbastrigo_decode_type(
+pub fn corbastrigo_decode_type(
     map: &[u8],
     at: usize,
     value: &mut u32,
@@ -29,8 +28,7 @@ pub extern "C" fn corbastrigo_decode_type(
 }
 
 // An AS number.
-#[unsafe(no_mangle)]
-pub extern "C" fn corbastrigo_decode_asn(
+pub fn corbastrigo_decode_asn(
     map: &[u8],
     at: usize,
     value: &mut u32,
@@ -43,8 +41,7 @@ pub extern "C" fn corbastrigo_decode_asn(
 }
 
 // A MATCH operand.
-#[unsafe(no_mangle)]
-pub extern "C" fn corbastrigo_decode_match(
+pub fn corbastrigo_decode_match(
     map: &[u8],
     at: usize,
     value: &mut u32,
@@ -57,8 +54,7 @@ pub extern "C" fn corbastrigo_decode_match(
 }
 
 // A JUMP operand.
-#[unsafe(no_mangle)]
-pub extern "C" fn corbastrigo_decode_jump(
+pub fn corbastrigo_decode_jump(
     map: &[u8],
     at: usize,
     value: &mut u32,
@@ -71,8 +67,7 @@ pub extern "C" fn corbastrigo_decode_jump(
 }
 
 // An instruction: its opcode, its operand and its length in bits, both codes together.
-#[unsafe(no_mangle)]
-pub extern "C" fn corbastrigo_decode_instruction(
+pub fn corbastrigo_decode_instruction(
     map: &[u8],
     at: usize,
     opcode: &mut u32,
@@ -92,40 +87,35 @@ pub extern "C" fn corbastrigo_decode_instruction(
 // ---- writing any number. `bits` has the first bit lowest, `len` is how many they are. Refusal 15.
 
 // An opcode.
-#[unsafe(no_mangle)]
-pub extern "C" fn corbastrigo_encode_type(value: u32, bits: &mut u64, len: &mut usize) -> u8
+pub fn corbastrigo_encode_type(value: u32, bits: &mut u64, len: &mut usize) -> u8
     ensures { Hands (bits_written (write_code type_row value)) result (bits.old ∷ len.old ∷ []) (bits.new ∷ len.new ∷ []) }
 {
     hand_bits(asmap_encode::encode_type(value), bits, len)
 }
 
 // An AS number.
-#[unsafe(no_mangle)]
-pub extern "C" fn corbastrigo_encode_asn(value: u32, bits: &mut u64, len: &mut usize) -> u8
+pub fn corbastrigo_encode_asn(value: u32, bits: &mut u64, len: &mut usize) -> u8
     ensures { Hands (bits_written (write_code asn_row value)) result (bits.old ∷ len.old ∷ []) (bits.new ∷ len.new ∷ []) }
 {
     hand_bits(asmap_encode::encode_asn(value), bits, len)
 }
 
 // A MATCH operand.
-#[unsafe(no_mangle)]
-pub extern "C" fn corbastrigo_encode_match(value: u32, bits: &mut u64, len: &mut usize) -> u8
+pub fn corbastrigo_encode_match(value: u32, bits: &mut u64, len: &mut usize) -> u8
     ensures { Hands (bits_written (write_code match_row value)) result (bits.old ∷ len.old ∷ []) (bits.new ∷ len.new ∷ []) }
 {
     hand_bits(asmap_encode::encode_match(value), bits, len)
 }
 
 // A JUMP operand.
-#[unsafe(no_mangle)]
-pub extern "C" fn corbastrigo_encode_jump(value: u32, bits: &mut u64, len: &mut usize) -> u8
+pub fn corbastrigo_encode_jump(value: u32, bits: &mut u64, len: &mut usize) -> u8
     ensures { Hands (bits_written (write_code jump_row value)) result (bits.old ∷ len.old ∷ []) (bits.new ∷ len.new ∷ []) }
 {
     hand_bits(asmap_encode::encode_jump(value), bits, len)
 }
 
 // An instruction: its opcode's code, then its operand's; at most 57 bits.
-#[unsafe(no_mangle)]
-pub extern "C" fn corbastrigo_encode_instruction(
+pub fn corbastrigo_encode_instruction(
     opcode: u32,
     operand: u32,
     bits: &mut u64,

@@ -8,16 +8,14 @@ ghost use Rattle.answer_filters.specs.Filters.{said};
 use answer_filters::{hand_filtered, hand_relay};
 
 // Whether an address of 16 bytes, IPv4 in its mapped form, is unroutable. Refusal 11.
-#[unsafe(no_mangle)]
-pub extern "C" fn corbastrigo_clearnet_unroutable(address: &[u8], unroutable: &mut u8) -> u8
+pub fn corbastrigo_clearnet_unroutable(address: &[u8], unroutable: &mut u8) -> u8
     ensures { Hands (said (filter_of address.now)) result (unroutable.old ∷ []) (unroutable.new ∷ []) }
 {
     hand_filtered(netaddr::clearnet_unroutable(address), unroutable)
 }
 
 // Whether an entry of an addrv2 message is not sent on: its BIP155 network id, address bytes and port. Refusal 17.
-#[unsafe(no_mangle)]
-pub extern "C" fn corbastrigo_addrv2_skip_relay(
+pub fn corbastrigo_addrv2_skip_relay(
     id: u8,
     address: &[u8],
     port: u16,

@@ -18,16 +18,14 @@ use netgroup_pick::PickAnswer;
 use peer_lists::Refusal;
 
 // The group of a candidate of 20 bytes by its prefix, in the old numbering. Refusal 13.
-#[unsafe(no_mangle)]
-pub extern "C" fn corbastrigo_prefix_group(candidate: &[u8], group: &mut u64) -> u8
+pub fn corbastrigo_prefix_group(candidate: &[u8], group: &mut u64) -> u8
     ensures { Hands (group_found (prefix_group_call candidate.now)) result (group.old ∷ []) (group.new ∷ []) }
 {
     hand_group(netgroup::prefix_group(candidate), group)
 }
 
 // The group of a candidate, with a map or none. Refusals 13, then with a map the check's, 1 to 10 and 19.
-#[unsafe(no_mangle)]
-pub extern "C" fn corbastrigo_netgroup(
+pub fn corbastrigo_netgroup(
     candidate: &[u8],
     has_map: u8,
     map: &[u8],
@@ -43,8 +41,7 @@ pub extern "C" fn corbastrigo_netgroup(
 }
 
 // The same over a map taken as it is, for callers who checked it when they loaded it. Refusals 13, then with a map 1.
-#[unsafe(no_mangle)]
-pub extern "C" fn corbastrigo_netgroup_unchecked(
+pub fn corbastrigo_netgroup_unchecked(
     candidate: &[u8],
     has_map: u8,
     map: &[u8],
@@ -61,8 +58,7 @@ pub extern "C" fn corbastrigo_netgroup_unchecked(
 
 // The occupied scan: whether a group stands among the occupied groups, the first hit's place from 0, and how many groups were read. None
 // is found 0 with place 0. Refusal 12.
-#[unsafe(no_mangle)]
-pub extern "C" fn corbastrigo_scan_occupied(
+pub fn corbastrigo_scan_occupied(
     group: u64,
     occupied: &[u64],
     found: &mut u8,
@@ -80,8 +76,7 @@ pub extern "C" fn corbastrigo_scan_occupied(
 }
 
 // The pick, with a map or none. Refusals 13, 12, 13, with a map the check's, 1 to 10 and 19, then 14.
-#[unsafe(no_mangle)]
-pub extern "C" fn corbastrigo_select_diverse(
+pub fn corbastrigo_select_diverse(
     candidates: &[u8],
     occupied: &[u64],
     max: usize,
@@ -106,8 +101,7 @@ pub extern "C" fn corbastrigo_select_diverse(
 }
 
 // The same over a map taken as it is. Refusals 13, 12, 13, with a map 1, then 14.
-#[unsafe(no_mangle)]
-pub extern "C" fn corbastrigo_select_diverse_unchecked(
+pub fn corbastrigo_select_diverse_unchecked(
     candidates: &[u8],
     occupied: &[u64],
     max: usize,
@@ -132,8 +126,7 @@ pub extern "C" fn corbastrigo_select_diverse_unchecked(
 }
 
 // The pick without a map in the old numbering. Refusals 13, 12, 13, 14.
-#[unsafe(no_mangle)]
-pub extern "C" fn corbastrigo_old_prefix_pick(
+pub fn corbastrigo_old_prefix_pick(
     candidates: &[u8],
     occupied: &[u64],
     max: usize,

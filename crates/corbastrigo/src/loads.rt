@@ -11,8 +11,7 @@ use answer_bytes::hand_bytes;
 use answer_draws::hand_draw;
 
 // The draw after s, which is the seed at first and then what was drawn. Refusal 20 for 0, which no draw is.
-#[unsafe(no_mangle)]
-pub extern "C" fn corbastrigo_next_draw(s: u64, draw: &mut u64) -> u8
+pub fn corbastrigo_next_draw(s: u64, draw: &mut u64) -> u8
     ensures hands { Hands (number_drawn (drawn_after s)) result (draw.old ∷ []) (draw.new ∷ []) }
     ensures some { result ≡ 0 → draw.new ≢ 0 }
 {
@@ -21,8 +20,7 @@ pub extern "C" fn corbastrigo_next_draw(s: u64, draw: &mut u64) -> u8
 
 // Writes the load of so many pairs from a seed: a map that the check accepts over every number of address bits from `pairs` on. Refusals 20 for a
 // seed of 0 or more than 128 pairs, then 14.
-#[unsafe(no_mangle)]
-pub extern "C" fn corbastrigo_load(
+pub fn corbastrigo_load(
     seed: u64,
     pairs: usize,
     out: &mut [u8],

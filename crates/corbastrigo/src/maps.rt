@@ -17,8 +17,7 @@ use answer_bytes::{hand_bytes, hand_needed};
 use answer_maps::{hand_stop, hand_verdict, hand_walk};
 
 // Checks a map. 0 says that it is accepted, with its instructions counted and the most jumps open at once. Refusals 1 to 10 and 19.
-#[unsafe(no_mangle)]
-pub extern "C" fn corbastrigo_sanity_check(map: &[u8], count: &mut u32, depth: &mut u8) -> u8
+pub fn corbastrigo_sanity_check(map: &[u8], count: &mut u32, depth: &mut u8) -> u8
     ensures hands { Hands (map_checked (check_of map.now 128)) result (count.old ∷ depth.old ∷ []) (count.new ∷ depth.new ∷ []) }
     ensures core { CoreVerdict map.now result }
 {
@@ -27,8 +26,7 @@ pub extern "C" fn corbastrigo_sanity_check(map: &[u8], count: &mut u32, depth: &
 
 // Says where the check of a map stops, and why: the reason, 0 where the check accepts and else 2 to 10 or 19, and the place, the bit of the map at
 // which it stops. 0 says that both are written, also of a map that the check refuses. Refusal 1.
-#[unsafe(no_mangle)]
-pub extern "C" fn corbastrigo_sanity_check_stop(
+pub fn corbastrigo_sanity_check_stop(
     map: &[u8],
     reason: &mut u8,
     place: &mut usize,
@@ -41,8 +39,7 @@ pub extern "C" fn corbastrigo_sanity_check_stop(
 // Walks any map by an address of 16 bytes. `kind` is 1 where the walk ended at a RETURN, 2 at a MATCH that differs. Where it aborted `kind`
 // is 3 for too few address bits, 4 for an opcode cut by the map's end and 19 for a cut operand: the number, which is 0 then, does not tell.
 // Refusals 11, 1.
-#[unsafe(no_mangle)]
-pub extern "C" fn corbastrigo_interpret(
+pub fn corbastrigo_interpret(
     map: &[u8],
     address: &[u8],
     kind: &mut u8,
@@ -64,16 +61,14 @@ pub extern "C" fn corbastrigo_interpret(
 }
 
 // Unpacks a map that the check accepts into records of 16 bytes. Refusals: the check's, 1 to 10 and 19, then 14.
-#[unsafe(no_mangle)]
-pub extern "C" fn corbastrigo_unpack(map: &[u8], out: &mut [u8], written: &mut usize) -> u8
+pub fn corbastrigo_unpack(map: &[u8], out: &mut [u8], written: &mut usize) -> u8
     ensures { Writes (unpack_of map.now 128) out.old out.new result (written.old ∷ []) (written.new ∷ []) }
 {
     hand_bytes(asmap_unpack::unpack(map, out), written)
 }
 
 // Packs records into a map's bytes, and checks nothing of the map. Refusals 16, 15, 1, 14.
-#[unsafe(no_mangle)]
-pub extern "C" fn corbastrigo_pack(records: &[u8], out: &mut [u8], written: &mut usize) -> u8
+pub fn corbastrigo_pack(records: &[u8], out: &mut [u8], written: &mut usize) -> u8
     ensures { Writes (pack_of records.now) out.old out.new result (written.old ∷ []) (written.new ∷ []) }
 {
     hand_bytes(asmap_pack::pack(records, out), written)
@@ -81,8 +76,7 @@ pub extern "C" fn corbastrigo_pack(records: &[u8], out: &mut [u8], written: &mut
 
 // Lists every prefix that a map tells apart, as records of 24 bytes, of a map that the check accepts. Every address lies in just one of them, and
 // that one has the number of its walk. Refusals: the check's, 1 to 10 and 19, then 14.
-#[unsafe(no_mangle)]
-pub extern "C" fn corbastrigo_list(map: &[u8], out: &mut [u8], written: &mut usize) -> u8
+pub fn corbastrigo_list(map: &[u8], out: &mut [u8], written: &mut usize) -> u8
     ensures writes { Writes (list_of map.now 128) out.old out.new result (written.old ∷ []) (written.new ∷ []) }
     ensures covers { Covers map.now 128 }
 {
@@ -90,8 +84,7 @@ pub extern "C" fn corbastrigo_list(map: &[u8], out: &mut [u8], written: &mut usi
 }
 
 // Says how many bytes the listing of a map needs. Refusals: the check's, 1 to 10 and 19.
-#[unsafe(no_mangle)]
-pub extern "C" fn corbastrigo_list_bytes(map: &[u8], bytes: &mut usize) -> u8
+pub fn corbastrigo_list_bytes(map: &[u8], bytes: &mut usize) -> u8
     ensures { Hands (bytes_needed (needed_of map.now 128)) result (bytes.old ∷ []) (bytes.new ∷ []) }
 {
     hand_needed(asmap_list::list_bytes(map), bytes)
@@ -100,8 +93,7 @@ pub extern "C" fn corbastrigo_list_bytes(map: &[u8], bytes: &mut usize) -> u8
 // Compares two maps that the check accepts, for every address: a record of 28 bytes for each prefix on which they differ. An address lies in a record
 // exactly where its two walks end with different numbers, and that record carries both. Refusals: the old map's check, 1 to 10 and 19; the new
 // map's, 101 to 110 and 119, the check's number and 100 more; then 14.
-#[unsafe(no_mangle)]
-pub extern "C" fn corbastrigo_compare(
+pub fn corbastrigo_compare(
     old_map: &[u8],
     new_map: &[u8],
     out: &mut [u8],
@@ -115,8 +107,7 @@ pub extern "C" fn corbastrigo_compare(
 
 // Says how many bytes the comparison of two maps needs, and in 16 bytes the first address that differs: 0 bytes and zeros where none does. Refusals as
 // above, with 14 where fewer than 16 bytes are lent.
-#[unsafe(no_mangle)]
-pub extern "C" fn corbastrigo_compare_bytes(
+pub fn corbastrigo_compare_bytes(
     old_map: &[u8],
     new_map: &[u8],
     first: &mut [u8],

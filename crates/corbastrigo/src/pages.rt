@@ -14,8 +14,7 @@ use asmap_records::Answer;
 use peer_lists::Refusal;
 
 // The page, with a map or none. Refusals 13, 12, 13, with a map the check's, 1 to 10 and 19, then 14.
-#[unsafe(no_mangle)]
-pub extern "C" fn corbastrigo_page(
+pub fn corbastrigo_page(
     candidates: &[u8],
     has_map: u8,
     map: &[u8],
@@ -32,8 +31,7 @@ pub extern "C" fn corbastrigo_page(
 }
 
 // The same over a map taken as it is. Refusals 13, 12, 13, with a map 1, then 14.
-#[unsafe(no_mangle)]
-pub extern "C" fn corbastrigo_page_unchecked(
+pub fn corbastrigo_page_unchecked(
     candidates: &[u8],
     has_map: u8,
     map: &[u8],
@@ -50,8 +48,7 @@ pub extern "C" fn corbastrigo_page_unchecked(
 }
 
 // The page without a map in the old numbering of prefixes (document 02, CR 7). Refusals 13, 12, 13, 14.
-#[unsafe(no_mangle)]
-pub extern "C" fn corbastrigo_old_prefix_page(
+pub fn corbastrigo_old_prefix_page(
     candidates: &[u8],
     out: &mut [u8],
     written: &mut usize,

@@ -18,8 +18,7 @@ use answer_bytes::{hand_bytes, hand_needed};
 use answer_maps::{hand_stop, hand_verdict, hand_walk};
 
 // Checks a map over the width's address bits. Refusals 18, then 1 to 10 and 19.
-#[unsafe(no_mangle)]
-pub extern "C" fn corbastrigo_sanity_check_bits(
+pub fn corbastrigo_sanity_check_bits(
     map: &[u8],
     width: u32,
     count: &mut u32,
@@ -32,8 +31,7 @@ pub extern "C" fn corbastrigo_sanity_check_bits(
 }
 
 // Says where the check over the width's address bits stops, and why. Refusals 18, then 1.
-#[unsafe(no_mangle)]
-pub extern "C" fn corbastrigo_sanity_check_stop_bits(
+pub fn corbastrigo_sanity_check_stop_bits(
     map: &[u8],
     width: u32,
     reason: &mut u8,
@@ -50,8 +48,7 @@ pub extern "C" fn corbastrigo_sanity_check_stop_bits(
 
 // Walks any map by an address of as many bits as the width says: 4 bytes at 32, 16 at 128. Refusals 18, 11, 1. No walk of a map that the check accepts
 // at this width aborts.
-#[unsafe(no_mangle)]
-pub extern "C" fn corbastrigo_interpret_bits(
+pub fn corbastrigo_interpret_bits(
     map: &[u8],
     address: &[u8],
     width: u32,
@@ -74,8 +71,7 @@ pub extern "C" fn corbastrigo_interpret_bits(
 }
 
 // Unpacks a map that the check accepts at the width. Refusals 18, the check's, 14.
-#[unsafe(no_mangle)]
-pub extern "C" fn corbastrigo_unpack_bits(
+pub fn corbastrigo_unpack_bits(
     map: &[u8],
     width: u32,
     out: &mut [u8],
@@ -88,8 +84,7 @@ pub extern "C" fn corbastrigo_unpack_bits(
 
 // Lists every prefix that a map tells apart, of a map that the check accepts at the width. At 32 an address stands in the first 4 of a record's 16
 // bytes, with zeros behind. Refusals 18, the check's, 14.
-#[unsafe(no_mangle)]
-pub extern "C" fn corbastrigo_list_bits(
+pub fn corbastrigo_list_bits(
     map: &[u8],
     width: u32,
     out: &mut [u8],
@@ -102,8 +97,7 @@ pub extern "C" fn corbastrigo_list_bits(
 }
 
 // Says how many bytes that listing needs. Refusals 18, the check's.
-#[unsafe(no_mangle)]
-pub extern "C" fn corbastrigo_list_bytes_bits(map: &[u8], width: u32, bytes: &mut usize) -> u8
+pub fn corbastrigo_list_bytes_bits(map: &[u8], width: u32, bytes: &mut usize) -> u8
     ensures { Hands (bytes_needed (needed_at map.now width)) result (bytes.old ∷ []) (bytes.new ∷ []) }
 {
     hand_needed(asmap_list::list_bytes_bits(map, width), bytes)
@@ -111,8 +105,7 @@ pub extern "C" fn corbastrigo_list_bytes_bits(map: &[u8], width: u32, bytes: &mu
 
 // Compares two maps that the check accepts at the width, for every address of so many bits. Refusals 18, the old map's check, the new map's with 100
 // more, 14.
-#[unsafe(no_mangle)]
-pub extern "C" fn corbastrigo_compare_bits(
+pub fn corbastrigo_compare_bits(
     old_map: &[u8],
     new_map: &[u8],
     width: u32,
@@ -129,8 +122,7 @@ pub extern "C" fn corbastrigo_compare_bits(
 }
 
 // Says how many bytes that comparison needs, and in 16 bytes the first address that differs. Refusals as above.
-#[unsafe(no_mangle)]
-pub extern "C" fn corbastrigo_compare_bytes_bits(
+pub fn corbastrigo_compare_bytes_bits(
     old_map: &[u8],
     new_map: &[u8],
     width: u32,
