@@ -10,6 +10,7 @@ use lib.Dec.{leb, ltb, eqb}
 use borrow.Author.Tests.{eqb-true, eqb-false, lt-ltb, le-ltb, le-leb, lt-leb, eq-eqb, ne_eqb}
 use Rattle.asmap_program.specs.declared.Instruction.{Instruction}
 use Rattle.asmap_program.specs.declared.Previous.{Previous}
+use Rattle.asmap_program.specs.declared.Previous.TheVariants.{Other}
 use Rattle.asmap_program.specs.declared.Verdict.TheVariants.{Accepted}
 use Rattle.asmap_program.specs.Map.{RETURN, JUMP, MATCH, DEFAULT, Map, Whole, end_of, target_of, Laws, bit_of, length_of}
 use Rattle.asmap_program.specs.Check.{check}
@@ -95,7 +96,7 @@ module _ (a : ℕ → ℕ) (w : ℕ) where
     same_number {left} (return {i} g e q) (suc n) u d h k =
         let s = law.stands _ _ g in
         rw (core_at n RETURN left d i g (omega arith) e, walk_at a m law w n RETURN u d i g e)
-    same_number {left} (jump {i} g e q t t') (suc n) u d h k =
+    same_number {b} {left} (jump {i} g e q t t') (suc n) u d h k =
         let s = law.stands _ _ g in
         let a' = forward m law t' in
         let y = join.ends in
@@ -111,8 +112,8 @@ module _ (a : ℕ → ℕ) (w : ℕ) where
         (elim (eqb (a u) 1)
         as (λ (x : Bool). core_walk a w f n (record { pos = cond x (target_of i) (end_of i); bits = left - 1; default = d })
         ≡ Number (walk_from a m n (record { at = cond x (target_of i) (end_of i); used = suc u; width = w; default = d })).number)
-        [ true ↦ same_number t' n (suc u) d (omega arith) (omega arith) | false ↦ same_number t n (suc u) d (omega arith) (omega arith) ])
-    same_number {left} (match {i} g e q p t) (suc n) u d h k =
+        [ true ↦ same_number {b = Other} t' n (suc u) d (omega arith) (omega arith) | false ↦ same_number {b = Other} t n (suc u) d (omega arith) (omega arith) ])
+    same_number {at} {left} (match {i} g e q p t) (suc n) u d h k =
         let s = law.stands _ _ g in
         let a' = forward m law t in
         rw (
@@ -122,7 +123,7 @@ module _ (a : ℕ → ℕ) (w : ℕ) where
           le-ltb left (length_of i.operand) q,
           same_compared (length_of i.operand) i.operand u left k q,
         )
-        (same_matching (record { pos = _; bits = left; default = d }) (record { at = _; used = u; width = w; default = d }) i refl
+        (same_matching (record { pos = at; bits = left; default = d }) (record { at = at; used = u; width = w; default = d }) i refl
         (core_walk a w f n) (walk_from a m n)
         (same_number t n (u + length_of i.operand) d (omega arith) (omega arith))
         (compared a (length_of i.operand) i.operand u))

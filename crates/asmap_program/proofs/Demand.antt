@@ -166,10 +166,10 @@ module _ (address : ℕ → ℕ) where
         → Sound is b u left (walk_from address m f (record { at = at; used = u; width = w; default = d }))
     sound t zero u d h k = let a = forward m law t in absurd (omega arith)
     sound (return {left} f e q) (suc n) u d h k = sound_return left f e q n u d
-    sound (jump f e q t t') (suc n) u d h k =
+    sound {b} (jump f e q t t') (suc n) u d h k =
         let s = law.stands _ _ f in
         let a = forward m law t' in
-        sound_jump (eqb (address u) 1) f e q n u d refl k (λ v z. sound t n v d (omega arith) z) (λ v z. sound t' n v d (omega arith) z)
+        sound_jump (eqb (address u) 1) f e q n u d refl k (λ v z. sound {b = Other} t n v d (omega arith) z) (λ v z. sound {b = Other} t' n v d (omega arith) z)
     sound (match f e q p t) (suc n) u d h k =
         let s = law.stands _ _ f in
         sound_match f e q n u d k (sound t n _ d (omega arith) (omega arith))

@@ -32,14 +32,14 @@ room_start w = record { now = omega arith; held = tt; deep = omega arith }
 
 module _ (m : Map) where
   -- each step counts one instruction
-  pub one_more : {s s' : State} {i : Instruction} → Moves m s i s' → s'.count ≡ suc s.count
+  pub one_more : {s : State} {i : Instruction} {s' : State} → Moves m s i s' → s'.count ≡ suc s.count
   one_more (closes q e d h) = refl
   one_more (opened e h k) = refl
   one_more (matched e h c) = refl
   one_more (defaulted e h) = refl
 
 module _ (m : Map) (w : ℕ) where
-  pub room_moves : {s s' : State} {i : Instruction} → Moves m s i s' → Room w s → Room w s'
+  pub room_moves : {s : State} {i : Instruction} {s' : State} → Moves m s i s' → Room w s → Room w s'
   room_moves {s} (closes {o} {opens} q e d h) r =
       let k : Held w (o ∷ opens) = rw q at r.held in
       record { now = omega arith; held = k.1; deep = r.deep }
@@ -69,7 +69,7 @@ module _ (m : Map) (w : ℕ) where
   nested_more t [] h = tt
   nested_more t (o ∷ opens) h = leb-false o.target t h
 
-  nested_moves : {s s' : State} {i : Instruction} → Moves m s i s' → Nested s.opens → Nested s'.opens
+  nested_moves : {s : State} {i : Instruction} {s' : State} → Moves m s i s' → Nested s.opens → Nested s'.opens
   nested_moves (closes {o} {opens} q e d h) n = let k : Nested (o ∷ opens) = rw q at n in k.1
   nested_moves {s} {i} (opened e h k) n = (nested_more (target_of i) s.opens k, n)
   nested_moves (matched e h c) n = n

@@ -22,7 +22,7 @@ use Rattle.asmap_program.proofs.Depth.{carries}
 
 module _ (m : Map) where
   -- a step goes on at the instruction's end
-  pub moved : {s s' : State} {i : Instruction} → Moves m s i s' → s'.at ≡ end_of i
+  pub moved : {s : State} {i : Instruction} {s' : State} → Moves m s i s' → s'.at ≡ end_of i
   moved (closes q e d h) = refl
   moved (opened e h k) = refl
   moved (matched e h c) = refl
@@ -43,7 +43,7 @@ module _ (m : Map) where
   in_order : {s : State} {is : List Instruction} {c d : ℕ} → Accepts m s is c d → is ≡ list_from (length is) s.at
   unfolding list_from
   in_order (last {i} v) = rw v.fetched
-  in_order (more {s} {s'} {i} {is} f v a) = rw f (ap (λ (l : List Instruction). i ∷ l) (rw (moved v) at (in_order a)))
+  in_order (more {s} {i} {s'} {is} f v a) = rw f (ap (λ (l : List Instruction). i ∷ l) (rw (moved v) at (in_order a)))
 
   -- what is unpacked of an accepted map is as many instructions as were counted, from place 0 on
   pub unpacked_list : {c d : ℕ} (w : ℕ) → check m w ≡ Accepted c d → unpacked m w ≡ list_from c 0

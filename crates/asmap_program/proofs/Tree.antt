@@ -105,7 +105,7 @@ module _ (m : Map) where
 
   pub data Accepts : State → List Instruction → ℕ → ℕ → Type 0 where
     last : {s : State} {i : Instruction} {c d : ℕ} → Ends s i c d → Accepts s (i ∷ []) c d
-    more : {s s' : State} {i : Instruction} {is : List Instruction} {c d : ℕ}
+    more : {s : State} {i : Instruction} {s' : State} {is : List Instruction} {c d : ℕ}
         → m.fetch s.at ≡ Whole i → Moves s i s' → Accepts s' is c d → Accepts s (i ∷ is) c d
 
   accepts_on : {c d : ℕ} (s : State) (k : State → Verdict) (l : State → List Instruction)
