@@ -28,7 +28,7 @@ build_library() {
     echo "build: the library: every crate is proved, about 4 minutes the first time" >&2
     mkdir -p target
     all=$(awk -F: '$1 == "corbastrigo" { print split($2, below, " ") + 1 }' crates.txt)
-    rt staticlib corbastrigo > target/staticlib.log 2>&1 &
+    ./archive.sh > target/staticlib.log 2>&1 &
     prover=$!
     while kill -0 "$prover" 2> /dev/null; do
         progress "build: $(grep -c '^rt: [a-z_0-9]* proved' target/staticlib.log) of $all crates proved"

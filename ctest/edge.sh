@@ -4,7 +4,7 @@
 # that the header does not declare with the same parameters in the same order, or that calls.c does not name; a call of the header that
 # is not exported.
 cd "$(dirname "$0")/.." || exit 2
-crate=crates/corbastrigo/src
+crate=crates/corbastrigo_c/src
 work=$(mktemp -d) || exit 2
 trap 'rm -rf "$work"' EXIT
 find "$crate" -name '*.rt' -exec awk -f ctest/exported.awk {} + | sort > "$work/exported"
@@ -13,7 +13,7 @@ grep '(' "$work/exported" > "$work/calls" || echo "edge: $crate exports nothing"
 {
     sed -n 's|^requires \(.*\)|edge: \1: a `requires`|p' "$work/exported"
     sed -n 's|^no-ensures \(.*\)|edge: \1 has no `ensures`|p' "$work/exported"
-    sed -n 's|^unread|edge: an export not written `#[no_mangle] pub extern "C" fn NAME(..) -> TYPE`|p' "$work/exported"
+    sed -n 's|^unread|edge: an export not written `#[unsafe(no_mangle)] pub extern "C" fn NAME(..) -> TYPE`|p' "$work/exported"
     comm -23 "$work/calls" "$work/declared" | sed 's|^|edge: exported, but not so in the header: |'
     comm -13 "$work/calls" "$work/declared" | sed 's|^|edge: in the header, but not so exported: |'
     sed 's|.* \(corbastrigo_[a-z0-9_]*\)(.*|\1|' "$work/calls" | while read -r name; do

@@ -36,7 +36,7 @@ END {
     gsub(/[ \t]+/, " ", text)
     gsub(/\( /, "(", text)
     unread = gsub(/no_mangle/, "no_mangle", text)
-    while (match(text, /#\[no_mangle\] pub extern "C" fn [a-z0-9_]+\([^()]*\) -> [a-z0-9]+/)) {
+    while (match(text, /#\[unsafe\(no_mangle\)\] pub extern "C" fn [a-z0-9_]+\([^()]*\) -> [a-z0-9]+/)) {
         head = substr(text, RSTART, RLENGTH)
         sub(/.* fn /, "", head)
         print declaration(head)

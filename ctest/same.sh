@@ -7,8 +7,8 @@ work=$(mktemp -d) || exit 2
 trap 'rm -rf "$work"' EXIT
 again="$work/built/in/another/folder"
 mkdir -p "$again"
-cp -r crates.txt crates "$again" || exit 2
-(cd "$again" && rt staticlib corbastrigo) > "$work/log" 2>&1 || { cat "$work/log"; exit 1; }
+cp -r archive.sh crates.txt crates "$again" && rm -rf "$again"/crates/*/out || exit 2
+(cd "$again" && ./archive.sh) > "$work/log" 2>&1 || { cat "$work/log"; exit 1; }
 sha256sum "$ready" "$again/target/staticlib/libcorbastrigo.a"
 cmp "$ready" "$again/target/staticlib/libcorbastrigo.a" || exit 1
 echo "same: two builds in two folders gave the same archive"

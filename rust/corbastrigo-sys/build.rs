@@ -1,5 +1,5 @@
 //! Finds the archive, or has it made. `CORBASTRIGO_LIB_DIR` names the folder of a libcorbastrigo.a that stands ready; without it
-//! `rt staticlib corbastrigo` proves the crates of this repository, as far as that has not been done, and writes it.
+//! `archive.sh` has `rt` prove the crates of this repository, as far as that has not been done, and writes it.
 //!
 //! What is linked is a copy in cargo's own folder, so that nothing is lost with the repository's target/. Watched are the sources, or the
 //! archive that stands ready, and never what `rt` writes: a second build has nothing to do.
@@ -69,19 +69,18 @@ pub fn alone(folder: &Path) -> io::Result<File> {
 /// Has `rt` make the archive.
 fn made(repository: &Path) -> Result<(), String> {
     say("rt proves the library and builds it: about four minutes on two cores, half a minute where the proofs are there");
-    let status = Command::new("rt")
-        .args(["staticlib", "corbastrigo"])
+    let status = Command::new("./archive.sh")
         .current_dir(repository)
         // Standard output is for what cargo is told.
         .stdout(Stdio::from(io::stderr()))
         .status()
         .map_err(|error| {
-            format!("`rt` did not start ({error}): put the Rattle toolchain on the PATH, or set {VARIABLE} to the folder of a {ARCHIVE}")
+            format!("`archive.sh` did not start ({error}): put the Rattle toolchain on the PATH, or set {VARIABLE} to the folder of a {ARCHIVE}")
         })?;
     if status.success() {
         Ok(())
     } else {
-        Err(format!("`rt staticlib corbastrigo` failed ({status}); what it printed stands below"))
+        Err(format!("`archive.sh` failed ({status}); what it printed stands below"))
     }
 }
 
