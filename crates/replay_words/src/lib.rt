@@ -21,7 +21,7 @@ pub fn find(text: &[u8], from: usize, byte: u8) -> usize
 }
 
 // Where the bytes of a word end, or that it cannot be read.
-#[derive(Drop)]
+#[derive(Clone, Copy)]
 pub enum WordEnd {
     At(usize),
     Unread,
@@ -29,7 +29,7 @@ pub enum WordEnd {
 
 // How many words a line has, whether one of them cannot be read, and where their bytes lie: each word from one number to the next. No
 // call has nine words: that many are said of a line that has more.
-#[derive(Drop)]
+#[derive(Clone, Copy)]
 pub struct Words {
     pub count: usize,
     pub unread: bool,
