@@ -6,7 +6,7 @@ ghost use Rattle.std.specs.Prelude.{◌≡◌, ◌%◌, length};
 ghost use Rattle.replay_outcomes.specs.Answers.{with_byte, with_number, begun_with, seen_as, compared_to, and_left};
 
 // What came of a line: our answer is the list's, it is another, the line has more words or fewer than its call, or it cannot be read.
-#[derive(Drop)]
+#[derive(Clone, Copy)]
 pub enum Seen {
     Same,
     Differs,
@@ -15,7 +15,7 @@ pub enum Seen {
 }
 
 // An answer is the first n bytes. No call has more than 40.
-#[derive(Drop)]
+#[derive(Clone, Copy)]
 pub struct Out {
     bytes: [u8; 40],
     n: usize,
