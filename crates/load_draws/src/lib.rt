@@ -10,7 +10,7 @@ pub const NO_LOAD: u8 = 20;
 
 // Where the draws stand: the seed, and after a draw what was drawn (document 02's s). From 0 every draw would be 0, so no seed is 0, and
 // then no draw is.
-#[derive(Drop)]
+#[derive(Clone, Copy)]
 pub struct Generator {
     pub state: u64,
 }
