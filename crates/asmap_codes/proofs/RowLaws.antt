@@ -44,8 +44,8 @@ asn_operand (suc (suc zero)) h k = absurd (k refl)
 asn_operand (suc (suc (suc op))) h k = refl
 
 module _ (row : Row) (v : ℕ) where
-  pub in_range : row.least ≤ v → v < row.least + span row.sizes → in_range row v ≡ true
-  in_range h k = rw (le-leb row.least v h, lt-ltb v (row.least + span row.sizes) k)
+  pub within_range : row.least ≤ v → v < row.least + span row.sizes → in_range row v ≡ true
+  within_range h k = rw (le-leb row.least v h, lt-ltb v (row.least + span row.sizes) k)
 
   pub below_range : v < row.least → in_range row v ≡ false
   below_range h = rw (lt-leb row.least v h)
