@@ -15,7 +15,7 @@ use Rattle.asmap_program.specs.declared.Kind.{Kind}
 use Rattle.asmap_program.specs.declared.Kind.TheVariants.{Returned, Differed, OpcodeCut, OperandCut, TooFewBits}
 use Rattle.asmap_program.specs.Map.{DEFAULT, Fetched, Whole, CutOpcode, CutOperand, Map, Laws, length_of}
 use Rattle.asmap_program.specs.declared.Walker.{Walker}
-use Rattle.asmap_program.specs.Walk.{Walked, Turn, Goes, Stops, Compared, Equal, Different, compared, aborted, enough, meeting, turn_whole, turn_on, go_on, walk_from, walk}
+use Rattle.asmap_program.specs.Walk.{Walked, Turn, Goes, Stops, Compared, Equal, Different, compared, enough, meeting, turn_whole, turn_on, go_on, walk_from, walk}
 use Rattle.asmap_program.specs.Demand.{default_after, last_default, NoDefault, Answers, Aborts}
 
 -- what the number of a walk from default d is
