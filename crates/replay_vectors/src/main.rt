@@ -5,7 +5,7 @@
 // it and says what its lines hold.
 #![tactic(auto)]
 
-ghost use Rattle.std.specs.Prelude.{◌≡◌, ◌<◌, length};
+ghost use Rattle.std.specs.Prelude.{◌≡◌, ◌<◌, ◌≤◌, IfOk, length};
 
 use crate::addresses::{mapped, relay_skip, unroutable};
 use crate::builds::build;
@@ -16,10 +16,10 @@ use crate::maps::{check, check_stop, list_bytes, walk, written, written_of_two};
 use crate::pages::page;
 use crate::text::read_words;
 use crate::widths::{check_bits, check_stop_bits, list_bytes_bits, walk_bits, written_bits};
-use libc::{STDIN_FILENO, STDOUT_FILENO};
 use replay_outcomes::Seen;
 use replay_words::{Words, find, word};
-use std::num::wrapping_add_u64;
+use std::io;
+use std::io::Read;
 
 mod addresses;
 mod builds;
@@ -303,37 +303,30 @@ fn line_place(line: &[u8], bytes: &mut [u8]) -> usize
 fn add_one(counts: &mut [u64; 75], place: usize)
     requires { place < 75 }
 {
-    counts[place] = wrapping_add_u64(counts[place], 1);
-}
-
-fn say(text: &[u8]) {
-    io::write_all(STDOUT_FILENO, text);
-}
-
-fn say_number(n: u64) {
-    io::print_decimal(STDOUT_FILENO, n);
+    counts[place] = counts[place].wrapping_add(1);
 }
 
 // Names a line that is neither a heading nor has our answer, by the place where it is counted.
-fn say_line(line: u64, place: usize) {
+fn say_line(rt: &impl Print, line: u64, place: usize) -> io::Result<()> {
     if place < 36 || place == 72 {
-        return;
+        return Ok(());
     }
-    say(b"line ");
-    say_number(line);
     if place < 72 {
-        say(b" differs\n");
-        return;
+        return println!(rt; "line {line} differs");
     }
     if place < 74 {
-        say(b" has a wrong count of words\n");
-        return;
+        return println!(rt; "line {line} has a wrong count of words");
     }
-    say(b" cannot be read\n");
+    println!(rt; "line {line} cannot be read")
 }
 
 // Hands back how many lines there are.
-fn replay_list(list: &[u8], bytes: &mut [u8], counts: &mut [u64; 75]) -> u64 {
+fn replay_list(
+    rt: &impl Print,
+    list: &[u8],
+    bytes: &mut [u8],
+    counts: &mut [u64; 75],
+) -> io::Result<u64> {
     let mut lines: u64 = 0;
     let mut at: usize = 0;
     while at < list.len() {
@@ -341,102 +334,114 @@ fn replay_list(list: &[u8], bytes: &mut [u8], counts: &mut [u64; 75]) -> u64 {
         let place = line_place(&list[at..end], bytes);
         add_one(counts, place);
         lines += 1;
-        say_line(lines, place);
+        say_line(rt, lines, place)?;
         at = end + 1;
     }
-    lines
+    Ok(lines)
 }
 
-fn say_kind(name: &[u8], counts: &[u64; 75], kind: usize)
+fn say_kind(rt: &impl Print, name: &str, counts: &[u64; 75], kind: usize) -> io::Result<()>
     requires { kind < 36 }
 {
     let differ = counts[kind + 36];
-    say(name);
-    say_number(wrapping_add_u64(counts[kind], differ));
-    say(b" answers, ");
-    say_number(differ);
-    say(b" differ\n");
+    let answers = counts[kind].wrapping_add(differ);
+    println!(rt; "{name}: {answers} answers, {differ} differ")
 }
 
-fn say_codes(counts: &[u64; 75]) {
-    say_kind(b"code read: ", counts, 0);
-    say_kind(b"code written: ", counts, 1);
-    say_kind(b"instruction read: ", counts, 2);
-    say_kind(b"instruction written: ", counts, 3);
-    say_kind(b"bit reader: ", counts, 4);
+fn say_codes(rt: &impl Print, counts: &[u64; 75]) -> io::Result<()> {
+    say_kind(rt, "code read", counts, 0)?;
+    say_kind(rt, "code written", counts, 1)?;
+    say_kind(rt, "instruction read", counts, 2)?;
+    say_kind(rt, "instruction written", counts, 3)?;
+    say_kind(rt, "bit reader", counts, 4)
 }
 
-fn say_maps(counts: &[u64; 75]) {
-    say_kind(b"check: ", counts, 5);
-    say_kind(b"where a check stops: ", counts, 6);
-    say_kind(b"walk: ", counts, 7);
-    say_kind(b"unpack: ", counts, 8);
-    say_kind(b"pack: ", counts, 9);
-    say_kind(b"list: ", counts, 10);
-    say_kind(b"bytes of a list: ", counts, 11);
-    say_kind(b"compare: ", counts, 12);
-    say_kind(b"bytes of a comparison: ", counts, 13);
+fn say_maps(rt: &impl Print, counts: &[u64; 75]) -> io::Result<()> {
+    say_kind(rt, "check", counts, 5)?;
+    say_kind(rt, "where a check stops", counts, 6)?;
+    say_kind(rt, "walk", counts, 7)?;
+    say_kind(rt, "unpack", counts, 8)?;
+    say_kind(rt, "pack", counts, 9)?;
+    say_kind(rt, "list", counts, 10)?;
+    say_kind(rt, "bytes of a list", counts, 11)?;
+    say_kind(rt, "compare", counts, 12)?;
+    say_kind(rt, "bytes of a comparison", counts, 13)
 }
 
-fn say_widths(counts: &[u64; 75]) {
-    say_kind(b"check at a width: ", counts, 14);
-    say_kind(b"where a check at a width stops: ", counts, 15);
-    say_kind(b"walk at a width: ", counts, 16);
-    say_kind(b"unpack at a width: ", counts, 17);
-    say_kind(b"list at a width: ", counts, 18);
-    say_kind(b"bytes of a list at a width: ", counts, 19);
-    say_kind(b"compare at a width: ", counts, 20);
-    say_kind(b"bytes of a comparison at a width: ", counts, 21);
+fn say_widths(rt: &impl Print, counts: &[u64; 75]) -> io::Result<()> {
+    say_kind(rt, "check at a width", counts, 14)?;
+    say_kind(rt, "where a check at a width stops", counts, 15)?;
+    say_kind(rt, "walk at a width", counts, 16)?;
+    say_kind(rt, "unpack at a width", counts, 17)?;
+    say_kind(rt, "list at a width", counts, 18)?;
+    say_kind(rt, "bytes of a list at a width", counts, 19)?;
+    say_kind(rt, "compare at a width", counts, 20)?;
+    say_kind(rt, "bytes of a comparison at a width", counts, 21)
 }
 
-fn say_peers(counts: &[u64; 75]) {
-    say_kind(b"group by prefix: ", counts, 22);
-    say_kind(b"group: ", counts, 23);
-    say_kind(b"group, map unchecked: ", counts, 24);
-    say_kind(b"pick: ", counts, 25);
-    say_kind(b"pick, map unchecked: ", counts, 26);
-    say_kind(b"occupied scan: ", counts, 27);
-    say_kind(b"page: ", counts, 28);
-    say_kind(b"page, map unchecked: ", counts, 29);
+fn say_peers(rt: &impl Print, counts: &[u64; 75]) -> io::Result<()> {
+    say_kind(rt, "group by prefix", counts, 22)?;
+    say_kind(rt, "group", counts, 23)?;
+    say_kind(rt, "group, map unchecked", counts, 24)?;
+    say_kind(rt, "pick", counts, 25)?;
+    say_kind(rt, "pick, map unchecked", counts, 26)?;
+    say_kind(rt, "occupied scan", counts, 27)?;
+    say_kind(rt, "page", counts, 28)?;
+    say_kind(rt, "page, map unchecked", counts, 29)
 }
 
-fn say_addresses(counts: &[u64; 75]) {
-    say_kind(b"IPv4-mapped address: ", counts, 30);
-    say_kind(b"unroutable: ", counts, 31);
-    say_kind(b"relay skip: ", counts, 32);
+fn say_addresses(rt: &impl Print, counts: &[u64; 75]) -> io::Result<()> {
+    say_kind(rt, "IPv4-mapped address", counts, 30)?;
+    say_kind(rt, "unroutable", counts, 31)?;
+    say_kind(rt, "relay skip", counts, 32)
 }
 
-fn say_made(counts: &[u64; 75]) {
-    say_kind(b"draw: ", counts, 33);
-    say_kind(b"load: ", counts, 34);
-    say_kind(b"build: ", counts, 35);
+fn say_made(rt: &impl Print, counts: &[u64; 75]) -> io::Result<()> {
+    say_kind(rt, "draw", counts, 33)?;
+    say_kind(rt, "load", counts, 34)?;
+    say_kind(rt, "build", counts, 35)
 }
 
-fn say_lines(lines: u64, counts: &[u64; 75]) {
-    say_number(lines);
-    say(b" lines, ");
-    say_number(counts[72]);
-    say(b" of them headings, ");
-    say_number(counts[73]);
-    say(b" with a wrong count of words, ");
-    say_number(counts[74]);
-    say(b" not read\n");
+fn say_lines(rt: &impl Print, lines: u64, counts: &[u64; 75]) -> io::Result<()> {
+    let headings = counts[72];
+    let miscounted = counts[73];
+    let unread = counts[74];
+    println!(
+        rt;
+        "{lines} lines, {headings} of them headings, {miscounted} with a wrong count of words, {unread} not read"
+    )
 }
 
-fn main() {
+// Reads until the room is full or the input ends, and hands back how many bytes it put at the start of the room.
+fn read_full(input: &mut impl Read, room: &mut [u8]) -> io::Result<usize>
+    ensures { IfOk result (λ n. n ≤ length room.new) }
+{
+    let mut n: usize = 0;
+    while n < room.len() {
+        let read = input.read(&mut room[n..])?;
+        if read == 0 {
+            break;
+        }
+        n += read;
+    }
+    Ok(n)
+}
+
+fn main(rt: HostRuntime) -> io::Result<()> {
     let mut list = list_room();
     let mut bytes = word_room();
-    let n = io::read_full(STDIN_FILENO, &mut list);
+    let n = read_full(&mut rt.stdin(), &mut list)?;
     let mut counts = [0u64; 75];
-    let lines = replay_list(&list[..n], &mut bytes, &mut counts);
-    say_codes(&counts);
-    say_maps(&counts);
-    say_widths(&counts);
-    say_peers(&counts);
-    say_addresses(&counts);
-    say_made(&counts);
-    say_lines(lines, &counts);
+    let lines = replay_list(&rt, &list[..n], &mut bytes, &mut counts)?;
+    say_codes(&rt, &counts)?;
+    say_maps(&rt, &counts)?;
+    say_widths(&rt, &counts)?;
+    say_peers(&rt, &counts)?;
+    say_addresses(&rt, &counts)?;
+    say_made(&rt, &counts)?;
+    say_lines(&rt, lines, &counts)?;
     if n == list.len() {
-        say(b"the list is too long: what follows these bytes was not read\n");
+        println!(rt; "the list is too long: what follows these bytes was not read")?;
     }
+    Ok(())
 }
