@@ -1,2 +1,3 @@
 pub mod PartsLaws
 pub mod EncodeLaws
+pub mod LookedUp
