@@ -9,9 +9,10 @@ use lib.Dec.{eqb}
 use lib.ListN.{length, length-append}
 use Rattle.asmap_program.specs.declared.Instruction.{Instruction}
 use Rattle.asmap_program.specs.declared.Previous.{Previous}
+use Rattle.asmap_program.specs.declared.Previous.TheVariants.{Other, Default}
 use Rattle.asmap_program.specs.declared.Verdict.TheVariants.{Accepted}
 use Rattle.asmap_program.specs.Map.{RETURN, JUMP, MATCH, DEFAULT, end_of, target_of, Whole, Map, Laws, bit_of, length_of}
-use Rattle.asmap_program.specs.Check.{check, unpacked}
+use Rattle.asmap_program.specs.Check.{after_match, check, unpacked}
 use Rattle.asmap_program.specs.Tree.{Tree, return, jump, match, default}
 use Rattle.asmap_program.proofs.Tree.{program, forward}
 use Rattle.prefix_records.specs.Tiling.{Piece}
@@ -71,17 +72,17 @@ module _ (m : Map) where
         → (f u path d : ℕ) → end ≤ at + f → Counts f at u path d is
     tree_counts t zero u path d h = let a = forward m law t in absurd (omega arith)
     tree_counts (return {at} {i} f e q) (suc n) u path d h = counts-return n at u path d i f e
-    tree_counts (jump {at} {i} {is} {js} f e q t t') (suc n) u path d h =
+    tree_counts {b} (jump {at} {i} {is} {js} f e q t t') (suc n) u path d h =
         let s = law.stands _ _ f in
         let z = forward m law t' in
         counts-jump n at u path d i is js f e
-        (tree_counts t n (suc u) (2 * path) d (omega arith)) (tree_counts t' n (suc u) (2 * path + 1) d (omega arith))
-    tree_counts (match {at} {i} {is} f e q p t) (suc n) u path d h =
+        (tree_counts {b = Other} t n (suc u) (2 * path) d (omega arith)) (tree_counts {b = Other} t' n (suc u) (2 * path + 1) d (omega arith))
+    tree_counts {b} (match {at} {i} {is} f e q p t) (suc n) u path d h =
         let s = law.stands _ _ f in
-        counts-match n at u path d i is f e λ x. tree_counts t n (u + length_of i.operand) x d (omega arith)
-    tree_counts (default {at} {i} {is} f e q t) (suc n) u path d h =
+        counts-match n at u path d i is f e λ x. tree_counts {b = after_match (length_of i.operand)} t n (u + length_of i.operand) x d (omega arith)
+    tree_counts {b} (default {at} {i} {is} f e q t) (suc n) u path d h =
         let s = law.stands _ _ f in
-        counts-default n at u path d i is f e (tree_counts t n u path i.operand (omega arith))
+        counts-default n at u path d i is f e (tree_counts {b = Default} t n u path i.operand (omega arith))
 
     pub listing_counted : {c d : ℕ} (w : ℕ) → check m w ≡ Accepted c d → length (listing m) ≡ count_pieces (unpacked m w)
     unfolding listing

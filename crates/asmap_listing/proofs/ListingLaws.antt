@@ -11,9 +11,10 @@ use lib.Dec.{eqb}
 use borrow.Author.Tests.{lt-ltb, le-leb}
 use Rattle.asmap_program.specs.declared.Instruction.{Instruction}
 use Rattle.asmap_program.specs.declared.Previous.{Previous}
+use Rattle.asmap_program.specs.declared.Previous.TheVariants.{Other, Default}
 use Rattle.asmap_program.specs.declared.Verdict.TheVariants.{Accepted}
 use Rattle.asmap_program.specs.Map.{RETURN, JUMP, MATCH, DEFAULT, end_of, target_of, Fetched, Whole, Map, Laws, bit_of, length_of}
-use Rattle.asmap_program.specs.Check.{check}
+use Rattle.asmap_program.specs.Check.{after_match, check}
 use Rattle.asmap_program.specs.Tree.{Tree, return, jump, match, default}
 use Rattle.asmap_program.specs.declared.Walker.{Walker}
 use Rattle.asmap_program.specs.Walk.{Walked, Compared, Equal, Different, compared, enough, meeting, go_on, walk_from, walk}
@@ -102,20 +103,20 @@ module _ (m : Map) where
     tree-tiles (return {at} {i} f e q) (suc n) u path d h k =
         let l : u ≤ w = omega arith in
         rw (list_at n RETURN (spot at u path d) i f e) (refl, l, refl)
-    tree-tiles (jump {at} {i} f e q t t') (suc n) u path d h k =
+    tree-tiles {b} (jump {at} {i} f e q t t') (suc n) u path d h k =
         let s = law.stands _ _ f in
         let a = forward m law t' in
         rw (list_at n JUMP (spot at u path d) i f e)
         (block_halves w u path (omega arith) (list_from m n (spot (end_of i) (suc u) (2 * path) d)) (list_from m n (spot (target_of i) (suc u) (2 * path + 1) d))
-        (tree-tiles t n (suc u) (2 * path) d (omega arith) (omega arith)) (tree-tiles t' n (suc u) (2 * path + 1) d (omega arith) (omega arith)))
-    tree-tiles (match {at} {i} f e q p t) (suc n) u path d h k =
+        (tree-tiles {b = Other} t n (suc u) (2 * path) d (omega arith) (omega arith)) (tree-tiles {b = Other} t' n (suc u) (2 * path + 1) d (omega arith) (omega arith)))
+    tree-tiles {b} (match {at} {i} f e q p t) (suc n) u path d h k =
         let s = law.stands _ _ f in
         rw (list_at n MATCH (spot at u path d) i f e)
         (sides-tiles w d (λ (x : ℕ). list_from m n (spot (end_of i) (u + length_of i.operand) x d)) (length_of i.operand) i.operand path u (omega arith)
-        λ x. tree-tiles t n (u + length_of i.operand) x d (omega arith) (omega arith))
-    tree-tiles (default {at} {i} f e q t) (suc n) u path d h k =
+        λ x. tree-tiles {b = after_match (length_of i.operand)} t n (u + length_of i.operand) x d (omega arith) (omega arith))
+    tree-tiles {b} (default {at} {i} f e q t) (suc n) u path d h k =
         let s = law.stands _ _ f in
-        rw (list_at n DEFAULT (spot at u path d) i f e) (tree-tiles t n u path i.operand (omega arith) k)
+        rw (list_at n DEFAULT (spot at u path d) i f e) (tree-tiles {b = Default} t n u path i.operand (omega arith) k)
 
 -- the number of a walk at a MATCH
 met : (k : Walker → Walked) (s : Walker) (i : Instruction) (c : Compared)
@@ -200,20 +201,20 @@ module _ (a : ℕ → ℕ) (bits : Bits a) (m : Map) (law : Laws m) (w : ℕ) wh
       → Just (Walk f at u d) (List_at f at u (number_of a u) d)
   tree_just t zero u d h k = let a = forward m law t in absurd (omega arith)
   tree_just (return {at} {i} f e q) (suc n) u d h k = row-return n at u d i f e (omega arith)
-  tree_just (jump {at} {i} f e q t t') (suc n) u d h k =
+  tree_just {b} (jump {at} {i} f e q t t') (suc n) u d h k =
       let s = law.stands _ _ f in
       let z = forward m law t' in
       row-jump n at u d i f e (omega arith)
       (λ x. tree-tiles m law w t n (suc u) x d (omega arith) (omega arith)) (λ x. tree-tiles m law w t' n (suc u) x d (omega arith) (omega arith))
-      (tree_just t n (suc u) d (omega arith) (omega arith)) (tree_just t' n (suc u) d (omega arith) (omega arith))
-  tree_just (match {at} {i} f e q p t) (suc n) u d h k =
+      (tree_just {b = Other} t n (suc u) d (omega arith) (omega arith)) (tree_just {b = Other} t' n (suc u) d (omega arith) (omega arith))
+  tree_just {b} (match {at} {i} f e q p t) (suc n) u d h k =
       let s = law.stands _ _ f in
       row-match n at u d i f e (omega arith)
       (λ x. tree-tiles m law w t n (u + length_of i.operand) x d (omega arith) (omega arith))
-      (tree_just t n (u + length_of i.operand) d (omega arith) (omega arith))
-  tree_just (default {at} {i} f e q t) (suc n) u d h k =
+      (tree_just {b = after_match (length_of i.operand)} t n (u + length_of i.operand) d (omega arith) (omega arith))
+  tree_just {b} (default {at} {i} f e q t) (suc n) u d h k =
       let s = law.stands _ _ f in
-      row-default n at u d i f e (tree_just t n u i.operand (omega arith) k)
+      row-default n at u d i f e (tree_just {b = Default} t n u i.operand (omega arith) k)
 
 -- ---- the laws
 

@@ -12,9 +12,10 @@ use borrow.Author.Tests.{lt-ltb, le-leb}
 use lib.ListN.{length}
 use Rattle.asmap_program.specs.declared.Instruction.{Instruction}
 use Rattle.asmap_program.specs.declared.Previous.{Previous}
+use Rattle.asmap_program.specs.declared.Previous.TheVariants.{Other, Default}
 use Rattle.asmap_program.specs.declared.Verdict.TheVariants.{Accepted}
 use Rattle.asmap_program.specs.Map.{RETURN, JUMP, MATCH, DEFAULT, end_of, target_of, Fetched, Whole, CutOpcode, CutOperand, Map, Laws, bit_of, length_of}
-use Rattle.asmap_program.specs.Check.{check}
+use Rattle.asmap_program.specs.Check.{after_match, check}
 use Rattle.asmap_program.specs.Tree.{Tree, return, jump, match, default}
 use Rattle.asmap_program.proofs.Tree.{program, forward}
 use Rattle.prefix_records.specs.Tiling.{Piece}
@@ -159,17 +160,17 @@ module _ (m : Map) (law : Laws m) (w : ℕ) where
       → (f u path d : ℕ) → end ≤ at + f → u + left ≤ w → Scans f at u path d end
   tree_scans t zero u path d h k = let a = forward m law t in absurd (omega arith)
   tree_scans (return {at} {i} f e q) (suc n) u path d h k = scans-return n at u path d i f e
-  tree_scans (jump {at} {end} {i} f e q t t') (suc n) u path d h k =
+  tree_scans {b} (jump {at} {end} {i} f e q t t') (suc n) u path d h k =
       let s = law.stands _ _ f in
       let z = forward m law t' in
       scans-jump n at u path d end i f e (omega arith)
-      (tree_scans t n (suc u) (2 * path) d (omega arith) (omega arith)) (tree_scans t' n (suc u) (2 * path + 1) d (omega arith) (omega arith))
-  tree_scans (match {at} {end} {i} f e q p t) (suc n) u path d h k =
+      (tree_scans {b = Other} t n (suc u) (2 * path) d (omega arith) (omega arith)) (tree_scans {b = Other} t' n (suc u) (2 * path + 1) d (omega arith) (omega arith))
+  tree_scans {b} (match {at} {end} {i} f e q p t) (suc n) u path d h k =
       let s = law.stands _ _ f in
-      scans-match n at u path d end i f e (omega arith) λ x. tree_scans t n (u + length_of i.operand) x d (omega arith) (omega arith)
-  tree_scans (default {at} {end} {i} f e q t) (suc n) u path d h k =
+      scans-match n at u path d end i f e (omega arith) λ x. tree_scans {b = after_match (length_of i.operand)} t n (u + length_of i.operand) x d (omega arith) (omega arith)
+  tree_scans {b} (default {at} {end} {i} f e q t) (suc n) u path d h k =
       let s = law.stands _ _ f in
-      scans-default n at u path d end i f e (tree_scans t n u path i.operand (omega arith) k)
+      scans-default n at u path d end i f e (tree_scans {b = Default} t n u path i.operand (omega arith) k)
 
   -- the leaves of the listing, in one pass with room for w address bits, of a map that is accepted at w bits or fewer
   pub listing_scanned : {c d : ℕ} (v : ℕ) → v ≤ w → check m v ≡ Accepted c d → scanned m w 0 scan_start ≡ leaves (listing m)
