@@ -1,0 +1,6 @@
+-- The answer is the code's, and so what Core reads.
+use Rattle.asmap_codes.proofs.CoreLaws.{jump_is_core}
+use Rattle.asmap_decode.proofs.decode_jump.Goals as goal
+
+pub returns-clause-core : goal.returns-clause-core
+returns-clause-core c = jump_is_core c.args.map.now c.args.at _ c.decode_row.ensures
