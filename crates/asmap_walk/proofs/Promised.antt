@@ -14,7 +14,7 @@ use Rattle.asmap_program.specs.declared.Verdict.TheVariants.{Accepted}
 use Rattle.asmap_program.specs.Map.{address_bit}
 use Rattle.asmap_program.specs.Widths.{is_width}
 use Rattle.asmap_program.specs.Core.{Number, core_interpret}
-use Rattle.asmap_program.proofs.Widths.{at_width}
+use Rattle.asmap_program.proofs.Widths.{at_width_lem}
 use Rattle.asmap_program.proofs.Demand.{demand3, ended_answers}
 use Rattle.asmap_codes.specs.Core.{file_of}
 use Rattle.asmap_codes.specs.Instruction.{map_of}
@@ -87,7 +87,7 @@ module _ (m a : List ℕ) where
 
 module _ (m a : List ℕ) (w : ℕ) (r : Interpreted) (e : r ≡ interpret_at m a w) where
   over : is_width w ≡ true → r ≡ interpret_over m a w
-  over t = e ∙ at_width w Refused (interpret_over m a w) t
+  over t = e ∙ at_width_lem w Refused (interpret_over m a w) t
 
   pub promised_at : (r ≡ interpret_at m a w) × (Demand3At m a w r × CoreNumberAt m a w r)
   promised_at = (e, (λ t c d h l. (summary (walk_of m a w), handed m a w c d h l r (over t), kept m a w c d h), λ t c d h l. (summary (walk_of m a w), handed m a w c d h l r (over t), core-number m a w c d h)))
