@@ -1,0 +1,95 @@
+-- Each opcode has its arm.
+use Rattle.std.proofs.Common.{◌≡◌, ◌∙◌, ◌≢◌, ℕ, ◌*◌, ◌≤◌, ◌<◌, ◌^◌, Bool, false, List, length, drop, sym, lit<, arith}
+use mathlib.Core.Path.{subst}
+use lib.Dec.{lit≤}
+use Rattle.asmap_program.specs.Map.{limit}
+use Rattle.asmap_program.specs.declared.Previous.{Previous}
+use Rattle.asmap_codes.specs.Bits.{map_bits}
+use Rattle.asmap_codes.specs.Row.{type_row, operand_row}
+use Rattle.asmap_codes.specs.Code.{code_at}
+use Rattle.asmap_codes.specs.declared.Code.{Code}
+use Rattle.asmap_codes.specs.declared.Code.TheVariants.{Value}
+use Rattle.asmap_codes.proofs.Inside.{value_at}
+use Rattle.asmap_window.specs.models.Window.{Window}
+use Rattle.asmap_row_decoder.specs.models.InWindow.{Holds, row_in}
+use Rattle.asmap_row_decoder.proofs.WindowLaws.{row-window, window-holds}
+use Rattle.asmap_check_act.specs.models.Act.{past_top, refusing, on_operand, acts}
+use Rattle.asmap_check_act.proofs.sanity_act.Goals as goal
+
+-- what was read is the opcode of the map
+typed : (m : List ℕ) (at w : ℕ) (r g : Code) → Window 57 w (drop at (map_bits m)) → r ≡ row_in type_row at (8 * length m) w → r ≡ g → code_at m at type_row ≡ g
+typed m at w r g h e q = sym (e ∙ row-window m at w type_row (lit< tt) (window-holds m at w type_row (lit≤ tt) h)) ∙ q
+
+-- the operand of an opcode o starts inside the map, or at its end, and stands in the window
+near : (m : List ℕ) (pos op at w o : ℕ) → length m ≤ limit → code_at m pos type_row ≡ Value op at → Holds (operand_row op) m at w → op ≡ o
+    → (length m ≤ limit) × (at < 2 ^ 34) × Holds (operand_row o) m at w
+near m pos op at w o l t h e = (l, omega (arith, (value_at m pos type_row _ _ (lit< tt) t).inside), subst (λ (x : ℕ). Holds (operand_row x) m at w) e h)
+
+-- the arm of an opcode o is the act
+arm : (m : List ℕ) (p : Previous) (bits d t pos op at o : ℕ) (b : Bool) → b ≡ past_top d t pos → b ≡ false → code_at m pos type_row ≡ Value op at → op ≡ o
+    → on_operand m p bits d t o (code_at m at (operand_row o)) ≡ acts m p bits d t pos
+unfolding refusing
+arm m p bits d t pos op at o b h f k e = rw (sym h ∙ f, k, e)
+
+-- an opcode that is none of the first three
+last : (m : List ℕ) (pos op at : ℕ) → code_at m pos type_row ≡ Value op at → op ≢ 0 → op ≢ 1 → op ≢ 2 → op ≡ 3
+last m pos op at t h i j = omega (arith, (value_at m pos type_row _ _ (lit< tt) t).below, h, i, j)
+
+pub returns-then-past : goal.returns-then-past
+unfolding refusing
+returns-then-past c = rw (sym c.past.ensures ∙ c.if-past.true)
+
+pub returns-in_default : goal.returns-in_default
+unfolding refusing
+returns-in_default c =
+    let read = typed c.args.map.now c.args.pos _ _ _ c.window-w.ensures c.type_in-got.ensures c.in_default.is in
+    rw (sym c.past.ensures ∙ c.if-past.false, read)
+
+pub operand_window-rest-requires : goal.operand_window-rest-requires
+operand_window-rest-requires c = (c.window-w.ensures, typed c.args.map.now c.args.pos _ _ _ c.window-w.ensures c.type_in-got.ensures c.in-Value.is)
+
+pub sanity_return-requires : goal.sanity_return-requires
+sanity_return-requires c =
+    let read = typed c.args.map.now c.args.pos _ _ _ c.window-w.ensures c.type_in-got.ensures c.in-Value.is in
+    near c.args.map.now c.args.pos _ _ _ 0 c.requires.0 read c.operand_window-rest.ensures c.if-opcode-eq-RETURN.true
+
+pub returns-then-opcode-eq-RETURN : goal.returns-then-opcode-eq-RETURN
+returns-then-opcode-eq-RETURN c =
+    let a = c.args in
+    let read = typed a.map.now a.pos _ _ _ c.window-w.ensures c.type_in-got.ensures c.in-Value.is in
+    c.sanity_return.ensures ∙ arm a.map.now a.previous a.bits a.depth a.top a.pos _ _ 0 _ c.past.ensures c.if-past.false read c.if-opcode-eq-RETURN.true
+
+pub sanity_jump-requires : goal.sanity_jump-requires
+sanity_jump-requires c =
+    let read = typed c.args.map.now c.args.pos _ _ _ c.window-w.ensures c.type_in-got.ensures c.in-Value.is in
+    near c.args.map.now c.args.pos _ _ _ 1 c.requires.0 read c.operand_window-rest.ensures c.if-opcode-eq-JUMP.true
+
+pub returns-then-opcode-eq-JUMP : goal.returns-then-opcode-eq-JUMP
+returns-then-opcode-eq-JUMP c =
+    let a = c.args in
+    let read = typed a.map.now a.pos _ _ _ c.window-w.ensures c.type_in-got.ensures c.in-Value.is in
+    c.sanity_jump.ensures ∙ arm a.map.now a.previous a.bits a.depth a.top a.pos _ _ 1 _ c.past.ensures c.if-past.false read c.if-opcode-eq-JUMP.true
+
+pub sanity_match-requires : goal.sanity_match-requires
+sanity_match-requires c =
+    let read = typed c.args.map.now c.args.pos _ _ _ c.window-w.ensures c.type_in-got.ensures c.in-Value.is in
+    near c.args.map.now c.args.pos _ _ _ 2 c.requires.0 read c.operand_window-rest.ensures c.if-opcode-eq-MATCH.true
+
+pub returns-then-opcode-eq-MATCH : goal.returns-then-opcode-eq-MATCH
+returns-then-opcode-eq-MATCH c =
+    let a = c.args in
+    let read = typed a.map.now a.pos _ _ _ c.window-w.ensures c.type_in-got.ensures c.in-Value.is in
+    c.sanity_match.ensures ∙ arm a.map.now a.previous a.bits a.depth a.top a.pos _ _ 2 _ c.past.ensures c.if-past.false read c.if-opcode-eq-MATCH.true
+
+pub sanity_default-requires : goal.sanity_default-requires
+sanity_default-requires c =
+    let read = typed c.args.map.now c.args.pos _ _ _ c.window-w.ensures c.type_in-got.ensures c.in-Value.is in
+    let e = last c.args.map.now c.args.pos _ _ read c.if-opcode-eq-RETURN.false c.if-opcode-eq-JUMP.false c.if-opcode-eq-MATCH.false in
+    near c.args.map.now c.args.pos _ _ _ 3 c.requires.0 read c.operand_window-rest.ensures e
+
+pub returns : goal.returns
+returns c =
+    let a = c.args in
+    let read = typed a.map.now a.pos _ _ _ c.window-w.ensures c.type_in-got.ensures c.in-Value.is in
+    let e = last a.map.now a.pos _ _ read c.if-opcode-eq-RETURN.false c.if-opcode-eq-JUMP.false c.if-opcode-eq-MATCH.false in
+    c.sanity_default.ensures ∙ arm a.map.now a.previous a.bits a.depth a.top a.pos _ _ 3 _ c.past.ensures c.if-past.false read e
