@@ -4,19 +4,24 @@ use mathlib.Core.Bool.{Bool, true, false}
 use mathlib.Core.Path.{◌≡◌, refl, sym, ap, subst, ◌∙◌}
 use mathlib.Core.List.{List, [], ◌∷◌}
 use native.Mathlib.Omega.{arith}
-use lib.Dec.{eqb, lit<}
-use lib.ListN.{length, get_or, set, length-set}
+use lib.Dec.{eqb, lit<, lit≤}
+use lib.ListN.{length, get_or, drop, set, length-set}
 use lib.Seq.{get_or-set_same, get_or-set_other}
 use borrow.Author.Tests.{lt-ltb, le-ltb, lt-leb, le-leb}
 use Rattle.asmap_program.specs.declared.Instruction.{Instruction}
 use Rattle.asmap_program.specs.Map.{RETURN, JUMP, MATCH, DEFAULT, Fetched, bit_of, length_of}
 use Rattle.asmap_program.proofs.Length.{length-below}
-use Rattle.asmap_codes.specs.Row.{type_row, operand_row, span}
+use Rattle.asmap_codes.specs.Bits.{map_bits}
+use Rattle.asmap_codes.specs.Row.{Row, type_row, operand_row, span}
 use Rattle.asmap_codes.specs.Code.{code_at}
+use Rattle.asmap_codes.specs.declared.Code.{Code}
 use Rattle.asmap_codes.specs.declared.Code.TheVariants.{Value, Cut}
 use Rattle.asmap_codes.specs.Instruction.{map_of}
 use Rattle.asmap_codes.proofs.Inside.{value_at, long_operand}
 use Rattle.asmap_codes.proofs.MapLaws.{laws, fetch-cut, fetch_operand}
+use Rattle.asmap_window.specs.models.Window.{Window}
+use Rattle.asmap_row_decoder.specs.models.InWindow.{Holds, row_in}
+use Rattle.asmap_row_decoder.proofs.WindowLaws.{row-window, window-holds}
 use Rattle.asmap_listing.specs.models.Scan.{Leaf, leaf, Entry, Side, Half, Scan, popped, taken, given, bitwise, enough, scan_whole, scan_on, scan_start, scanned, Rising}
 use Rattle.asmap_listing.proofs.ScanLaws.{scanned-step, stack_bound}
 use Rattle.asmap_list_step.specs.declared.Spot.{Spot}
@@ -161,6 +166,19 @@ module _ (map : List ℕ) (s : Spot) (bs ns : List ℕ) (sane : Sane map s bs ns
   -- where an opcode is cut nothing is given
   pub opcode_cut : code_at map s.at type_row ≡ Cut → rest map s bs ns ≡ []
   opcode_cut e = rest_by _ (fetch-cut map s.at e)
+
+-- what is read from a window that holds the code is the code of the map
+pub was_read : (map : List ℕ) (from w : ℕ) (row : Row) → 1 < length row.sizes → Holds row map from w
+    → {r : Code} → r ≡ row_in row from (8 * length map) w → code_at map from row ≡ r
+was_read map from w row l h e = sym (e ∙ row-window map from w row l h)
+
+-- so of an opcode, in a window of the place
+pub opcode_read : (map : List ℕ) (at w : ℕ) → Window 57 w (drop at (map_bits map)) → {r : Code} → r ≡ row_in type_row at (8 * length map) w → code_at map at type_row ≡ r
+opcode_read map at w h e = was_read map at w type_row (lit< tt) (window-holds map at w type_row (lit≤ tt) h) e
+
+-- an opcode is below 4
+pub opcode_small : (map : List ℕ) (at op from : ℕ) → code_at map at type_row ≡ Value op from → op < 4
+opcode_small map at op from e = (value_at map at type_row op from (lit< tt) e).below
 
 -- an operand starts inside the map, or at its end
 pub from_near : (map : List ℕ) (s : Spot) (op from : ℕ) → Reads map s op from → length map ≤ 16777216 → from < 2 ^ 34
