@@ -9,7 +9,7 @@ use lib.ListN.{length}
 use Rattle.asmap_codes.specs.Bits.{low}
 use Rattle.asmap_codes.specs.Row.{type_row, operand_row, in_range}
 use Rattle.asmap_codes.specs.Encode.{instruction_bits}
-use Rattle.asmap_codes.proofs.RowLaws.{in_range}
+use Rattle.asmap_codes.proofs.RowLaws.{within_range}
 use Rattle.asmap_encode.specs.Write.{puts, none, pick_written, write_instruction}
 use Rattle.asmap_encode.specs.declared.Word.{Word}
 use Rattle.asmap_encode.specs.models.Words.{length_written}
@@ -39,7 +39,7 @@ module _ (op v : ℕ) where
       let h = instruction_word op v u e in
       let l = instruction_bits op v in
       record {
-        ranged = rw (in_range type_row op (omega arith) h.known, in_range (operand_row op) v h.above h.below);
+        ranged = rw (within_range type_row op (omega arith) h.known, within_range (operand_row op) v h.above h.below);
         len = h.len;
         small = rw (h.bits, h.len) (word_lt l (bits_instruction op v));
         short = h.most;

@@ -17,7 +17,7 @@ use Rattle.asmap_codes.specs.Encode.{instruction_bits}
 use Rattle.asmap_codes.specs.Instruction.{with_operand, with_opcode, fetch_at}
 use Rattle.asmap_codes.specs.declared.Code.{Code}
 use Rattle.asmap_codes.specs.declared.Code.TheVariants.{Value, Cut}
-use Rattle.asmap_codes.proofs.RowLaws.{type_fit, operand_fit, in_range, range_of}
+use Rattle.asmap_codes.proofs.RowLaws.{type_fit, operand_fit, within_range, range_of}
 use Rattle.asmap_codes.proofs.Inside.{value_at}
 use Rattle.asmap_codes.proofs.Instructions.{written_then_fetched, fetched_then_written}
 use Rattle.asmap_records.proofs.RecordLaws.{and_both}
@@ -68,7 +68,7 @@ stands m p i f =
     let b = value_at m s.middle row i.operand s.end (operand_fit i.opcode).many s.operand in
     record {
       here = s.place;
-      ranged = rw (in_range type_row i.opcode a.above a.below, in_range row i.operand b.above b.below);
+      ranged = rw (within_range type_row i.opcode a.above a.below, within_range row i.operand b.above b.below);
       bits = sym (fetched_then_written m p i f) ∙ ap (λ (k : ℕ). take i.size (drop k (map_bits m))) s.place;
       inside = omega (arith, s.size, a.past, b.past, b.inside);
       operand = omega (arith, (operand_fit i.opcode).small, b.below);
