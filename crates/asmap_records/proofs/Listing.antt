@@ -41,7 +41,7 @@ module _ (m : Map) where
 
   listed-run : {s : State} {is : List Instruction} {c d : ℕ} → Accepts m s is c d → Listed s.at is
   listed-run (last {i} v) = record { end = end_of i; all = then v.fetched none; tail = v.good }
-  listed-run (more {s} {s'} {i} {is} f v a) =
+  listed-run (more {s} {i} {s'} {is} f v a) =
       let r = rw (moved m v) at (listed-run a) in
       record { end = r.end; all = then f r.all; tail = r.tail }
 
