@@ -76,7 +76,7 @@ pub fn power(size: u8) -> u32
 }
 
 // Whether the last size of a row is as far above the first as the row is long. In each row no size is more than one above the
-// size before it: so this tells whether all sizes grow by one (`proofs/GrownLaws.antt`, `grown-of`).
+// size before it: so this tells whether all sizes grow by one (`proofs/GrownLaws.antt`, `grown_of`).
 pub fn grows(sizes: &[u8]) -> bool
     requires { (0 < length sizes.now) × (length sizes.now ≤ 26) }
     ensures { result ≡ eqb (get_or sizes.now (length sizes.now - 1) 0) (get_or sizes.now 0 0 + (length sizes.now - 1)) }
