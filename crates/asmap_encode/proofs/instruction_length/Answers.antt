@@ -1,0 +1,13 @@
+-- The lengths of both codes (length_both), or 0 where either is out of range.
+use Rattle.asmap_encode.proofs.InstructionLaws.{length_both, length_no_opcode, length_no_operand}
+use Rattle.asmap_encode.proofs.instruction_length.Goals as goal
+
+pub returns-in_default : goal.returns-in_default
+returns-in_default c = length_no_opcode c.args.opcode c.args.operand c.in_default.ensures
+
+pub returns-in_default-second : goal.returns-in_default-second
+returns-in_default-second c = length_no_operand c.args.opcode c.args.operand c.in-In.ensures.ranged c.in_default-second.ensures
+
+pub returns : goal.returns
+returns c =
+    length_both c.args.opcode c.args.operand c.in-In.prefix c.in-In.parts c.in-In-second.next_prefix c.in-In-second.next c.in-In.ensures c.in-In-second.ensures
