@@ -10,7 +10,7 @@ use peer_lists::MAX_CANDIDATES;
 
 // What the occupied scan came to: the first hit's place, from 0, and how many groups were read; no hit, and how many were read; or a
 // refusal, with its number.
-#[derive(Drop)]
+#[derive(Clone, Copy)]
 pub enum Scan {
     Hit(usize, usize),
     Missed(usize),

@@ -12,7 +12,7 @@ use candidate_bytes::is_candidate;
 pub const MAX_CANDIDATES: usize = 4096;
 
 // Whether a call is refused, and with which number of document 01.
-#[derive(Drop)]
+#[derive(Clone, Copy)]
 pub enum Refusal {
     None,
     Number(u8),
