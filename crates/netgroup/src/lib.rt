@@ -15,7 +15,7 @@ use peer_lists::Refusal;
 
 // What numbers the groups: the prefixes of the addresses, or the map that is given beside. `OldPrefixes` are the prefixes as document 01
 // numbers them, for callers who keep such groups. Without `Map` the map is not looked at and may have any length.
-#[derive(Drop)]
+#[derive(Clone, Copy)]
 pub enum Grouping {
     Prefixes,
     OldPrefixes,
@@ -26,14 +26,14 @@ pub enum Grouping {
 const IPV4_GROUPS: u64 = 4294967296;
 
 // A candidate's group, and the instructions of the walk that found it.
-#[derive(Drop)]
+#[derive(Clone, Copy)]
 pub struct Grouped {
     pub group: u64,
     pub count: u32,
 }
 
 // What a group call hands back.
-#[derive(Drop)]
+#[derive(Clone, Copy)]
 pub enum GroupAnswer {
     Group(u64),
     Refused(u8),
