@@ -90,31 +90,33 @@ module _ (m ts ss : List ℕ) (left at : ℕ) (before : Previous) (count deepest
   unfolding map_of
   closes_is zero op v n h =
       let e : at + (n - at) ≡ n = omega arith in
-      rw e (guarded _ _ (not (padded_from m n)) 6 _ Accepts refl)
+      rw e (guarded (s zero) (instruction at op (Value v n)) (not (padded_from m n)) 6 _ Accepts refl)
   closes_is (suc d) op v n h =
       let e : at + (n - at) ≡ n = omega arith in
       let z : suc d - 1 ≡ d = omega arith in
-      rw (e, z, ne_eqb (suc d) 0 (omega arith)) (guarded _ _ _ 7 _ (Closes n) refl)
+      rw (e, z, ne_eqb (suc d) 0 (omega arith)) (guarded (s (suc d)) (instruction at op (Value v n)) _ 7 _ (Closes n) refl)
 
   whole_is : (d v n : ℕ) → at < n → (op : ℕ)
       → step_whole (map_of m) (s d) (instruction at op (Value v n)) op ≡ applied (s d) (instruction at op (Value v n)) (on_operand m before left d (top ts d) op (Value v n))
-  whole_is d v n h zero = guarded _ _ (is_default before) 5 _ (returned m d (top ts d) (Value v n)) (closes_is d 0 v n h)
+  whole_is d v n h zero = guarded (s d) (instruction at 0 (Value v n)) (is_default before) 5 _ (returned m d (top ts d) (Value v n)) (closes_is d 0 v n h)
   whole_is d v n h (suc zero) =
       let e : at + (n - at) ≡ n = omega arith in
-      guarded _ _ (eqb left 0) 8 _ (refusing (past_top d (top ts d) (n + v)) 9 (Opens n (n + v)))
-      (rw (e, past_top_lem ts ss d (n + v)) (guarded _ _ (past_top d (top ts d) (n + v)) 9 _ (Opens n (n + v)) refl))
+      guarded (s d) (instruction at 1 (Value v n)) (eqb left 0) 8 _ (refusing (past_top d (top ts d) (n + v)) 9 (Opens n (n + v)))
+      (rw (e, past_top_lem ts ss d (n + v)) (guarded (s d) (instruction at 1 (Value v n)) (past_top d (top ts d) (n + v)) 9 _ (Opens n (n + v)) refl))
   whole_is d v n h (suc (suc zero)) =
       let e : at + (n - at) ≡ n = omega arith in
-      rw e (guarded _ _ _ 10 _ (refusing (ltb left (length_of v)) 8 (Uses n (length_of v))) (guarded _ _ _ 8 _ (Uses n (length_of v)) refl))
+      rw e
+      (guarded (s d) (instruction at 2 (Value v n)) _ 10 _ (refusing (ltb left (length_of v)) 8 (Uses n (length_of v)))
+      (guarded (s d) (instruction at 2 (Value v n)) _ 8 _ (Uses n (length_of v)) refl))
   whole_is d v n h (suc (suc (suc op))) =
       let e : at + (n - at) ≡ n = omega arith in
-      rw e (guarded _ _ (is_default before) 5 _ (Keeps n) refl)
+      rw e (guarded (s d) (instruction at (suc (suc (suc op))) (Value v n)) (is_default before) 5 _ (Keeps n) refl)
 
   cut_is : (d op : ℕ) → op < 4 → step_on (map_of m) (s d) (CutOperand op) ≡ applied (s d) (instruction at op Cut) (on_operand m before left d (top ts d) op Cut)
-  cut_is d zero h = rw (and-true (is_default before)) (guarded _ _ (is_default before) 5 _ (Refuses (cut_reason Operand)) refl)
+  cut_is d zero h = rw (and-true (is_default before)) (guarded (s d) (instruction at 0 Cut) (is_default before) 5 _ (Refuses (cut_reason Operand)) refl)
   cut_is d (suc zero) h = rw (and-false (is_default before)) (passed 5 (Refuse (cut_reason Operand)))
   cut_is d (suc (suc zero)) h = rw (and-false (is_default before)) (passed 5 (Refuse (cut_reason Operand)))
-  cut_is d (suc (suc (suc zero))) h = rw (and-true (is_default before)) (guarded _ _ (is_default before) 5 _ (Refuses (cut_reason Operand)) refl)
+  cut_is d (suc (suc (suc zero))) h = rw (and-true (is_default before)) (guarded (s d) (instruction at 3 Cut) (is_default before) 5 _ (Refuses (cut_reason Operand)) refl)
   cut_is d (suc (suc (suc (suc op)))) h = absurd (omega arith)
 
   operand_is : (d op : ℕ) → op < 4 → (c : Code) → ((v n : ℕ) → c ≡ Value v n → at < n)
@@ -135,7 +137,7 @@ module _ (m ts ss : List ℕ) (left at : ℕ) (before : Previous) (count deepest
   unfolding step map_of fetch_at
   act_is d h =
       rw (lt-leb (8 * length m) at h, past_top_lem ts ss d at)
-      (passed 2 _ ∙ guarded _ _ (past_top d (top ts d) at) 3 _ (on_opcode m before left d (top ts d) (code_at m at type_row)) (opcode_is d (code_at m at type_row) refl))
+      (passed 2 _ ∙ guarded (s d) (here m at) (past_top d (top ts d) at) 3 _ (on_opcode m before left d (top ts d) (code_at m at type_row)) (opcode_is d (code_at m at type_row) refl))
 
   -- a step at its end
   pub end_is : (d : ℕ) → 8 * length m ≤ at → step (map_of m) (s d) ≡ Refuse 2
@@ -202,24 +204,25 @@ tells_unless i false n a h = h
 module _ (m : List ℕ) (p : Previous) (bits t : ℕ) where
   tells-returned : (d place : ℕ) (c : Code) → Tells (instruction place 0 c) (returned m d t c)
   tells-returned d place Cut = tt
-  tells-returned zero place (Value v n) = tells_unless _ (not (padded_from m n)) 6 Accepts refl
-  tells-returned (suc d) place (Value v n) = rw (ne_eqb (suc d) 0 (omega arith)) (tells_unless _ (not (eqb n t)) 7 (Closes n) refl)
+  tells-returned zero place (Value v n) = tells_unless (instruction place 0 (Value v n)) (not (padded_from m n)) 6 Accepts refl
+  tells-returned (suc d) place (Value v n) = rw (ne_eqb (suc d) 0 (omega arith)) (tells_unless (instruction place 0 (Value v n)) (not (eqb n t)) 7 (Closes n) refl)
 
   tells_on : (d op place : ℕ) (c : Code) → Tells (instruction place op c) (on_operand m p bits d t op c)
-  tells_on d zero place c = tells_unless _ (is_default p) 5 (returned m d t c) (tells-returned d place c)
+  tells_on d zero place c = tells_unless (instruction place 0 c) (is_default p) 5 (returned m d t c) (tells-returned d place c)
   tells_on d (suc zero) place Cut = tt
   tells_on d (suc zero) place (Value v n) =
-      tells_unless _ (eqb bits 0) 8 (refusing (past_top d t (n + v)) 9 (Opens n (n + v))) (tells_unless _ (past_top d t (n + v)) 9 (Opens n (n + v)) refl)
+      tells_unless (instruction place 1 (Value v n)) (eqb bits 0) 8 (refusing (past_top d t (n + v)) 9 (Opens n (n + v)))
+      (tells_unless (instruction place 1 (Value v n)) (past_top d t (n + v)) 9 (Opens n (n + v)) refl)
   tells_on d (suc (suc zero)) place Cut = tt
   tells_on d (suc (suc zero)) place (Value v n) =
-      tells_unless _ (ltb (length_of v) 8 && is_short p) 10 (refusing (ltb bits (length_of v)) 8 (Uses n (length_of v)))
-      (tells_unless _ (ltb bits (length_of v)) 8 (Uses n (length_of v)) refl)
-  tells_on d (suc (suc (suc op))) place Cut = tells_unless _ (is_default p) 5 (kept Cut) tt
-  tells_on d (suc (suc (suc op))) place (Value v n) = tells_unless _ (is_default p) 5 (kept (Value v n)) refl
+      tells_unless (instruction place 2 (Value v n)) (ltb (length_of v) 8 && is_short p) 10 (refusing (ltb bits (length_of v)) 8 (Uses n (length_of v)))
+      (tells_unless (instruction place 2 (Value v n)) (ltb bits (length_of v)) 8 (Uses n (length_of v)) refl)
+  tells_on d (suc (suc (suc op))) place Cut = tells_unless (instruction place (suc (suc (suc op))) Cut) (is_default p) 5 (kept Cut) tt
+  tells_on d (suc (suc (suc op))) place (Value v n) = tells_unless (instruction place (suc (suc (suc op))) (Value v n)) (is_default p) 5 (kept (Value v n)) refl
 
   tells_opcode : (d place : ℕ) (c : Code) → Tells (instruction_at m place c) (on_opcode m p bits d t c)
   tells_opcode d place Cut = tt
   tells_opcode d place (Value op n) = tells_on d op place (code_at m n (operand_row op))
 
   pub tells : (d place : ℕ) → Tells (here m place) (acts m p bits d t place)
-  tells d place = tells_unless _ (past_top d t place) 3 (on_opcode m p bits d t (code_at m place type_row)) (tells_opcode d place (code_at m place type_row))
+  tells d place = tells_unless (here m place) (past_top d t place) 3 (on_opcode m p bits d t (code_at m place type_row)) (tells_opcode d place (code_at m place type_row))
