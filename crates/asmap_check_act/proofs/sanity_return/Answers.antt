@@ -1,5 +1,5 @@
 -- Each way out is what the tests make of the model.
-use Rattle.std.proofs.Common.{◌∙◌, sym, lit<, arith}
+use Rattle.std.proofs.Common.{◌∙◌, sym, lit<}
 use borrow.Author.Tests.{eq-eqb, ne_eqb}
 use Rattle.asmap_codes.specs.Row.{asn_row}
 use Rattle.asmap_codes.proofs.Inside.{value_at}
