@@ -14,7 +14,7 @@ use netgroup::Grouping;
 use peer_lists::candidate_at;
 
 // What the first pass came to.
-#[derive(Drop)]
+#[derive(Clone, Copy)]
 pub struct First {
     pub taken: usize,
     pub examined: usize,
