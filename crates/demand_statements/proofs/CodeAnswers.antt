@@ -74,11 +74,11 @@ read_cut m o h l e = refused_as _ (ap o (le-ltb limit (length m) l) ∙ e) h
 nothing : (m : List ℕ) (at : ℕ) → 8 * length m ≤ at → drop at (map_bits m) ≡ []
 nothing m at h = drop_of_length-le (map_bits m) {i = at} (omega (arith, length-map_bits m))
 
-read_code : (p : Part) (b : Bool) (c : Code) → Outcomes (λ n. n ≡ cut_reason p) b (code_read (answered p b c))
+read_code_lem : (p : Part) (b : Bool) (c : Code) → Outcomes (λ n. n ≡ cut_reason p) b (code_read (answered p b c))
 unfolding code_read
-read_code p true c = long
-read_code p false (Value v n) = found
-read_code p false Cut = cut refl
+read_code_lem p true c = long
+read_code_lem p false (Value v n) = found
+read_code_lem p false Cut = cut refl
 
 not_1 : (p : Part) → cut_reason p ≡ 1 → ⊥
 not_1 Opcode e = absurd (omega arith)
@@ -91,7 +91,7 @@ unfolding code_read
 code_reads m at row e h =
     let p = part_from row.least in
     let o : Bool → Outcome = λ (b : Bool). code_read (answered p b (code_at m at row)) in
-    let a = read_answered (λ n. n ≡ cut_reason p) (λ n q z. not_1 p (sym q ∙ z)) m o refl (read_code p _ (code_at m at row)) h in
+    let a = read_answered (λ n. n ≡ cut_reason p) (λ n q z. not_1 p (sym q ∙ z)) m o refl (read_code_lem p _ (code_at m at row)) h in
     record {
       numbers = a.numbers;
       too_long = a.too_long;
@@ -100,12 +100,12 @@ code_reads m at row e h =
       untouched = a.untouched;
     }
 
-read_instruction : (b : Bool) (f : Fetched) → Outcomes (λ n. (n ≡ 4) ⊎ (n ≡ 19)) b (instruction_read (answered_whole b f))
+read_instruction_lem : (b : Bool) (f : Fetched) → Outcomes (λ n. (n ≡ 4) ⊎ (n ≡ 19)) b (instruction_read (answered_whole b f))
 unfolding instruction_read
-read_instruction true f = long
-read_instruction false (Whole i) = found
-read_instruction false CutOpcode = cut (inl refl)
-read_instruction false (CutOperand op) = cut (inr refl)
+read_instruction_lem true f = long
+read_instruction_lem false (Whole i) = found
+read_instruction_lem false CutOpcode = cut (inl refl)
+read_instruction_lem false (CutOperand op) = cut (inr refl)
 
 neither_1 : (n : ℕ) → (n ≡ 4) ⊎ (n ≡ 19) → n ≡ 1 → ⊥
 neither_1 n (inl q) z = absurd (omega arith)
@@ -116,7 +116,7 @@ pub instruction_reads : (m : List ℕ) (at : ℕ) {r : ℕ} {entry exit : List �
 unfolding instruction_read read_instruction fetch_at
 instruction_reads m at h =
     let o : Bool → Outcome = λ (b : Bool). instruction_read (answered_whole b (fetch_at m at)) in
-    let a = read_answered (λ n. (n ≡ 4) ⊎ (n ≡ 19)) neither_1 m o refl (read_instruction _ (fetch_at m at)) h in
+    let a = read_answered (λ n. (n ≡ 4) ⊎ (n ≡ 19)) neither_1 m o refl (read_instruction_lem _ (fetch_at m at)) h in
     record {
       numbers = a.numbers;
       too_long = a.too_long;
@@ -158,24 +158,24 @@ code_writes row greatest top v h = record {
 }
 
 -- the row of each opcode's operand
-least_operand : (op : ℕ) → (operand_row op).least ≡ least_operand op
-least_operand zero = refl
-least_operand (suc zero) = refl
-least_operand (suc (suc zero)) = refl
-least_operand (suc (suc (suc n))) = refl
+least_operand_lem : (op : ℕ) → (operand_row op).least ≡ least_operand op
+least_operand_lem zero = refl
+least_operand_lem (suc zero) = refl
+least_operand_lem (suc (suc zero)) = refl
+least_operand_lem (suc (suc (suc n))) = refl
 
-greatest_operand : (op : ℕ) → (operand_row op).least + span (operand_row op).sizes ≡ greatest_operand op + 1
-greatest_operand zero = refl
-greatest_operand (suc zero) = refl
-greatest_operand (suc (suc zero)) = refl
-greatest_operand (suc (suc (suc n))) = refl
+greatest_operand_lem : (op : ℕ) → (operand_row op).least + span (operand_row op).sizes ≡ greatest_operand op + 1
+greatest_operand_lem zero = refl
+greatest_operand_lem (suc zero) = refl
+greatest_operand_lem (suc (suc zero)) = refl
+greatest_operand_lem (suc (suc (suc n))) = refl
 
 pub instruction_writes : (op v : ℕ) {r : ℕ} {entry exit : List ℕ} → Hands (bits_written (write_instruction op v)) r entry exit → WritesInstruction op v r entry exit
 unfolding write_instruction
 instruction_writes op v h =
     let w = puts none (instruction_bits op v) in
-    let n = least_operand op in
-    let t = greatest_operand op in
+    let n = least_operand_lem op in
+    let t = greatest_operand_lem op in
     let both : in_range type_row op ≡ true → in_range (operand_row op) v ≡ true → (in_range type_row op && in_range (operand_row op) v) ≡ true = λ a b. rw (a, b) in
     let first : in_range type_row op ≡ false → (in_range type_row op && in_range (operand_row op) v) ≡ false = λ a. rw a in
     let second : in_range (operand_row op) v ≡ false → (in_range type_row op && in_range (operand_row op) v) ≡ false = λ b. rw b (and-false (in_range type_row op)) in
