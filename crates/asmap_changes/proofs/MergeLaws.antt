@@ -274,8 +274,8 @@ pub start_at : (map : List ℕ) (s : Spot) (bits numbers : List ℕ) → Ready m
     → Coming map s (record { high = 0; low = 0 }) bits numbers 0 (listing (map_of map))
 start_at map s bits numbers r b n e = subst (λ (t : Spot). Coming map t (record { high = 0; low = 0 }) bits numbers 0 (listing (map_of map))) (sym e) (start_coming map bits numbers r b n)
 
-pub first_of : {map : List ℕ} {s : Spot} {ps : List Piece} {bits numbers : List ℕ} {f : Front} → Split map s ps bits numbers f → First map ps bits numbers f
-first_of x = record { piece = x.piece; behind = x.behind; parts = x.parts; fore = x.fore }
+pub first_of_lem : {map : List ℕ} {s : Spot} {ps : List Piece} {bits numbers : List ℕ} {f : Front} → Split map s ps bits numbers f → First map ps bits numbers f
+first_of_lem x = record { piece = x.piece; behind = x.behind; parts = x.parts; fore = x.fore }
 
 whole_none : (writes : Bool) (out : List ℕ) (f : Found) (cs : List Change) → cs ≡ [] → f ≡ record { pieces = 0; first = record { high = 0; low = 0 } } → Whole writes cs out out f
 whole_none writes out f cs e h = subst (Whole writes cs out out) (sym h) (tally_whole (tally_start writes out cs) e)
