@@ -19,7 +19,7 @@ use Rattle.pick_passes.specs.Fill.{fill}
 use Rattle.pick_passes.specs.models.Places.{Places}
 use Rattle.peer_lists.specs.Refusal.{list_refusal}
 use Rattle.netgroup_pick.specs.PickRefusal.{pick_refusal}
-use Rattle.pick_passes.specs.Ranked.{groups_of, counts_of, sum, first, instructions}
+use Rattle.pick_passes.specs.Ranked.{groups_of, counts_of, sum, first}
 use Rattle.pick_passes.specs.Output.{written}
 use Rattle.netgroup_pick.specs.Pick.{places, handed, pick_unless, pick_call, select_diverse, select_unchecked}
 use Rattle.pick_passes.specs.models.Passed.{PassedFirst, Filled}

@@ -14,7 +14,7 @@ use peer_lists::{Refusal, list_refusal};
 
 // What a pick came to: how many picks there are, how many of them the first pass took, how many candidates it examined, and the
 // instructions of their walks.
-#[derive(Drop)]
+#[derive(Clone, Copy)]
 pub struct Totals {
     pub total: usize,
     pub first: usize,
@@ -23,7 +23,7 @@ pub struct Totals {
 }
 
 // What a pick hands back.
-#[derive(Drop)]
+#[derive(Clone, Copy)]
 pub enum PickAnswer {
     Picked(Totals),
     Refused(u8),
