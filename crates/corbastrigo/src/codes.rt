@@ -15,12 +15,7 @@ use answer_codes::{hand_bits, hand_code, hand_instruction};
 // 4 where it is an opcode and 19 where it is an operand.
 
 // An opcode.
-pub fn corbastrigo_decode_type(
-    map: &[u8],
-    at: usize,
-    value: &mut u32,
-    next: &mut usize,
-) -> u8
+pub fn corbastrigo_decode_type(map: &[u8], at: usize, value: &mut u32, next: &mut usize) -> u8
     ensures hands { Hands (code_read (read_code map.now at type_row)) result (value.old ∷ next.old ∷ []) (value.new ∷ next.new ∷ []) }
     ensures core { CoreCode map.now at result value.new next.new ((file_of map.now).decode_type at) }
 {
@@ -28,12 +23,7 @@ pub fn corbastrigo_decode_type(
 }
 
 // An AS number.
-pub fn corbastrigo_decode_asn(
-    map: &[u8],
-    at: usize,
-    value: &mut u32,
-    next: &mut usize,
-) -> u8
+pub fn corbastrigo_decode_asn(map: &[u8], at: usize, value: &mut u32, next: &mut usize) -> u8
     ensures hands { Hands (code_read (read_code map.now at asn_row)) result (value.old ∷ next.old ∷ []) (value.new ∷ next.new ∷ []) }
     ensures core { CoreCode map.now at result value.new next.new ((file_of map.now).decode_asn at) }
 {
@@ -41,12 +31,7 @@ pub fn corbastrigo_decode_asn(
 }
 
 // A MATCH operand.
-pub fn corbastrigo_decode_match(
-    map: &[u8],
-    at: usize,
-    value: &mut u32,
-    next: &mut usize,
-) -> u8
+pub fn corbastrigo_decode_match(map: &[u8], at: usize, value: &mut u32, next: &mut usize) -> u8
     ensures hands { Hands (code_read (read_code map.now at match_row)) result (value.old ∷ next.old ∷ []) (value.new ∷ next.new ∷ []) }
     ensures core { CoreCode map.now at result value.new next.new ((file_of map.now).decode_match at) }
 {
@@ -54,12 +39,7 @@ pub fn corbastrigo_decode_match(
 }
 
 // A JUMP operand.
-pub fn corbastrigo_decode_jump(
-    map: &[u8],
-    at: usize,
-    value: &mut u32,
-    next: &mut usize,
-) -> u8
+pub fn corbastrigo_decode_jump(map: &[u8], at: usize, value: &mut u32, next: &mut usize) -> u8
     ensures hands { Hands (code_read (read_code map.now at jump_row)) result (value.old ∷ next.old ∷ []) (value.new ∷ next.new ∷ []) }
     ensures core { CoreCode map.now at result value.new next.new ((file_of map.now).decode_jump at) }
 {

@@ -15,12 +15,7 @@ pub fn corbastrigo_clearnet_unroutable(address: &[u8], unroutable: &mut u8) -> u
 }
 
 // Whether an entry of an addrv2 message is not sent on: its BIP155 network id, address bytes and port. Refusal 17.
-pub fn corbastrigo_addrv2_skip_relay(
-    id: u8,
-    address: &[u8],
-    port: u16,
-    skips: &mut u8,
-) -> u8
+pub fn corbastrigo_addrv2_skip_relay(id: u8, address: &[u8], port: u16, skips: &mut u8) -> u8
     ensures { Hands (said (relay_of id address.now port)) result (skips.old ∷ []) (skips.new ∷ []) }
 {
     hand_relay(netaddr::addrv2_skip_relay(id, address, port), skips)

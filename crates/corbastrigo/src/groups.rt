@@ -25,12 +25,7 @@ pub fn corbastrigo_prefix_group(candidate: &[u8], group: &mut u64) -> u8
 }
 
 // The group of a candidate, with a map or none. Refusals 13, then with a map the check's, 1 to 10 and 19.
-pub fn corbastrigo_netgroup(
-    candidate: &[u8],
-    has_map: u8,
-    map: &[u8],
-    group: &mut u64,
-) -> u8
+pub fn corbastrigo_netgroup(candidate: &[u8], has_map: u8, map: &[u8], group: &mut u64) -> u8
     ensures hands { Hands (group_found (netgroup_of (numbering (grouping_of has_map) map.now) candidate.now)) result (group.old ∷ []) (group.new ∷ []) }
     ensures unaborted { result ≡ 0 → Whole (numbering (grouping_of has_map) map.now) candidate.now (GroupAnswer.Group group.new) }
 {

@@ -20,12 +20,7 @@ pub fn corbastrigo_next_draw(s: u64, draw: &mut u64) -> u8
 
 // Writes the load of so many pairs from a seed: a map that the check accepts over every number of address bits from `pairs` on. Refusals 20 for a
 // seed of 0 or more than 128 pairs, then 14.
-pub fn corbastrigo_load(
-    seed: u64,
-    pairs: usize,
-    out: &mut [u8],
-    written: &mut usize,
-) -> u8
+pub fn corbastrigo_load(seed: u64, pairs: usize, out: &mut [u8], written: &mut usize) -> u8
     ensures writes { Writes (load_of seed pairs) out.old out.new result (written.old ∷ []) (written.new ∷ []) }
     ensures passes { result ≡ 0 → Passes seed pairs (take written.new out.new) }
 {

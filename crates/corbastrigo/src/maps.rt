@@ -26,11 +26,7 @@ pub fn corbastrigo_sanity_check(map: &[u8], count: &mut u32, depth: &mut u8) -> 
 
 // Says where the check of a map stops, and why: the reason, 0 where the check accepts and else 2 to 10 or 19, and the place, the bit of the map at
 // which it stops. 0 says that both are written, also of a map that the check refuses. Refusal 1.
-pub fn corbastrigo_sanity_check_stop(
-    map: &[u8],
-    reason: &mut u8,
-    place: &mut usize,
-) -> u8
+pub fn corbastrigo_sanity_check_stop(map: &[u8], reason: &mut u8, place: &mut usize) -> u8
     ensures { Hands (check_stopped (stopped_of map.now 128)) result (reason.old ∷ place.old ∷ []) (reason.new ∷ place.new ∷ []) }
 {
     hand_stop(asmap_check::sanity_check_stop(map), reason, place)

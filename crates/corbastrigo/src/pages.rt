@@ -48,11 +48,7 @@ pub fn corbastrigo_page_unchecked(
 }
 
 // The page without a map in the old numbering of prefixes (document 02, CR 7). Refusals 13, 12, 13, 14.
-pub fn corbastrigo_old_prefix_page(
-    candidates: &[u8],
-    out: &mut [u8],
-    written: &mut usize,
-) -> u8
+pub fn corbastrigo_old_prefix_page(candidates: &[u8], out: &mut [u8], written: &mut usize) -> u8
     ensures writes { Writes (old_prefix_page candidates.now) out.old out.new result (written.old ∷ []) (written.new ∷ []) }
     ensures told { result ≡ 0 → Told by_old_prefixes candidates.now (Answer.Wrote written.new) }
 {

@@ -18,12 +18,7 @@ use answer_bytes::{hand_bytes, hand_needed};
 use answer_maps::{hand_stop, hand_verdict, hand_walk};
 
 // Checks a map over the width's address bits. Refusals 18, then 1 to 10 and 19.
-pub fn corbastrigo_sanity_check_bits(
-    map: &[u8],
-    width: u32,
-    count: &mut u32,
-    depth: &mut u8,
-) -> u8
+pub fn corbastrigo_sanity_check_bits(map: &[u8], width: u32, count: &mut u32, depth: &mut u8) -> u8
     ensures hands { Hands (map_checked (check_at map.now width)) result (count.old ∷ depth.old ∷ []) (count.new ∷ depth.new ∷ []) }
     ensures core { CoreVerdictAt map.now width result }
 {
@@ -71,12 +66,7 @@ pub fn corbastrigo_interpret_bits(
 }
 
 // Unpacks a map that the check accepts at the width. Refusals 18, the check's, 14.
-pub fn corbastrigo_unpack_bits(
-    map: &[u8],
-    width: u32,
-    out: &mut [u8],
-    written: &mut usize,
-) -> u8
+pub fn corbastrigo_unpack_bits(map: &[u8], width: u32, out: &mut [u8], written: &mut usize) -> u8
     ensures { Writes (unpack_at map.now width) out.old out.new result (written.old ∷ []) (written.new ∷ []) }
 {
     hand_bytes(asmap_unpack::unpack_bits(map, width, out), written)
@@ -84,12 +74,7 @@ pub fn corbastrigo_unpack_bits(
 
 // Lists every prefix that a map tells apart, of a map that the check accepts at the width. At 32 an address stands in the first 4 of a record's 16
 // bytes, with zeros behind. Refusals 18, the check's, 14.
-pub fn corbastrigo_list_bits(
-    map: &[u8],
-    width: u32,
-    out: &mut [u8],
-    written: &mut usize,
-) -> u8
+pub fn corbastrigo_list_bits(map: &[u8], width: u32, out: &mut [u8], written: &mut usize) -> u8
     ensures writes { Writes (list_at map.now width) out.old out.new result (written.old ∷ []) (written.new ∷ []) }
     ensures covers { Covers map.now width }
 {

@@ -406,8 +406,7 @@ fn say_lines(rt: &impl Print, lines: u64, counts: &[u64; 75]) -> io::Result<()> 
     let headings = counts[72];
     let miscounted = counts[73];
     let unread = counts[74];
-    println!(
-        rt;
+    println!(rt;
         "{lines} lines, {headings} of them headings, {miscounted} with a wrong count of words, {unread} not read"
     )
 }

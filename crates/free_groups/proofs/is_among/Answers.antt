@@ -12,9 +12,9 @@ returns-then-is_occupied c =
     let ts = c.args.taken.now in
     let n = c.args.count in
     sym (
-        ap (has g) (first_taken os ts n (omega (arith, c.if-count-occupied.false)))
-        ∙ has-append g os (take (n - length os) ts)
-        ∙ rw (sym c.is_occupied-2.ensures ∙ c.if-is_occupied.true)
+    ap (has g) (first_taken os ts n (omega (arith, c.if-count-occupied.false)))
+    ∙ has-append g os (take (n - length os) ts)
+    ∙ rw (sym c.is_occupied-2.ensures ∙ c.if-is_occupied.true)
     )
 
 pub returns : goal.returns
@@ -25,7 +25,7 @@ returns c =
     let n = c.args.count in
     c.contains.ensures
     ∙ sym (
-        ap (has g) (first_taken os ts n (omega (arith, c.if-count-occupied.false)))
-        ∙ has-append g os (take (n - length os) ts)
-        ∙ rw (sym c.is_occupied-2.ensures ∙ c.if-is_occupied.false)
+    ap (has g) (first_taken os ts n (omega (arith, c.if-count-occupied.false)))
+    ∙ has-append g os (take (n - length os) ts)
+    ∙ rw (sym c.is_occupied-2.ensures ∙ c.if-is_occupied.false)
     )

@@ -6,9 +6,8 @@ use Rattle.peer_lists.proofs.all_candidates.Goals as goal
 
 pub loop-i-preserved : goal.loop-i-preserved
 loop-i-preserved c =
-    let all = candidates_of c.args.candidates.now in
-    (
-        omega arith,
-        refl,
-        c.loop-i.invariant.2 ∙ part-valid all c.loop-i.i 4 (sym c.four_candidates.ensures ∙ c.if-not-four_candidates.false),
+    let all = candidates_of c.args.candidates.now in (
+      omega arith,
+      refl,
+      c.loop-i.invariant.2 ∙ part-valid all c.loop-i.i 4 (sym c.four_candidates.ensures ∙ c.if-not-four_candidates.false),
     )
