@@ -10,7 +10,7 @@ ghost use Rattle.asmap_code_parts.specs.models.Parts.{GrownParts, CodeParts, Cod
 use asmap_codes::{ASN_BIT_SIZES, JUMP_BIT_SIZES, MATCH_BIT_SIZES, TYPE_BIT_SIZES};
 
 // The parts of a code: how many ones it starts with, the size that has its value, and the number in that size.
-#[derive(Drop)]
+#[derive(Clone, Copy)]
 pub struct Parts {
     pub ones: usize,
     pub size: u8,
@@ -19,7 +19,7 @@ pub struct Parts {
 
 // What was found of a value in a row: how many bits stand before the size's own, and the parts of its code; or that the row does
 // not have it.
-#[derive(Drop)]
+#[derive(Clone, Copy)]
 pub enum Coded {
     In(usize, Parts),
     Out,
