@@ -4,7 +4,7 @@ use Prim.Native.Nat.{ℕ, ◌+◌, ◌-◌, ◌*◌, ◌/◌, ◌%◌, ◌^◌, 
 use native.Mathlib.Nat.{one-mul, div-one}
 use native.Mathlib.Omega.{arith}
 use lib.Dec.{lit<}
-use lib.Pow.{pow_mono, shl_exact}
+use lib.Pow.{shl_exact}
 use Rattle.asmap_codes.specs.models.Reverse.{rev}
 use Rattle.asmap_encode.specs.models.Words.{Short, number_of}
 use Rattle.asmap_code_parts.specs.declared.Parts.{Parts}

@@ -9,14 +9,14 @@ ghost use Rattle.asmap_encode.specs.Write.{write_code, write_instruction};
 use asmap_code_parts::{Coded, Parts};
 
 // Bits in a word, the first bit lowest, and how many they are.
-#[derive(Drop)]
+#[derive(Clone, Copy)]
 pub struct Word {
     pub bits: u64,
     pub len: usize,
 }
 
 // What the writers hand back: the bits, or document 01's number.
-#[derive(Drop)]
+#[derive(Clone, Copy)]
 pub enum Written {
     Bits(Word),
     Refused(u8),
