@@ -12,7 +12,7 @@ use asmap_encode::{Word, Written};
 
 // The bits that are not yet written, fewer than 64, the first lowest and none above them, and the place of their first byte. A
 // writer from a place on starts with no bits.
-#[derive(Drop)]
+#[derive(Clone, Copy)]
 pub struct BitWriter {
     pub bits: u64,
     pub held: usize,
