@@ -10,7 +10,7 @@ use asmap_encode::{Word, Written};
 
 // What is written of a map, from its end on: how many bits; of them the first, fewer than 8, that fill no byte yet, the first lowest; and the place
 // behind their byte.
-#[derive(Drop)]
+#[derive(Clone, Copy)]
 pub struct Front {
     pub done: usize,
     pub bits: u64,
