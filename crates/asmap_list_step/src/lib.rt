@@ -21,7 +21,7 @@ use asmap_codes::Code;
 // the operand of a MATCH, and how many of its bits are still to be taken. depth: the entries on the stack. up: the piece before ended what
 // it stood in, and the stack says what comes next. default and value stand apart: side by side they would be copied as one, which waits for the stores
 // of both.
-#[derive(Drop)]
+#[derive(Clone, Copy)]
 pub struct Spot {
     pub at: usize,
     pub default: u32,
