@@ -54,7 +54,7 @@ pub enum Code {
 }
 
 // What reading a code hands back: its value and the bit after it, or document 01's number.
-#[derive(Drop)]
+#[derive(Clone, Copy)]
 pub enum Decoded {
     Found(u32, usize),
     Refused(u8),
