@@ -1,6 +1,6 @@
-// The bit reader (document 01, Forms): a small struct that borrows a map and carries the index of the bit that comes next. Each
-// function over it is proved by hand, so they are few and thin: they take the reader apart and leave the work to `asmap_items`, whose
-// functions take a plain slice and a number. A caller that holds no reader uses `read_at`.
+// The bit reader (document 01, Forms): a small struct that borrows a map and carries the index of the bit that comes next. The
+// functions over it are few and thin: they take the reader apart and leave the work to `asmap_items`, whose functions take a plain
+// slice and a number. A caller that holds no reader uses `read_at`.
 #![tactic(auto)]
 
 ghost use Rattle.std.specs.Prelude.{◌≡◌};
@@ -11,21 +11,21 @@ use asmap_codes::Decoded;
 use asmap_items::{Item, bits_left, decode_item, place_after};
 
 // A reader: the map, and the index of its next bit, which may lie past the map's end.
-#[derive(Drop)]
+#[derive(Clone, Copy)]
 pub struct BitReader<'a> {
     pub map: &'a [u8],
     pub at: usize,
 }
 
 // What a read hands back: the bit or code, or document 01's number; and the reader moved on.
-#[derive(Drop)]
+#[derive(Clone, Copy)]
 pub struct Read<'a> {
     pub got: Decoded,
     pub reader: BitReader<'a>,
 }
 
 // The same in plain numbers: what was read, the place after it, and how many bits are left there.
-#[derive(Drop)]
+#[derive(Clone, Copy)]
 pub struct Step {
     pub got: Decoded,
     pub place: usize,

@@ -1,2 +1,0 @@
-mod ByHand
-mod Held
