@@ -62,6 +62,7 @@ pub fn is_mapped(candidate: &[u8]) -> bool
 
 // Whether bytes are a candidate: 20 of them, family 6, or 4 with the mapped form, and a zero. Of family 4 two words hold the
 // first 14 bytes: 4 and zeros, then zeros and ff ff.
+#[tactic(auto, unfolding(crate::specs::Candidate::valid))]
 pub fn is_candidate(candidate: &[u8]) -> bool
     ensures { result ≡ valid candidate.now }
 {
