@@ -95,6 +95,7 @@ pub fn contains(groups: &[u64], group: u64) -> bool
 
 // The occupied scan: the first hit's place, from 0, or none, and how many groups were read: that place plus one, or all. Of a group
 // that stands there twice the first place counts. Refusal 12 for over 4,096 groups.
+#[tactic(auto, unfolding(crate::specs::Scan::Unread))]
 pub fn scan_occupied(group: u64, occupied: &[u64]) -> Scan
     ensures value { result ≡ scan_of group occupied.now }
     ensures unread { Unread group occupied.now result }

@@ -8,4 +8,4 @@ returns c =
     let a = c.args in
     let e = c.front_of_four-front.ensures in
     ap (λ (k : ℕ). 4 + k) c.front_of_four.ensures
-    ∙ sym (part_on a.group a.groups.now a.i 4 (omega (arith, c.requires)) 4 (omega (arith, e, c.if-front-lt4.false)))
+    ∙ sym (part_on a.group a.groups.now a.i 4 (omega (arith, c.requires)) 4 (omega (arith, e)))

@@ -8,4 +8,4 @@ returns c =
     let a = c.args in
     let e = c.front_of_two-front.ensures in
     ap (λ (k : ℕ). 2 + k) c.front_of_two.ensures
-    ∙ sym (part_on a.group a.groups.now a.i 2 (omega (arith, c.requires)) 2 (omega (arith, e, c.if-front-lt2.false)))
+    ∙ sym (part_on a.group a.groups.now a.i 2 (omega (arith, c.requires)) 2 (omega (arith, e)))

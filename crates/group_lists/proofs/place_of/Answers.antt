@@ -12,5 +12,5 @@ loop-i-preserved c =
     let gs = c.args.groups.now in
     let e = c.front_of_eight-front.ensures in
     let m : in_front g (take 8 (drop l.i gs)) ≡ 8 =
-    omega (arith, e, c.if-front-lt8.false, front_most g (take 8 (drop l.i gs)), length-take-le 8 (drop l.i gs) (omega (arith, length-drop l.i gs))) in
+    omega (arith, e, front_most g (take 8 (drop l.i gs)), length-take-le 8 (drop l.i gs) (omega (arith, length-drop l.i gs))) in
     (omega arith, omega (arith, l.invariant.1, rest_on g gs l.i 8 (omega arith) (omega (arith, m))))

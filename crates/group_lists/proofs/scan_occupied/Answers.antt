@@ -6,17 +6,13 @@ use Rattle.group_lists.proofs.Scans.{front_most}
 use Rattle.group_lists.proofs.ScanLaws.{scan-taken, scanned_hit, scanned_missed, hit-unread}
 use Rattle.group_lists.proofs.scan_occupied.Goals as goal
 
-pub returns-then-occupied-gt-MAX_CANDIDATES-clause-unread : goal.returns-then-occupied-gt-MAX_CANDIDATES-clause-unread
-unfolding Unread
-returns-then-occupied-gt-MAX_CANDIDATES-clause-unread c = tt
-
 pub returns-then-place-occupied-clause-value : goal.returns-then-place-occupied-clause-value
 returns-then-place-occupied-clause-value c =
     let g = c.args.group in
     let gs = c.args.occupied.now in
     let e = c.place_of-place.ensures in
     let h : in_front g gs < length gs = omega (arith, e, c.if-place-occupied.true) in
-    rw e (sym (scan-taken g gs (omega (arith, c.if-occupied-gt-MAX_CANDIDATES.false)) ∙ scanned_hit g gs h))
+    rw e (sym (scan-taken g gs (omega arith) ∙ scanned_hit g gs h))
 
 pub returns-then-place-occupied-clause-unread : goal.returns-then-place-occupied-clause-unread
 unfolding Unread
@@ -33,8 +29,4 @@ returns-clause-value c =
     let gs = c.args.occupied.now in
     let e = c.place_of-place.ensures in
     let z : in_front g gs ≡ length gs = omega (arith, e, c.if-place-occupied.false, front_most g gs) in
-    ap Missed (e ∙ z) ∙ sym (scan-taken g gs (omega (arith, c.if-occupied-gt-MAX_CANDIDATES.false)) ∙ scanned_missed g gs (omega (arith, z)))
-
-pub returns-clause-unread : goal.returns-clause-unread
-unfolding Unread
-returns-clause-unread c = tt
+    ap Missed (e ∙ z) ∙ sym (scan-taken g gs (omega arith) ∙ scanned_missed g gs (omega (arith, z)))
