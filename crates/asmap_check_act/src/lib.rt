@@ -69,6 +69,7 @@ fn past(depth: usize, top: u32, place: usize) -> bool
 }
 
 // Padding after the final RETURN: at most 7 bits, all 0.
+#[tactic(auto, using(crate::proofs::PaddingLaws::padded_long))]
 fn padded(map: &[u8], at: usize) -> bool
     requires { (length map.now ≤ limit) × (at ≤ 8 * length map.now) }
     ensures { result ≡ padded_from map.now at }

@@ -1,10 +1,7 @@
 -- No more than 7 bits, and none of those passed is a one.
 use Rattle.std.proofs.Common.{◌∙◌, sym, arith}
-use Rattle.asmap_check_act.proofs.PaddingLaws.{padded_long, padded_short, zero_on, zero_off, zero_end}
+use Rattle.asmap_check_act.proofs.PaddingLaws.{padded_short, zero_on, zero_off, zero_end}
 use Rattle.asmap_check_act.proofs.padded.Goals as goal
-
-pub returns-then-end-at-gt7 : goal.returns-then-end-at-gt7
-returns-then-end-at-gt7 c = padded_long c.args.map.now c.args.at (omega arith)
 
 pub returns-then-bit_at-eq1 : goal.returns-then-bit_at-eq1
 returns-then-bit_at-eq1 c =
