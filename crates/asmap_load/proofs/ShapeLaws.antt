@@ -177,7 +177,7 @@ module _ (address : ℕ → ℕ) (m : Map) (law : Laws m) (w : ℕ) where
       let p = law.stands _ _ g in
       let p' = law.stands _ _ g' in
       let t = next (next s) in
-      let rest = laid_walk l f (u + 1) i.operand (omega (arith, p.here, p.some, p'.here, p'.some)) (omega arith) (begins_on address u n s b) in
+      let rest = laid_walk {n = n} {s = t} {at = end_of j} {end = end} {is = is} l f (u + 1) i.operand (omega (arith, p.here, p.some, p'.here, p'.some)) (omega arith) (begins_on address u n s b) in
       let first = past-match f (end_of i) u i.operand (bit_by t) j g' e' v (omega arith) (omega arith) (begins-first address u n s b) in
       let draws : 2 * suc n + 1 ≡ suc (suc (2 * n + 1)) = omega arith in
       let bits : u + 1 + n ≡ u + suc n = omega arith in
