@@ -43,6 +43,7 @@ impl Generator {
     }
 
     // The start from a seed. Refusal 20 for 0.
+    #[tactic(auto, unfolding(crate::specs::Draw::seeded_by))]
     pub fn seeded(seed: u64) -> Seeded
         ensures { result ≡ seeded_by seed }
     {
