@@ -16,14 +16,14 @@ pub struct Generator {
 }
 
 // What a seeded start comes to: a generator, or the refusal's number.
-#[derive(Drop)]
+#[derive(Clone, Copy)]
 pub enum Seeded {
     Start(Generator),
     Refused(u8),
 }
 
 // What a draw from a plain number comes to: the number drawn, or the refusal's number.
-#[derive(Drop)]
+#[derive(Clone, Copy)]
 pub enum Drawn {
     Number(u64),
     Refused(u8),
