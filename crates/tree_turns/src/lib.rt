@@ -10,7 +10,7 @@ use prefix_records::Address;
 
 // What is done at a subtree. One still to do that has one number returns, any other is descended into, to its half with bit 1. One that is done is
 // closed by its JUMP where it is a half with bit 0; from a half with bit 1 the pass crosses to the half beside it.
-#[derive(Drop)]
+#[derive(Clone, Copy)]
 pub enum Turn {
     Returns,
     Descends,
