@@ -9,7 +9,7 @@ ghost use Rattle.prefix_lists.specs.models.End.{Ends, may_begin};
 use prefix_records::Address;
 
 // Whether a list may be built from, or the number of its refusal.
-#[derive(Drop)]
+#[derive(Clone, Copy)]
 pub enum Judged {
     Listed,
     Refused(u8),
