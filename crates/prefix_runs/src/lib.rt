@@ -12,7 +12,7 @@ ghost use Rattle.prefix_runs.specs.models.Pieces.{top, Joined};
 use prefix_records::Address;
 
 // A run of addresses with one number: where it starts, its number, and how many of the list's prefixes lie below it.
-#[derive(Drop)]
+#[derive(Clone, Copy)]
 pub struct Run {
     pub first: Address,
     pub number: u32,
