@@ -24,7 +24,7 @@ use prefix_records::Address;
 use tree_turns::Turn;
 
 // How many bits the map has, or that it is over the limit.
-#[derive(Drop)]
+#[derive(Clone, Copy)]
 enum Size {
     Ends(usize),
     Over,
