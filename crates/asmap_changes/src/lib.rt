@@ -14,7 +14,7 @@ use asmap_list_step::{Next, Spot};
 use prefix_records::Address;
 
 // The foremost piece of a listing: where it begins and the address behind it, its prefix length and number, and where the listing stands behind it.
-#[derive(Drop)]
+#[derive(Clone, Copy)]
 pub struct Front {
     pub begin: Address,
     pub end: Address,
@@ -31,14 +31,14 @@ pub enum Ahead {
 }
 
 // Where a prefix begins, and its length.
-#[derive(Drop)]
+#[derive(Clone, Copy)]
 pub struct Place {
     pub begin: Address,
     pub len: u8,
 }
 
 // What was found so far: how many pieces differ, and where the first of them begins.
-#[derive(Drop)]
+#[derive(Clone, Copy)]
 pub struct Found {
     pub pieces: usize,
     pub first: Address,
