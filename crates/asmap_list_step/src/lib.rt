@@ -33,7 +33,7 @@ pub struct Spot {
 }
 
 // What a step comes to: a piece, with its prefix length and number, and where the listing stands then; no piece; or the end.
-#[derive(Drop)]
+#[derive(Clone, Copy)]
 pub enum Turn {
     Gives(u8, u32, Spot),
     Goes(Spot),
@@ -41,7 +41,7 @@ pub enum Turn {
 }
 
 // The next piece, with its prefix length and number, and where the listing stands then; or none, at the listing's end.
-#[derive(Drop)]
+#[derive(Clone, Copy)]
 pub enum Next {
     Piece(u8, u32, Spot),
     Over,
