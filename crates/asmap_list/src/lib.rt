@@ -20,7 +20,7 @@ use asmap_records::Answer;
 use prefix_records::Address;
 
 // How many bytes a listing needs, or the number of the check's refusal.
-#[derive(Drop)]
+#[derive(Clone, Copy)]
 pub enum Needed {
     Bytes(usize),
     Refused(u8),
