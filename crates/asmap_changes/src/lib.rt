@@ -24,7 +24,7 @@ pub struct Front {
 }
 
 // What is ahead in a listing: a piece, or its end.
-#[derive(Drop)]
+#[derive(Clone, Copy)]
 pub enum Ahead {
     At(Front),
     Over,
