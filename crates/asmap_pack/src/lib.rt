@@ -13,7 +13,7 @@ use asmap_program::MAX_MAP_BYTES;
 use asmap_records::Answer;
 
 // Where the records that were read end in the map, or the number of the first wrong one.
-#[derive(Drop)]
+#[derive(Clone, Copy)]
 pub enum Size {
     Ends(usize),
     Wrong(u8),

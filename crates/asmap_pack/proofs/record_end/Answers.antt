@@ -1,0 +1,69 @@
+-- Each return is one of the laws of the record at a byte (SizeLaws).
+use Rattle.std.proofs.Common.{◌≡◌, ◌∙◌, sym, ap, arith, ℕ, ◌+◌}
+use lib.ListN.{get_or}
+use Rattle.asmap_encode.specs.models.Words.{length_written}
+use Rattle.asmap_encode.specs.Write.{write_instruction}
+use Rattle.byte_numbers.specs.Numbers.{number4}
+use Rattle.asmap_bit_writer.proofs.WrittenLaws.{Measured, measured_some, measured_none}
+use Rattle.asmap_pack.proofs.SizeLaws.{end_range, end-zeros, end_place, end_size, end_long, end_made}
+use Rattle.asmap_pack.proofs.record_end.Goals as goal
+
+-- how many bits are written for the opcode and the operand that were read
+counted : (op v v' len : ℕ) → v' ≡ v → len ≡ length_written (write_instruction op v') → len ≡ length_written (write_instruction op v)
+counted op v v' len e h = h ∙ ap (λ (y : ℕ). length_written (write_instruction op y)) e
+
+pub returns-then-len-eq0 : goal.returns-then-len-eq0
+returns-then-len-eq0 c =
+    let a = c.args in
+    let rs = a.records.now in
+    let len = c.instruction_length-len in
+    end_range rs a.from a.at
+    (measured_none (get_or rs a.from 0) (number4 rs (a.from + 4)) len.result (counted _ _ _ _ c.number_at-operand.ensures len.ensures) c.if-len-eq0.true)
+
+-- the record is in range, and has so many bits
+measured : (op v v' len : ℕ) → v' ≡ v → len ≡ length_written (write_instruction op v') → (len ≡ 0 → ⊥) → Measured op v len
+measured op v v' len e h n = measured_some op v len (counted op v v' len e h) n
+
+pub overflow_add-end : goal.overflow_add-end
+overflow_add-end c =
+    let m = measured _ _ _ _ c.number_at-operand.ensures c.instruction_length-len.ensures c.if-len-eq0.false in
+    omega (arith, m.short)
+
+pub returns-then-number_at-opcode : goal.returns-then-number_at-opcode
+returns-then-number_at-opcode c =
+    let a = c.args in
+    end-zeros a.records.now a.from a.at _ (measured _ _ _ _ c.number_at-operand.ensures c.instruction_length-len.ensures c.if-len-eq0.false)
+    (λ k. c.if-number_at-opcode.true (c.number_at.ensures ∙ k))
+
+pub returns-then-number_at-at : goal.returns-then-number_at-at
+returns-then-number_at-at c =
+    let a = c.args in
+    end_place a.records.now a.from a.at _ (measured _ _ _ _ c.number_at-operand.ensures c.instruction_length-len.ensures c.if-len-eq0.false)
+    (sym c.number_at.ensures ∙ c.if-number_at-opcode.false)
+    (λ k. c.if-number_at-at.true (c.number_at-2.ensures ∙ k))
+
+pub returns-then-number_at-len : goal.returns-then-number_at-len
+returns-then-number_at-len c =
+    let a = c.args in
+    end_size a.records.now a.from a.at _ (measured _ _ _ _ c.number_at-operand.ensures c.instruction_length-len.ensures c.if-len-eq0.false)
+    (sym c.number_at.ensures ∙ c.if-number_at-opcode.false)
+    (sym c.number_at-2.ensures ∙ c.if-number_at-at.false)
+    (λ k. c.if-number_at-len.true (c.number_at-3.ensures ∙ k))
+
+pub returns-then-end : goal.returns-then-end
+returns-then-end c =
+    let a = c.args in
+    end_long a.records.now a.from a.at _ (measured _ _ _ _ c.number_at-operand.ensures c.instruction_length-len.ensures c.if-len-eq0.false)
+    (sym c.number_at.ensures ∙ c.if-number_at-opcode.false)
+    (sym c.number_at-2.ensures ∙ c.if-number_at-at.false)
+    (sym c.number_at-3.ensures ∙ c.if-number_at-len.false)
+    (omega arith)
+
+pub returns : goal.returns
+returns c =
+    let a = c.args in
+    end_made a.records.now a.from a.at _ (measured _ _ _ _ c.number_at-operand.ensures c.instruction_length-len.ensures c.if-len-eq0.false)
+    (sym c.number_at.ensures ∙ c.if-number_at-opcode.false)
+    (sym c.number_at-2.ensures ∙ c.if-number_at-at.false)
+    (sym c.number_at-3.ensures ∙ c.if-number_at-len.false)
+    (omega arith)
