@@ -9,7 +9,7 @@ use asmap_codes::Decoded;
 use asmap_program::{CUT_OPCODE, MAX_MAP_BYTES};
 
 // What a reader can be asked for: one bit, or a code of one of the four rows.
-#[derive(Drop)]
+#[derive(Clone, Copy)]
 pub enum Item {
     Bit,
     Opcode,
