@@ -1,0 +1,7 @@
+-- `word_room` hands out as many bytes as it says. The law on repeats spares antt a count of them.
+use Rattle.std.proofs.Common.{ℕ, sym}
+use Rattle.std.proofs.Math.ListN.{length-replicate}
+use Rattle.replay_vectors.proofs.word_room.Goals as goal
+
+pub returns : goal.returns
+returns c = sym (length-replicate {A = ℕ} 262144 0)
