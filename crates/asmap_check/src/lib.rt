@@ -12,14 +12,14 @@ use asmap_program::{ADDRESS_BITS, MAX_MAP_BYTES, Verdict};
 
 // Where the check of a map stops: at a place, with the reason, 0 where it accepts; or the number of document 01's refusal, where the map is
 // too long to be read.
-#[derive(Drop)]
+#[derive(Clone, Copy)]
 pub enum Stopped {
     At(u8, usize),
     Refused(u8),
 }
 
 // How many prefixes an accepted map tells apart (document 02, CR 1), or the number of the refusal.
-#[derive(Drop)]
+#[derive(Clone, Copy)]
 pub enum Counted {
     Pieces(usize),
     Refused(u8),

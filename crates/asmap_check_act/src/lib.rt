@@ -16,7 +16,7 @@ use asmap_program::{CUT_OPCODE, CUT_OPERAND, Previous};
 
 // What an instruction asks of the loop. The first number of the first four is the place after the instruction; then a JUMP's target, a
 // MATCH's length.
-#[derive(Drop)]
+#[derive(Clone, Copy)]
 pub enum Act {
     Opens(usize, u32),
     Closes(usize),

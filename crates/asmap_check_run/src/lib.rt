@@ -15,7 +15,7 @@ use asmap_check_act::Act;
 use asmap_program::{Previous, Verdict};
 
 // What the loop comes to, for all calls of the check: the verdict, the place at which it stopped, and the prefixes told apart up to there.
-#[derive(Drop)]
+#[derive(Clone, Copy)]
 pub struct Judged {
     pub verdict: Verdict,
     pub place: usize,

@@ -25,7 +25,7 @@ pub const JUMP_BIT_SIZES: [u8; 26] = [
 ];
 
 // The four tables together.
-#[derive(Drop)]
+#[derive(Clone, Copy)]
 pub struct BitSizes {
     pub types: [u8; 3],
     pub asns: [u8; 10],
@@ -47,7 +47,7 @@ pub fn bit_sizes() -> BitSizes
 }
 
 // A code in a map within the limit: its value and the bit after it, or no value where the map's end cuts it.
-#[derive(Drop)]
+#[derive(Clone, Copy)]
 pub enum Code {
     Value(u32, usize),
     Cut,
@@ -61,7 +61,7 @@ pub enum Decoded {
 }
 
 // What reading an instruction hands back: the instruction, or document 01's number.
-#[derive(Drop)]
+#[derive(Clone, Copy)]
 pub enum DecodedInstruction {
     Found(Instruction),
     Refused(u8),

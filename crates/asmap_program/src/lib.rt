@@ -39,7 +39,7 @@ pub const MATCH: u32 = 2;
 pub const DEFAULT: u32 = 3;
 
 // The four opcodes together.
-#[derive(Drop)]
+#[derive(Clone, Copy)]
 pub struct Opcodes {
     pub returns: u32,
     pub jumps: u32,
@@ -61,7 +61,7 @@ pub fn opcode_numbers() -> Opcodes
 
 // An instruction that was read whole: opcode and operand, the place of its first bit, and its length in bits (`size`, opcode and
 // operand together).
-#[derive(Drop)]
+#[derive(Clone, Copy)]
 pub struct Instruction {
     pub opcode: u32,
     pub operand: u32,
@@ -70,7 +70,7 @@ pub struct Instruction {
 }
 
 // What the check remembers of the instruction before: a MATCH shorter than 8, a DEFAULT, or any other, a JUMP among them.
-#[derive(Drop)]
+#[derive(Clone, Copy)]
 pub enum Previous {
     Other,
     Short,
@@ -79,7 +79,7 @@ pub enum Previous {
 
 // What the check answers: accepted, with the number of instructions and the greatest number of jumps open at once; or
 // refused, with document 01's number.
-#[derive(Drop)]
+#[derive(Clone, Copy)]
 pub enum Verdict {
     Accepted(u32, u8),
     Refused(u8),
@@ -87,7 +87,7 @@ pub enum Verdict {
 
 // Where a walk stands: the place, the address bits used so far, the width, which is how many bits the address has, and the default. The
 // defined walk and the code that walks share it.
-#[derive(Drop)]
+#[derive(Clone, Copy)]
 pub struct Walker {
     pub at: usize,
     pub used: u8,
@@ -97,7 +97,7 @@ pub struct Walker {
 
 // How a walk ends: at a RETURN, at a MATCH that differs, or aborted, which it is in three ways: the map's end cuts the opcode to be read or its
 // operand, or an instruction needs more address bits than are left. Its number does not tell which: each abort has 0, and the default can be 0 too.
-#[derive(Drop)]
+#[derive(Clone, Copy)]
 pub enum Kind {
     Returned,
     Differed,

@@ -41,7 +41,7 @@ fn coded(value: u32, next: usize, end: usize) -> Code
 }
 
 // Where a code's prefix ends: the value so far, the window and the number of bits read there, and the size that it stopped at.
-#[derive(Drop)]
+#[derive(Clone, Copy)]
 pub struct Prefix {
     pub value: u32,
     pub left: u64,

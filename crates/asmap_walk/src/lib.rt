@@ -9,7 +9,7 @@ use asmap_program::{ADDRESS_BITS, MAX_MAP_BYTES};
 use asmap_walk_bits::{Ending, walk_bits};
 
 // What the call hands back: how the walk ended, or the number of document 01's refusal.
-#[derive(Drop)]
+#[derive(Clone, Copy)]
 pub enum Interpreted {
     Ended(Ending),
     Refused(u8),

@@ -12,7 +12,7 @@ use asmap_program::{Kind, Walker};
 // How a walk ended: its kind, its number, the instructions whose opcode and operand were read whole, and the address bits read.
 // The number 0 says little by itself: a walk that aborts has it, and so has one that differs before it read a DEFAULT. The kind
 // tells the two apart.
-#[derive(Drop)]
+#[derive(Clone, Copy)]
 pub struct Ending {
     pub kind: Kind,
     pub number: u32,

@@ -11,7 +11,7 @@ use netaddr_ranges::ipv4_unroutable;
 use netaddr_unroutable::{ip_unroutable, octets4, octets16};
 
 // What the filter says of an address, or document 01's number.
-#[derive(Drop)]
+#[derive(Clone, Copy)]
 pub enum Filtered {
     Routable,
     Unroutable,
@@ -19,7 +19,7 @@ pub enum Filtered {
 }
 
 // Whether an entry goes on to other peers, or document 01's number.
-#[derive(Drop)]
+#[derive(Clone, Copy)]
 pub enum Relay {
     Passes,
     Skips,
