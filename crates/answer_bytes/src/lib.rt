@@ -10,6 +10,7 @@ use asmap_list::Needed;
 use asmap_records::Answer;
 
 // What unpack, pack, a listing, a comparison or a page came to.
+#[tactic(auto, unfolding(answer_outcome::specs::Outcome::handed, crate::specs::Bytes::bytes_written))]
 pub fn hand_bytes(got: Answer, written: &mut usize) -> u8
     ensures { result ∷ written.new ∷ [] ≡ handed (bytes_written got) (written.old ∷ []) }
 {
@@ -23,6 +24,7 @@ pub fn hand_bytes(got: Answer, written: &mut usize) -> u8
 }
 
 // What asking for the length of a listing or of a comparison came to.
+#[tactic(auto, unfolding(answer_outcome::specs::Outcome::handed, crate::specs::Bytes::bytes_needed))]
 pub fn hand_needed(got: Needed, bytes: &mut usize) -> u8
     ensures { result ∷ bytes.new ∷ [] ≡ handed (bytes_needed got) (bytes.old ∷ []) }
 {

@@ -9,6 +9,7 @@ use asmap_codes::{Decoded, DecodedInstruction};
 use asmap_encode::Written;
 
 // What reading a code came to, as an answer and lent numbers.
+#[tactic(auto, unfolding(answer_outcome::specs::Outcome::handed, crate::specs::Codes::code_read))]
 pub fn hand_code(got: Decoded, value: &mut u32, next: &mut usize) -> u8
     ensures { result ∷ value.new ∷ next.new ∷ [] ≡ handed (code_read got) (value.old ∷ next.old ∷ []) }
 {
@@ -23,6 +24,7 @@ pub fn hand_code(got: Decoded, value: &mut u32, next: &mut usize) -> u8
 }
 
 // What reading an instruction came to.
+#[tactic(auto, unfolding(answer_outcome::specs::Outcome::handed, crate::specs::Codes::instruction_read))]
 pub fn hand_instruction(
     got: DecodedInstruction,
     opcode: &mut u32,
@@ -43,6 +45,7 @@ pub fn hand_instruction(
 }
 
 // What writing came to.
+#[tactic(auto, unfolding(answer_outcome::specs::Outcome::handed, crate::specs::Codes::bits_written))]
 pub fn hand_bits(got: Written, bits: &mut u64, len: &mut usize) -> u8
     ensures { result ∷ bits.new ∷ len.new ∷ [] ≡ handed (bits_written got) (bits.old ∷ len.old ∷ []) }
 {

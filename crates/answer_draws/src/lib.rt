@@ -9,6 +9,7 @@ ghost use Rattle.answer_draws.specs.Draws.{number_drawn};
 use load_draws::Drawn;
 
 // The number drawn, as an answer and a lent number.
+#[tactic(auto, unfolding(answer_outcome::specs::Outcome::handed, crate::specs::Draws::number_drawn))]
 pub fn hand_draw(got: Drawn, draw: &mut u64) -> u8
     ensures { result ∷ draw.new ∷ [] ≡ handed (number_drawn got) (draw.old ∷ []) }
 {

@@ -9,6 +9,7 @@ ghost use Rattle.answer_filters.specs.Filters.{said};
 use netaddr::{Filtered, Relay};
 
 // What the filter says, as an answer and a lent number.
+#[tactic(auto, unfolding(answer_outcome::specs::Outcome::handed, crate::specs::Filters::said, netaddr::specs::Answer::filtered_as))]
 pub fn hand_filtered(got: Filtered, unroutable: &mut u8) -> u8
     ensures { result ∷ unroutable.new ∷ [] ≡ handed (said (filtered_as got)) (unroutable.old ∷ []) }
 {
@@ -26,6 +27,7 @@ pub fn hand_filtered(got: Filtered, unroutable: &mut u8) -> u8
 }
 
 // What relay says.
+#[tactic(auto, unfolding(answer_outcome::specs::Outcome::handed, crate::specs::Filters::said, netaddr::specs::Answer::relay_as))]
 pub fn hand_relay(got: Relay, skips: &mut u8) -> u8
     ensures { result ∷ skips.new ∷ [] ≡ handed (said (relay_as got)) (skips.old ∷ []) }
 {

@@ -11,6 +11,7 @@ use netgroup::{GroupAnswer, Grouping};
 use netgroup_pick::PickAnswer;
 
 // What numbers the groups.
+#[tactic(auto, unfolding(crate::specs::Groups::grouping_of))]
 pub fn grouping_of(has_map: u8) -> Grouping
     ensures { result ≡ grouping_of has_map }
 {
@@ -21,6 +22,7 @@ pub fn grouping_of(has_map: u8) -> Grouping
 }
 
 // What a group call came to, as an answer and a lent number.
+#[tactic(auto, unfolding(answer_outcome::specs::Outcome::handed, crate::specs::Groups::group_found))]
 pub fn hand_group(got: GroupAnswer, group: &mut u64) -> u8
     ensures { result ∷ group.new ∷ [] ≡ handed (group_found got) (group.old ∷ []) }
 {
@@ -34,6 +36,7 @@ pub fn hand_group(got: GroupAnswer, group: &mut u64) -> u8
 }
 
 // What the occupied scan came to. Where there is no hit, its place is 0 too.
+#[tactic(auto, unfolding(answer_outcome::specs::Outcome::handed, crate::specs::Groups::scan_made))]
 pub fn hand_scan(got: Scan, found: &mut u8, place: &mut usize, groups_read: &mut usize) -> u8
     ensures { result ∷ found.new ∷ place.new ∷ groups_read.new ∷ [] ≡ handed (scan_made got) (found.old ∷ place.old ∷ groups_read.old ∷ []) }
 {
@@ -55,6 +58,7 @@ pub fn hand_scan(got: Scan, found: &mut u8, place: &mut usize, groups_read: &mut
 }
 
 // What a pick came to.
+#[tactic(auto, unfolding(answer_outcome::specs::Outcome::handed, crate::specs::Groups::pick_made))]
 pub fn hand_pick(
     got: PickAnswer,
     total: &mut usize,

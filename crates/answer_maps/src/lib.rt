@@ -10,6 +10,7 @@ use asmap_program::{CUT_OPCODE, CUT_OPERAND, Kind, Verdict};
 use asmap_walk::Interpreted;
 
 // What the check came to, as an answer and lent numbers.
+#[tactic(auto, unfolding(answer_outcome::specs::Outcome::handed, crate::specs::Maps::map_checked))]
 pub fn hand_verdict(got: Verdict, count: &mut u32, depth: &mut u8) -> u8
     ensures { result ∷ count.new ∷ depth.new ∷ [] ≡ handed (map_checked got) (count.old ∷ depth.old ∷ []) }
 {
@@ -24,6 +25,7 @@ pub fn hand_verdict(got: Verdict, count: &mut u32, depth: &mut u8) -> u8
 }
 
 // Where the check stopped.
+#[tactic(auto, unfolding(answer_outcome::specs::Outcome::handed, crate::specs::Maps::check_stopped))]
 pub fn hand_stop(got: Stopped, reason: &mut u8, place: &mut usize) -> u8
     ensures { result ∷ reason.new ∷ place.new ∷ [] ≡ handed (check_stopped got) (reason.old ∷ place.old ∷ []) }
 {
@@ -38,6 +40,7 @@ pub fn hand_stop(got: Stopped, reason: &mut u8, place: &mut usize) -> u8
 }
 
 // The number of a kind of end: a cut code's is that of its refusal.
+#[tactic(auto, unfolding(crate::specs::Maps::kind_number))]
 fn kind_number(kind: Kind) -> u8
     ensures { result ≡ kind_number kind }
 {
@@ -51,6 +54,7 @@ fn kind_number(kind: Kind) -> u8
 }
 
 // What a walk came to.
+#[tactic(auto, unfolding(answer_outcome::specs::Outcome::handed, crate::specs::Maps::walk_made))]
 pub fn hand_walk(
     got: Interpreted,
     kind: &mut u8,
