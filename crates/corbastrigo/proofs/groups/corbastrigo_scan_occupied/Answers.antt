@@ -1,0 +1,10 @@
+-- What the scan came to is handed out.
+use Rattle.answer_groups.specs.Groups.{scan_made}
+use Rattle.answers.proofs.Handing.{hands}
+use Rattle.answers.proofs.NeverZeroGroups.{scan_made_lem}
+use Rattle.corbastrigo.proofs.groups.corbastrigo_scan_occupied.Goals as goal
+
+pub returns : goal.returns
+returns c =
+    let a = c.args in
+    hands scan_made c.scan_occupied.ensures.value (scan_made_lem a.group a.occupied.now) c.hand_scan.ensures

@@ -1,0 +1,15 @@
+-- The check's verdict is handed out, and it is Core's (`core-verdict`).
+use mathlib.Core.Path.{subst}
+use Rattle.answer_maps.specs.Maps.{map_checked}
+use Rattle.asmap_check.specs.Check.{check_of, LikeCore}
+use Rattle.answers.proofs.Handing.{hands}
+use Rattle.answers.proofs.Promised.{core-verdict}
+use Rattle.answers.proofs.NeverZeroMaps.{map_checked_lem}
+use Rattle.corbastrigo.proofs.maps.corbastrigo_sanity_check.Goals as goal
+
+pub returns : goal.returns
+returns c =
+    let m = c.args.map.now in
+    let v = c.sanity_check.ensures in
+    let h = hands map_checked v.value (map_checked_lem m 128) c.hand_verdict.ensures in
+    record { hands = h; core = core-verdict m (check_of m 128) (subst (LikeCore m 128) v.value v.core) h }
