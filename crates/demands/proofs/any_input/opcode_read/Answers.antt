@@ -1,0 +1,12 @@
+-- By what the call promises.
+use mathlib.Core.Path.{refl}
+use Rattle.asmap_codes.specs.Row.{type_row}
+use Rattle.asmap_codes.specs.Core.{file_of}
+use Rattle.demand_statements.proofs.CodeAnswers.{code_reads, core_reads}
+use Rattle.demands.proofs.any_input.opcode_read.Goals as goal
+
+pub returns : goal.returns
+returns c =
+    let a = c.args in
+    let e = c.corbastrigo_decode_type.ensures in
+    record { reads = code_reads a.map.now a.at type_row refl e.hands; core = core_reads a.map.now a.at _ _ _ ((file_of a.map.now).decode_type a.at) e.core }

@@ -1,0 +1,8 @@
+-- By what the call promises.
+use mathlib.Core.Path.{refl}
+use Rattle.asmap_codes.specs.Row.{type_row}
+use Rattle.demand_statements.proofs.CodeAnswers.{code_writes}
+use Rattle.demands.proofs.any_input.opcode_written.Goals as goal
+
+pub returns : goal.returns
+returns c = code_writes type_row 3 refl c.args.value c.corbastrigo_encode_type.ensures
