@@ -10,6 +10,10 @@ ghost use Rattle.netgroup_pick.specs.Demand.{Demand3, Unaborted};
 ghost use Rattle.answer_outcome.specs.Outcome.{Hands};
 ghost use Rattle.answer_groups.specs.Groups.{grouping_of, group_found, scan_made, totals_of, Picks};
 
+use netgroup::GroupAnswer;
+use netgroup_pick::PickAnswer;
+use peer_lists::Refusal;
+
 #[unsafe(no_mangle)]
 pub extern "C" fn corbastrigo_prefix_group(candidate: &[u8], group: &mut u64) -> u8
     ensures { Hands (group_found (prefix_group_call candidate.now)) result (group.old ∷ []) (group.new ∷ []) }

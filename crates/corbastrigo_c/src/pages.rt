@@ -7,6 +7,9 @@ ghost use Rattle.spread_page.specs.Promise.{Told, Unaborted};
 ghost use Rattle.answer_groups.specs.Groups.{grouping_of};
 ghost use Rattle.answer_bytes.specs.Bytes.{Writes};
 
+use asmap_records::Answer;
+use peer_lists::Refusal;
+
 #[unsafe(no_mangle)]
 pub extern "C" fn corbastrigo_page(
     candidates: &[u8],
