@@ -27,11 +27,11 @@ build_library() {
     command -v rt > /dev/null || { echo "build: there is no rt on the path (README.md says where it comes from)" >&2 && return 1; }
     echo "build: the library: every crate is proved, about 4 minutes the first time" >&2
     mkdir -p target
-    all=$(awk -F: '$1 == "corbastrigo" { print split($2, below, " ") + 1 }' crates.txt)
+    all=$(awk -F: '$1 == "corbastrigo_c staticlib" { print split($2, below, " ") + 1 }' crates.txt)
     ./archive.sh > target/staticlib.log 2>&1 &
     prover=$!
     while kill -0 "$prover" 2> /dev/null; do
-        progress "build: $(grep -c '^rt: [a-z_0-9]* proved' target/staticlib.log) of $all crates proved"
+        progress "build: $(grep -c '^logic=proved' target/staticlib.log) of $all crates proved"
         sleep 1
     done
     progress ""

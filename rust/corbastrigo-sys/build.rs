@@ -69,7 +69,7 @@ pub fn alone(folder: &Path) -> io::Result<File> {
 /// Has `rt` make the archive.
 fn made(repository: &Path) -> Result<(), String> {
     say("rt proves the library and builds it: about four minutes on two cores, half a minute where the proofs are there");
-    let status = Command::new("./archive.sh")
+    let status = Command::new(repository.join("archive.sh"))
         .current_dir(repository)
         // Standard output is for what cargo is told.
         .stdout(Stdio::from(io::stderr()))
