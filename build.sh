@@ -14,7 +14,7 @@ progress() {
 # Whether the archive is missing, or older than a source.
 library_is_old() {
     [ ! -f "$CORBASTRIGO_LIB_DIR/libcorbastrigo.a" ] ||
-        [ -n "$(find crates crates.txt -name must-fail -prune -o -newer "$CORBASTRIGO_LIB_DIR/libcorbastrigo.a" -type f -print | head -n 1)" ]
+        [ -n "$(find archive.sh crates crates.txt \( -name must-fail -o -name out \) -prune -o -newer "$CORBASTRIGO_LIB_DIR/libcorbastrigo.a" -type f -print | head -n 1)" ]
 }
 
 # The archive, by `rt`, which proves what is not proved yet. A folder that the caller named is taken as it is.

@@ -101,16 +101,29 @@ pub fn ready(folder: &Path, out: &Path) -> Result<(), String> {
     copied(&archive, out).map_err(|reason| format!("{VARIABLE} names the folder of a {ARCHIVE}, and it cannot be copied: {reason}"))
 }
 
+/// What the archive is made from: the script, the list of crates, and of each crate its code, definitions and proofs. A crate's folder `out` is
+/// written by `rt` itself, so that a crate's folder as a whole would seem changed after each build.
+fn sources(repository: &Path) -> io::Result<Vec<PathBuf>> {
+    let mut paths = vec![repository.join("archive.sh"), repository.join("crates.txt")];
+    for entry in fs::read_dir(repository.join("crates"))? {
+        let folder = entry?.path();
+        paths.extend(["src", "specs", "proofs"].map(|part| folder.join(part)).into_iter().filter(|part| part.exists()));
+    }
+    paths.sort();
+    Ok(paths)
+}
+
 /// The archive that `rt` makes from the sources of this repository.
 fn proved(repository: &Path, out: &Path) -> Result<(), String> {
-    let sources = ["crates", "crates.txt"].map(|name| repository.join(name));
-    for source in &sources {
-        if !source.exists() {
+    for needed in ["archive.sh", "crates", "crates.txt"].map(|name| repository.join(name)) {
+        if !needed.exists() {
             return Err(format!(
                 "there is no {} to build the library from; set {VARIABLE} to the folder of a {ARCHIVE}",
-                source.display()
+                needed.display()
             ));
         }
+    }
+    for source in sources(repository).map_err(|error| format!("{}: {error}", repository.display()))? {
         println!("cargo::rerun-if-changed={}", source.display());
     }
     let target = repository.join("target");
