@@ -1,0 +1,2 @@
+mod ByHand
+mod Held
