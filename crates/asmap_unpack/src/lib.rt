@@ -40,8 +40,8 @@ fn put_list(map: &[u8], count: usize, out: &mut [u8])
         let DecodedInstruction::Found(instruction) = got else {
             return;
         };
-        at += instruction.size;
         put_record(out, 16 * i, instruction);
+        at += instruction.size;
         i += 1;
     }
 }
