@@ -1,28 +1,25 @@
 -- The numbers that a call which writes bytes, or tells how many it would write, hands out: unpack and pack (document 01), the listing
 -- (document 02, CR 1), the comparison and the page (document 02, CR 4).
 -- Assumes nothing.
-use Rattle.std.specs.Prelude.{ℕ, ◌≡◌, List, ◌∷◌, [], length}
-use Rattle.asmap_records.specs.declared.Answer.{Answer}
-use Rattle.asmap_records.specs.declared.Answer.TheVariants as records
-use Rattle.asmap_records.specs.Output.{Result, within, answer_of, leaves}
-use Rattle.asmap_list.specs.declared.Needed.{Needed}
-use Rattle.asmap_list.specs.declared.Needed.TheVariants as needed
+use Rattle.std.specs.Prelude.{ℕ, ◌≡◌, List, ◌∷◌, [], length, Result, Ok, Err}
+use Rattle.asmap_records.specs.Output.{Making, within, answer_of, leaves}
 use Rattle.asmap_compare.specs.Compare.{Comparison, first_made, needed_with}
 use Rattle.answer_outcome.specs.Outcome.{Outcome, Done, No, Hands}
+use Rattle.refusals.specs.declared.Refusal.{Refusal}
 
 -- An output that was written: how many bytes.
-unfoldable pub bytes_written : Answer → Outcome
-bytes_written (records.Wrote n) = Done (n ∷ [])
-bytes_written (records.Refused n) = No n
+unfoldable pub bytes_written : Result ℕ Refusal → Outcome
+bytes_written (Ok n) = Done (n ∷ [])
+bytes_written (Err n) = No n
 
 -- A listing or a comparison whose length was asked for: how many bytes it needs.
-unfoldable pub bytes_needed : Needed → Outcome
-bytes_needed (needed.Bytes n) = Done (n ∷ [])
-bytes_needed (needed.Refused n) = No n
+unfoldable pub bytes_needed : Result ℕ Refusal → Outcome
+bytes_needed (Ok n) = Done (n ∷ [])
+bytes_needed (Err n) = No n
 
 -- A call that writes bytes to a lent output, which holds o at entry and o' at exit. made: what the call makes, before it is known
 -- whether the output has room for it.
-pub record Writes (made : Result) (o o' : List ℕ) (r : ℕ) (lent left : List ℕ) : Type 0 where
+pub record Writes (made : Making) (o o' : List ℕ) (r : ℕ) (lent left : List ℕ) : Type 0 where
   pub hands : Hands (bytes_written (answer_of (within (length o) made))) r lent left
   pub output : o' ≡ leaves (within (length o) made) o
 

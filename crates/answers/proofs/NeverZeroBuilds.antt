@@ -7,8 +7,6 @@ use mathlib.Core.List.{List}
 use native.Mathlib.Decide.{ℕ_discrete}
 use native.Mathlib.Omega.{arith}
 use Rattle.asmap_program.specs.Widths.{is_width, at_width}
-use Rattle.prefix_lists.specs.declared.Judged.{Judged}
-use Rattle.prefix_lists.specs.declared.Judged.TheVariants as judged
 use Rattle.prefix_lists.specs.List.{judge}
 use Rattle.prefix_lists.proofs.ListLaws.{judged_refused}
 use Rattle.asmap_records.specs.Output.{No, within, answer_of}
@@ -16,12 +14,16 @@ use Rattle.asmap_build.specs.Build.{tree_bits, build_as, build_of, build_at}
 use Rattle.answer_bytes.specs.Bytes.{bytes_written}
 use Rattle.answers.proofs.Handing.{Counted, Refuses, counted}
 use Rattle.answers.proofs.NeverZeroMaps.{Makes, bytes-numbers, refused}
+use Rattle.prefix_lists.specs.Judged.{Listed}
+use Rattle.refusals.specs.declared.Refusal.{Refusal}
+use Rattle.std.specs.Prelude.{Result, Err}
+use Rattle.refusals.specs.declared.Refusal.TheVariants as refusal
 
 module _ (P : ℕ → Type 0) (no-prefix : P 21) (no_number : P 22) (long : P 1) where
   -- 21 or 22, by how the list is judged; then 1
-  by_judgement : (l : List ℕ) (given w : ℕ) (v : Judged) → judge w l given ≡ v → Makes P (build_as (tree_bits l given w) v)
-  by_judgement l given w judged.Listed e = refused P _ 1 _ long tt
-  by_judgement l given w (judged.Refused n) e = go (ℕ_discrete n 21)
+  by_judgement : (l : List ℕ) (given w : ℕ) (v : Result (Unit {0}) Refusal) → judge w l given ≡ v → Makes P (build_as (tree_bits l given w) v)
+  by_judgement l given w Listed e = refused P _ 1 _ long tt
+  by_judgement l given w (Err n) e = go (ℕ_discrete n 21)
     where
       go : Dec (n ≡ 21) → P n
       go (yes q) = subst P (sym q) no-prefix
@@ -36,7 +38,7 @@ module _ (P : ℕ → Type 0) (no-prefix : P 21) (no_number : P 22) (long : P 1)
   unfolding at_width
   makes_at none l given w = go (is_width w)
     where
-      go : (b : Bool) → Makes P (cond b (build_of l given w) (No 18))
+      go : (b : Bool) → Makes P (cond b (build_of l given w) (No refusal.Width))
       go true = makes l given w
       go false = none
 

@@ -9,17 +9,17 @@ use lib.ListN.{length}
 use Rattle.asmap_program.specs.Map.{limit, Fetched, Whole, CutOpcode, CutOperand, Part, Opcode, Operand}
 use Rattle.asmap_codes.specs.Row.{Row, type_row, operand_row, in_range}
 use Rattle.asmap_codes.specs.Encode.{encode_of, instruction_bits}
-use Rattle.asmap_codes.specs.declared.Code.{Code}
-use Rattle.asmap_codes.specs.declared.Code.TheVariants.{Value, Cut}
 use Rattle.asmap_codes.specs.Code.{answered, part_from, code_at, read_code}
 use Rattle.asmap_codes.specs.Instruction.{answered_whole, fetch_at, read_instruction}
 use Rattle.asmap_encode.specs.declared.Word.{Word}
-use Rattle.asmap_encode.specs.declared.Written.TheVariants.{Bits, Refused}
 use Rattle.asmap_encode.specs.Write.{puts, none, pick_written, write_code, write_instruction}
 use Rattle.answer_codes.specs.Codes.{code_read, instruction_read, bits_written}
 use Rattle.answers.proofs.Handing.{Counted}
+use Rattle.asmap_codes.specs.Reading.{Code, Cut, Value}
+use Rattle.refusals.specs.declared.Refusal.TheVariants as refusal
+use Rattle.std.specs.Prelude.{Ok, Err, Option}
 
-counted-code : (p : Part) (long : Bool) (c : Code) → Counted (code_read (answered p long c))
+counted-code : (p : Part) (long : Bool) (c : Option Code) → Counted (code_read (answered p long c))
 unfolding Counted code_read
 counted-code p true c = omega arith
 counted-code p false (Value v n) = tt
@@ -40,7 +40,7 @@ pub instruction_read_lem : (m : List ℕ) (at : ℕ) → Counted (instruction_re
 unfolding read_instruction
 instruction_read_lem m at = counted_fetched (ltb limit (length m)) (fetch_at m at)
 
-counted_written : (fits : Bool) (w : Word) → Counted (bits_written (pick_written fits (Bits w) (Refused 15)))
+counted_written : (fits : Bool) (w : Word) → Counted (bits_written (pick_written fits (Ok w) (Err refusal.OutOfRange)))
 unfolding Counted bits_written
 counted_written true w = tt
 counted_written false w = omega arith

@@ -1,4 +1,4 @@
--- Which numbers a draw and a load refuse with, 20 and then 14; none of them is 0. And what is promised of a draw, in the number handed out.
+-- Which numbers a draw and a load refuse with, refusal.Load and then 14; none of them is 0. And what is promised of a draw, in the number handed out.
 -- Assumes nothing.
 use Prim.Native.Nat.{ℕ, ◌<◌}
 use mathlib.Core.Path.{◌≡◌}
@@ -8,14 +8,15 @@ use native.Mathlib.Omega.{arith}
 use lib.Dec.{eqb}
 use Rattle.asmap_records.specs.Output.{within, answer_of}
 use Rattle.load_draws.specs.Draw.{next, drawn_after}
-use Rattle.load_draws.specs.declared.Drawn.{Drawn}
-use Rattle.load_draws.specs.declared.Drawn.TheVariants as drawn
 use Rattle.asmap_load.specs.Load.{load_of}
 use Rattle.answer_outcome.specs.Outcome.{handed, IsDone, Hands}
 use Rattle.answer_draws.specs.Draws.{number_drawn}
 use Rattle.answer_bytes.specs.Bytes.{bytes_written}
 use Rattle.answers.proofs.Handing.{Counted, Refuses, counted}
 use Rattle.answers.proofs.NeverZeroMaps.{bytes-numbers, refused}
+use Rattle.refusals.specs.declared.Refusal.{Refusal}
+use Rattle.refusals.specs.declared.Refusal.TheVariants as refusal
+use Rattle.std.specs.Prelude.{Result, Ok, Err}
 
 -- 20, then 14
 pub load-numbers : (P : ℕ → Type 0) (k s n : ℕ) → P 20 → P 14 → Refuses P (bytes_written (answer_of (within k (load_of s n))))
@@ -30,12 +31,12 @@ pub draw_drawn : (s : ℕ) → Counted (number_drawn (drawn_after s))
 unfolding Counted number_drawn drawn_after
 draw_drawn s = go (eqb s 0)
   where
-    go : (b : Bool) → Counted (number_drawn (cond b (drawn.Refused 20) (drawn.Number (next s))))
+    go : (b : Bool) → Counted (number_drawn (cond b (Err refusal.Load) (Ok (next s))))
     go true = omega arith
     go false = tt
 
 -- the number handed out, where a draw is done
-pub number_drawn_lem : (x : Drawn) {r n : ℕ} {lent : List ℕ} → Hands (number_drawn x) r lent (n ∷ []) → r ≡ 0 → x ≡ drawn.Number n
+pub number_drawn_lem : (x : Result ℕ Refusal) {r n : ℕ} {lent : List ℕ} → Hands (number_drawn x) r lent (n ∷ []) → r ≡ 0 → x ≡ Ok n
 unfolding handed IsDone number_drawn
-number_drawn_lem (drawn.Number m) h z = let e = h.numbers in cc
-number_drawn_lem (drawn.Refused m) h z = absurd (h.zero_is_done z)
+number_drawn_lem (Ok m) h z = let e = h.numbers in cc
+number_drawn_lem (Err m) h z = absurd (h.zero_is_done z)

@@ -6,22 +6,16 @@ use mathlib.Core.List.{List}
 use native.Mathlib.Omega.{arith}
 use lib.Dec.{eqb, ltb}
 use lib.ListN.{length, drop}
-use Rattle.asmap_program.specs.declared.Verdict.{Verdict}
-use Rattle.asmap_program.specs.declared.Verdict.TheVariants.{Accepted, Refused}
 use Rattle.asmap_program.specs.Map.{limit, Map}
 use Rattle.asmap_program.specs.Widths.{at_width}
 use Rattle.asmap_program.specs.Check.{check, stop_of}
 use Rattle.asmap_codes.specs.Instruction.{map_of}
 use Rattle.asmap_check.specs.Check.{check_of, Reason, check_at, reason_of, stops_unless_long, stopped_of, stopped_at}
 use Rattle.asmap_check.proofs.Reasons.{Judged, reason-some, check-judged, map-judged}
-use Rattle.asmap_check.specs.declared.Stopped.TheVariants.{At}
-use Rattle.asmap_check.specs.declared.Stopped.TheVariants as stopped
 use Rattle.asmap_walk_bits.specs.declared.Ending.{Ending}
-use Rattle.asmap_walk.specs.declared.Interpreted.TheVariants.{Ended}
-use Rattle.asmap_walk.specs.declared.Interpreted.TheVariants as walk
 use Rattle.asmap_walk.specs.Interpret.{refused_if, interpret_over, interpret_of, interpret_at}
 use Rattle.asmap_walk_bits.specs.Walk.{summary, walk_of}
-use Rattle.asmap_records.specs.Output.{Result, Made, No, refuse, on, within, answer_of}
+use Rattle.asmap_records.specs.Output.{Making, Made, No, refuse, on, within, answer_of}
 use Rattle.asmap_records.specs.Unpack.{unpack_as, unpack_of, unpack_at}
 use Rattle.asmap_records.specs.Pack.{field_bits, record_bits, records_bits, pack_bits, pack_of}
 use Rattle.asmap_list.specs.List.{list_as, list_of, list_at, bytes_of, needed_of, needed_at}
@@ -31,14 +25,17 @@ use Rattle.asmap_compare.specs.Compare.{Comparison, Told, Refuses as Named, comp
 use Rattle.answer_maps.specs.Maps.{map_checked, check_stopped, walk_made}
 use Rattle.answer_bytes.specs.Bytes.{bytes_written, bytes_needed}
 use Rattle.answers.proofs.Handing.{Counted, Refuses, counted, counted_at}
+use Rattle.asmap_program.specs.Verdict.{Accepted, Verdict}
+use Rattle.asmap_check.specs.Stop.{At}
+use Rattle.std.specs.Prelude.{Ok, Err}
 
 -- ---- the check. P: what is shown of its number
 
 module _ (P : ℕ → Type 0) (reason : (n : ℕ) → Reason n → P n) where
   judged : (v : Verdict) → Judged P v → Refuses P (map_checked v)
   unfolding Refuses map_checked
-  judged (Accepted c d) h = tt
-  judged (Refused n) h = h
+  judged (Ok got) h = tt
+  judged (Err n) h = h
 
   -- a map within the limit
   pub check-numbers : (m : Map) (w : ℕ) → Refuses P (map_checked (check m w))
@@ -62,7 +59,7 @@ check_stopped_lem m w = counted_stop (ltb limit (length m)) (reason_of (check (m
 
 -- ---- the walk
 
-counted_walk : (short long : Bool) (e : Ending) → Counted (walk_made (refused_if short 11 (refused_if long 1 (Ended e))))
+counted_walk : (short long : Bool) (e : Ending) → Counted (walk_made (refused_if short 11 (refused_if long 1 (Ok e))))
 unfolding Counted walk_made
 counted_walk true long e = omega arith
 counted_walk false true e = omega arith
@@ -75,36 +72,36 @@ walk_made_lem m a = counted_walk (not (eqb (length a) 16)) (ltb limit (length m)
 
 -- P: what is shown of the number of a refusal
 module _ (P : ℕ → Type 0) where
-  abbrev pub Makes : Result → Type 0
+  abbrev pub Makes : Making → Type 0
   Makes (Made l) = Unit {0}
   Makes (No n) = P n
 
-  pub refused : (b : Bool) (n : ℕ) (r : Result) → P n → Makes r → Makes (refuse b n r)
+  pub refused : (b : Bool) (n : ℕ) (r : Making) → P n → Makes r → Makes (refuse b n r)
   unfolding refuse
   refused true n r h k = h
   refused false n r h k = k
 
-  goes_on : (k : List ℕ → Result) → ((l : List ℕ) → Makes (k l)) → (r : Result) → Makes r → Makes (on k r)
+  goes_on : (k : List ℕ → Making) → ((l : List ℕ) → Makes (k l)) → (r : Making) → Makes r → Makes (on k r)
   goes_on k h (Made l) v = h l
   goes_on k h (No n) v = v
 
-  numbered_answer : (r : Result) → Makes r → Refuses P (bytes_written (answer_of r))
+  numbered_answer : (r : Making) → Makes r → Refuses P (bytes_written (answer_of r))
   unfolding Refuses bytes_written
   numbered_answer (Made l) h = tt
   numbered_answer (No n) h = h
 
   -- in a room of k bytes
-  pub bytes-numbers : (k : ℕ) (r : Result) → P 14 → Makes r → Refuses P (bytes_written (answer_of (within k r)))
+  pub bytes-numbers : (k : ℕ) (r : Making) → P 14 → Makes r → Refuses P (bytes_written (answer_of (within k r)))
   bytes-numbers k r short h = numbered_answer (within k r) (goes_on _ (λ l. refused (ltb k (length l)) 14 _ short tt) r h)
 
   -- made by the check's verdict: refused as it says
-  by-verdict : (made : Verdict → Result) → ((c d : ℕ) → Makes (made (Accepted c d))) → ((n : ℕ) → P n → Makes (made (Refused n)))
+  by-verdict : (made : Verdict → Making) → ((c d : ℕ) → Makes (made (Accepted c d))) → ((n : ℕ) → P n → Makes (made (Err n)))
       → (v : Verdict) → Refuses P (map_checked v) → Makes (made v)
   unfolding Refuses map_checked
-  by-verdict made a b (Accepted c d) h = a c d
-  by-verdict made a b (Refused n) h = b n h
+  by-verdict made a b (Ok got) h = a got.count got.depth
+  by-verdict made a b (Err n) h = b n h
 
-  numbered-length : (r : Result) → Makes r → Refuses P (bytes_needed (bytes_of r))
+  numbered-length : (r : Making) → Makes r → Refuses P (bytes_needed (bytes_of r))
   unfolding Refuses bytes_needed
   numbered-length (Made l) h = tt
   numbered-length (No n) h = h
@@ -119,14 +116,14 @@ module _ (P : ℕ → Type 0) where
   length-numbers m w h = numbered-length (list_of m w) (by-verdict (list_as m) (λ c d. tt) (λ n p. p) (check_of m w) h)
 
   -- two maps: what is shown of the old one's number, and of the new one's with 100 more
-  named : (made : Comparison → Result) → ((cs : List Change) → Makes (made (Told cs))) → ((n : ℕ) → P n → Makes (made (Named n)))
+  named : (made : Comparison → Making) → ((cs : List Change) → Makes (made (Told cs))) → ((n : ℕ) → P n → Makes (made (Named n)))
       → (cs : List Change) (v u : Verdict) → Refuses P (map_checked v) → Refuses (λ n. P (100 + n)) (map_checked u) → Makes (made (compared_as cs v u))
   unfolding Refuses map_checked
-  named made a b cs (Refused n) u h k = b n h
-  named made a b cs (Accepted c d) (Refused n) h k = b (100 + n) k
-  named made a b cs (Accepted c d) (Accepted c' d') h k = a cs
+  named made a b cs (Err n) u h k = b n h
+  named made a b cs (Ok got) (Err n) h k = b (100 + n) k
+  named made a b cs (Ok got) (Ok got') h k = a cs
 
-  numbered-need : (c : Comparison) (r : Result) → Makes r → Refuses P (bytes_needed (bytes_of (records_made c))) → Refuses P (bytes_needed (needed_with c r))
+  numbered-need : (c : Comparison) (r : Making) → Makes r → Refuses P (bytes_needed (bytes_of (records_made c))) → Refuses P (bytes_needed (needed_with c r))
   unfolding Refuses bytes_needed
   numbered-need c (Made l) h k = k
   numbered-need c (No n) h k = h
@@ -203,22 +200,22 @@ compare_needed_lem k old new w = counted _ (find-numbers (λ n. 0 < n) old new w
 
 pub map_checked_at : (m : List ℕ) (w : ℕ) → Counted (map_checked (check_at m w))
 unfolding Counted map_checked
-map_checked_at m w = counted_at map_checked Refused (check_of m w) w (omega arith) (map_checked_lem m w)
+map_checked_at m w = counted_at map_checked Err (check_of m w) w (omega arith) (map_checked_lem m w)
 
 pub check_stopped_at : (m : List ℕ) (w : ℕ) → Counted (check_stopped (stopped_at m w))
 unfolding Counted check_stopped
-check_stopped_at m w = counted_at check_stopped stopped.Refused (stopped_of m w) w (omega arith) (check_stopped_lem m w)
+check_stopped_at m w = counted_at check_stopped Err (stopped_of m w) w (omega arith) (check_stopped_lem m w)
 
 pub walk_made_at : (m a : List ℕ) (w : ℕ) → Counted (walk_made (interpret_at m a w))
 unfolding Counted walk_made
 walk_made_at m a w =
-    counted_at walk_made walk.Refused (interpret_over m a w) w (omega arith)
+    counted_at walk_made Err (interpret_over m a w) w (omega arith)
     (counted_walk (not (eqb (8 * length a) w)) (ltb limit (length m)) (summary (walk_of m a w)))
 
 -- what is written, and k bytes of room
-written_at : (k w : ℕ) (made : Result) → Counted (bytes_written (answer_of (within k made))) → Counted (bytes_written (answer_of (within k (at_width w No made))))
+written_at : (k w : ℕ) (made : Making) → Counted (bytes_written (answer_of (within k made))) → Counted (bytes_written (answer_of (within k (at_width w No made))))
 unfolding Counted bytes_written
-written_at k w made h = counted_at (λ (r : Result). bytes_written (answer_of (within k r))) No made w (omega arith) h
+written_at k w made h = counted_at (λ (r : Making). bytes_written (answer_of (within k r))) No made w (omega arith) h
 
 pub unpack_written_at : (k : ℕ) (m : List ℕ) (w : ℕ) → Counted (bytes_written (answer_of (within k (unpack_at m w))))
 unpack_written_at k m w = written_at k w (unpack_of m w) (unpack_written k m w)
@@ -228,7 +225,7 @@ list_written_at k m w = written_at k w (list_of m w) (list_written k m w)
 
 pub list_needed_at : (m : List ℕ) (w : ℕ) → Counted (bytes_needed (needed_at m w))
 unfolding Counted bytes_needed
-list_needed_at m w = counted_at (λ (r : Result). bytes_needed (bytes_of r)) No (list_of m w) w (omega arith) (list_needed_lem m w)
+list_needed_at m w = counted_at (λ (r : Making). bytes_needed (bytes_of r)) No (list_of m w) w (omega arith) (list_needed_lem m w)
 
 pub compare_written_at : (k : ℕ) (old new : List ℕ) (w : ℕ) → Counted (bytes_written (answer_of (within k (compare_at old new w))))
 unfolding Counted bytes_written

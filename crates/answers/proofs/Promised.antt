@@ -10,26 +10,14 @@ use lib.Dec.{eqb}
 use lib.ListN.{length}
 use borrow.Author.Tests.{eq-eqb, ne_eqb}
 use Rattle.asmap_program.specs.declared.Kind.{Kind}
-use Rattle.asmap_program.specs.declared.Verdict.{Verdict}
-use Rattle.asmap_program.specs.declared.Verdict.TheVariants as verdict
 use Rattle.asmap_program.specs.Map.{limit, address_bit}
 use Rattle.asmap_program.specs.Core.{Read, Number, core_check, core_interpret}
 use Rattle.asmap_program.specs.Demand.{NoDefault, Answers}
-use Rattle.asmap_codes.specs.declared.Decoded.{Decoded}
-use Rattle.asmap_codes.specs.declared.Decoded.TheVariants as code
 use Rattle.asmap_codes.specs.Core.{CoreReads, file_of}
 use Rattle.asmap_check.specs.Check.{LikeCore, LikeCoreAt}
 use Rattle.asmap_walk_bits.specs.declared.Ending.{Ending}
-use Rattle.asmap_walk.specs.declared.Interpreted.{Interpreted}
-use Rattle.asmap_walk.specs.declared.Interpreted.TheVariants.{Ended}
 use Rattle.asmap_walk_bits.specs.Walk.{walk_of, summary}
 use Rattle.asmap_walk.specs.Promise as walk
-use Rattle.asmap_records.specs.declared.Answer.{Answer}
-use Rattle.asmap_records.specs.declared.Answer.TheVariants as records
-use Rattle.netgroup.specs.declared.GroupAnswer.{GroupAnswer}
-use Rattle.netgroup.specs.declared.GroupAnswer.TheVariants as group
-use Rattle.netgroup_pick.specs.declared.PickAnswer.{PickAnswer}
-use Rattle.netgroup_pick.specs.declared.PickAnswer.TheVariants as pick
 use Rattle.netgroup_pick.specs.Pick.{Handed}
 use Rattle.netgroup_pick.specs.Pick as below
 use Rattle.answer_outcome.specs.Outcome.{handed, IsDone, Hands}
@@ -39,6 +27,12 @@ use Rattle.answer_codes.specs.Codes.{code_read}
 use Rattle.answer_groups.specs.Groups.{group_found, totals_of, pick_made, Picks}
 use Rattle.answers.specs.Promise.{Finished, Demand3, Demand3At, CoreVerdict, CoreVerdictAt, CoreNumber, CoreNumberAt, CoreCode}
 use Rattle.answers.proofs.Handing.{Counted, hands}
+use Rattle.asmap_program.specs.Verdict.{Verdict}
+use Rattle.asmap_codes.specs.Reading.{Code, Found}
+use Rattle.netgroup_pick.specs.declared.Totals.{Totals}
+use Rattle.refusals.specs.declared.Fault.{Fault}
+use Rattle.refusals.specs.declared.Refusal.{Refusal}
+use Rattle.std.specs.Prelude.{Result, Ok, Err}
 
 -- ---- the walk
 
@@ -48,7 +42,7 @@ numbered k n e (inl h) = inl (e ∙ ap kind_number h)
 numbered k n e (inr h) = inr (e ∙ ap kind_number h)
 
 -- w: the address bits; x: what the walk below answered
-module _ (m a : List ℕ) (w : ℕ) (x : Interpreted) (r kind number count bits : ℕ) (lent : List ℕ) (out : r ∷ kind ∷ number ∷ count ∷ bits ∷ [] ≡ handed (walk_made x) lent) where
+module _ (m a : List ℕ) (w : ℕ) (x : Result Ending Refusal) (r kind number count bits : ℕ) (lent : List ℕ) (out : r ∷ kind ∷ number ∷ count ∷ bits ∷ [] ≡ handed (walk_made x) lent) where
   finished : walk.Kept m a w (summary (walk_of m a w)) → r ∷ kind ∷ number ∷ count ∷ bits ∷ [] ≡ 0 ∷ end_numbers (summary (walk_of m a w)) → Finished m a w r kind number count bits
   finished k e =
       let f = summary (walk_of m a w) in
@@ -60,12 +54,12 @@ module _ (m a : List ℕ) (w : ℕ) (x : Interpreted) (r kind number count bits 
       λ z. let d = k.zero (en ∙ z) in (ek ∙ ap kind_number d.0, d.1) in
       record { done = cc; exact = cc; ended = numbered f.kind kind ek k.ended; zero = zero; bounded = omega (arith, k.bounded); most = omega (arith, k.most); kept = k }
 
-  walk_kept : (f : Ending) → x ≡ Ended f → walk.Kept m a w f → Finished m a w r kind number count bits
+  walk_kept : (f : Ending) → x ≡ Ok f → walk.Kept m a w f → Finished m a w r kind number count bits
   unfolding handed walk_made
-  walk_kept f q k = let h : x ≡ Ended (summary (walk_of m a w)) = q ∙ ap Ended k.exact in finished (subst (walk.Kept m a w) k.exact k) (rw h at out)
+  walk_kept f q k = let h : x ≡ Ok (summary (walk_of m a w)) = q ∙ ap Ok k.exact in finished (subst (walk.Kept m a w) k.exact k) (rw h at out)
 
   -- the number is the one that Core gives
-  walk_core : (f : Ending) → x ≡ Ended f → core_interpret (address_bit a) w (file_of m) ≡ Number f.number → core_interpret (address_bit a) w (file_of m) ≡ Number number
+  walk_core : (f : Ending) → x ≡ Ok f → core_interpret (address_bit a) w (file_of m) ≡ Number f.number → core_interpret (address_bit a) w (file_of m) ≡ Number number
   unfolding handed walk_made
   walk_core f q e =
       let h : r ∷ kind ∷ number ∷ count ∷ bits ∷ [] ≡ 0 ∷ end_numbers f = rw q at out in
@@ -79,14 +73,14 @@ module _ (m a : List ℕ) (w : ℕ) (x : Interpreted) (r kind number count bits 
   pub core-number_at : walk.CoreNumberAt m a w x → CoreNumberAt m a w number
   core-number_at p t c d h l = let k = p t c d h l in walk_core k.0 k.1 k.2
 
-pub walk_finished : (m a : List ℕ) (x : Interpreted) (r kind number count bits : ℕ) (lent : List ℕ) → walk.Demand3 m a x
+pub walk_finished : (m a : List ℕ) (x : Result Ending Refusal) (r kind number count bits : ℕ) (lent : List ℕ) → walk.Demand3 m a x
     → r ∷ kind ∷ number ∷ count ∷ bits ∷ [] ≡ handed (walk_made x) lent → Demand3 m a r kind number count bits
 walk_finished m a x r kind number count bits lent p e c d h l =
     let t = p c d h l in
     let f = walk_kept m a 128 x r kind number count bits lent e t.0 t.1 t.2.0 in
     (f, f.most)
 
-pub core-number : (m a : List ℕ) (x : Interpreted) (r kind number count bits : ℕ) (lent : List ℕ) → walk.CoreNumber m a x
+pub core-number : (m a : List ℕ) (x : Result Ending Refusal) (r kind number count bits : ℕ) (lent : List ℕ) → walk.CoreNumber m a x
     → r ∷ kind ∷ number ∷ count ∷ bits ∷ [] ≡ handed (walk_made x) lent → CoreNumber m a number
 core-number m a x r kind number count bits lent p e c d h l =
     let t = p c d h l in
@@ -94,30 +88,30 @@ core-number m a x r kind number count bits lent p e c d h l =
 
 -- ---- a code that was read is what Core reads
 
-read_by_core : (m : List ℕ) (at : ℕ) (x : Decoded) {answer value next : ℕ} {lent : List ℕ} {r : Read}
+read_by_core : (m : List ℕ) (at : ℕ) (x : Result Code Fault) {answer value next : ℕ} {lent : List ℕ} {r : Read}
     → CoreReads m at x r → Hands (code_read x) answer lent (value ∷ next ∷ []) → CoreCode m at answer value next r
 unfolding handed IsDone code_read
-read_by_core m at (code.Found v n) {answer} {value} {next} p h l k =
+read_by_core m at (Found v n) {answer} {value} {next} p h l k =
     let e = h.numbers in
     let ea : answer ≡ 0 = cc in
     let ev : v ≡ value = cc in
     let en : n ≡ next = cc in
     let q = p l k in
     (λ _. (q.0 ∙ ap (λ (w : ℕ). record { value = w; pos = n }) ev ∙ ap (λ (w : ℕ). record { value = value; pos = w }) en, omega (arith, q.1)), λ z. absurd (z ea))
-read_by_core m at (code.Refused n) p h l k = (λ z. absurd (h.zero_is_done z), λ _. p l k)
+read_by_core m at (Err n) p h l k = (λ z. absurd (h.zero_is_done z), λ _. p l k)
 
 -- x: what the crate below answered; y: what its definition says
-pub core-code : (m : List ℕ) (at : ℕ) {x y : Decoded} {answer value next : ℕ} {lent : List ℕ} (r : Read)
+pub core-code : (m : List ℕ) (at : ℕ) {x y : Result Code Fault} {answer value next : ℕ} {lent : List ℕ} (r : Read)
     → x ≡ y → CoreReads m at x r → Hands (code_read y) answer lent (value ∷ next ∷ []) → CoreCode m at answer value next r
-core-code m at {y} r e p h = read_by_core m at y (subst (λ (d : Decoded). CoreReads m at d r) e p) h
+core-code m at {y} r e p h = read_by_core m at y (subst (λ (d : Result Code Fault). CoreReads m at d r) e p) h
 
 -- ---- the check: 0 where Core accepts, and no other number
 
 verdict_over : (m : List ℕ) (w : ℕ) (x : Verdict) {r : ℕ} {lent left : List ℕ} → LikeCore m w x → Hands (map_checked x) r lent left
     → length m ≤ limit → core_check (file_of m) w ≡ eqb r 0
 unfolding handed IsDone map_checked
-verdict_over m w (verdict.Accepted c d) {r} p h l = let e = h.numbers in let z : r ≡ 0 = cc in p l ∙ sym (eq-eqb r 0 z)
-verdict_over m w (verdict.Refused n) {r} p h l = p l ∙ sym (ne_eqb r 0 (λ z. h.zero_is_done z))
+verdict_over m w (Ok got) {r} p h l = let e = h.numbers in let z : r ≡ 0 = cc in p l ∙ sym (eq-eqb r 0 z)
+verdict_over m w (Err n) {r} p h l = p l ∙ sym (ne_eqb r 0 (λ z. h.zero_is_done z))
 
 pub core-verdict : (m : List ℕ) (x : Verdict) {r : ℕ} {lent left : List ℕ} → LikeCore m 128 x → Hands (map_checked x) r lent left → CoreVerdict m r
 core-verdict m x p h = verdict_over m 128 x p h
@@ -127,39 +121,39 @@ core-verdict_at m w x p h t = verdict_over m w x (p t) h
 
 -- ---- groups, pages and pick: where the answer is 0, what was found is in the lent numbers at exit
 
-pub found : (x : GroupAnswer) {r g : ℕ} {lent : List ℕ} → Hands (group_found x) r lent (g ∷ []) → r ≡ 0 → x ≡ group.Group g
+pub found : (x : Result ℕ Refusal) {r g : ℕ} {lent : List ℕ} → Hands (group_found x) r lent (g ∷ []) → r ≡ 0 → x ≡ Ok g
 unfolding handed IsDone group_found
-found (group.Group g') h z = let e = h.numbers in cc
-found (group.Refused n) h z = absurd (h.zero_is_done z)
+found (Ok g') h z = let e = h.numbers in cc
+found (Err n) h z = absurd (h.zero_is_done z)
 
-wrote : (x : Answer) {r n : ℕ} {lent : List ℕ} → Hands (bytes_written x) r lent (n ∷ []) → r ≡ 0 → x ≡ records.Wrote n
+wrote : (x : Result ℕ Refusal) {r n : ℕ} {lent : List ℕ} → Hands (bytes_written x) r lent (n ∷ []) → r ≡ 0 → x ≡ Ok n
 unfolding handed IsDone bytes_written
-wrote (records.Wrote k) h z = let e = h.numbers in cc
-wrote (records.Refused k) h z = absurd (h.zero_is_done z)
+wrote (Ok k) h z = let e = h.numbers in cc
+wrote (Err k) h z = absurd (h.zero_is_done z)
 
 -- what is promised of an answer x, which is y, holds of the bytes that were written
-pub of_written : (P : Answer → Type 0) (y : Answer) {x : Answer} {r n : ℕ} {lent : List ℕ} → P x → x ≡ y → Hands (bytes_written y) r lent (n ∷ []) → r ≡ 0 → P (records.Wrote n)
+pub of_written : (P : Result ℕ Refusal → Type 0) (y : Result ℕ Refusal) {x : Result ℕ Refusal} {r n : ℕ} {lent : List ℕ} → P x → x ≡ y → Hands (bytes_written y) r lent (n ∷ []) → r ≡ 0 → P (Ok n)
 of_written P y k e h z = subst P (e ∙ wrote y h z) k
 
-pub picked : (x : PickAnswer) {r total first examined instructions : ℕ} {lent : List ℕ}
-    → Hands (pick_made x) r lent (total ∷ first ∷ examined ∷ instructions ∷ []) → r ≡ 0 → x ≡ pick.Picked (totals_of total first examined instructions)
+pub picked : (x : Result Totals Refusal) {r total first examined instructions : ℕ} {lent : List ℕ}
+    → Hands (pick_made x) r lent (total ∷ first ∷ examined ∷ instructions ∷ []) → r ≡ 0 → x ≡ Ok (totals_of total first examined instructions)
 unfolding handed IsDone pick_made
-picked (pick.Picked t) {r} {total} {first} {examined} {instructions} h z =
+picked (Ok t) {r} {total} {first} {examined} {instructions} h z =
     let e = h.numbers in
     let e0 : t.total ≡ total = cc in
     let e1 : t.first ≡ first = cc in
     let e2 : t.examined ≡ examined = cc in
     let e3 : t.instructions ≡ instructions = cc in
     rw (← e0, ← e1, ← e2, ← e3)
-picked (pick.Refused n) h z = absurd (h.zero_is_done z)
+picked (Err n) h z = absurd (h.zero_is_done z)
 
 -- x: what the pick below answered, with its outputs at exit; h: what its definition says
-pub picks : (h : Handed) (x : PickAnswer) {ps gs : List ℕ} {r : ℕ} {lent left : List ℕ} → below.handed x ps gs ≡ h → Counted (pick_made h.answer)
+pub picks : (h : Handed) (x : Result Totals Refusal) {ps gs : List ℕ} {r : ℕ} {lent left : List ℕ} → below.handed x ps gs ≡ h → Counted (pick_made h.answer)
     → r ∷ left ≡ handed (pick_made x) lent → Picks h r lent left ps gs
 picks h x e k q =
     record { hands = hands pick_made (ap (λ (p : Handed). p.answer) e) k q; picks_left = ap (λ (p : Handed). p.picks) e; groups_left = ap (λ (p : Handed). p.groups) e }
 
 -- what holds of the answer below holds of the numbers at exit
-pub carried : (P : PickAnswer → Type 0) {h : Handed} {x : PickAnswer} {ps gs : List ℕ} {r total first examined instructions : ℕ} {lent : List ℕ}
-    → below.handed x ps gs ≡ h → Picks h r lent (total ∷ first ∷ examined ∷ instructions ∷ []) ps gs → P x → r ≡ 0 → P (pick.Picked (totals_of total first examined instructions))
+pub carried : (P : Result Totals Refusal → Type 0) {h : Handed} {x : Result Totals Refusal} {ps gs : List ℕ} {r total first examined instructions : ℕ} {lent : List ℕ}
+    → below.handed x ps gs ≡ h → Picks h r lent (total ∷ first ∷ examined ∷ instructions ∷ []) ps gs → P x → r ≡ 0 → P (Ok (totals_of total first examined instructions))
 carried P {h} e p d z = subst P (ap (λ (q : Handed). q.answer) e ∙ picked h.answer p.hands z) d

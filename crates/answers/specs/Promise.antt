@@ -1,7 +1,6 @@
 -- Demand 3 for the walk, and what Bitcoin Core answers to the same bytes, in the numbers that the calls hand out.
 -- Assumes nothing.
 use Rattle.std.specs.Prelude.{ℕ, ◌+◌, ◌*◌, ◌≤◌, ◌<◌, true, ◌≡◌, ◌⊎◌, ◌≢◌, List, [], ◌∷◌, eqb, length}
-use Rattle.asmap_program.specs.declared.Verdict.TheVariants.{Accepted}
 use Rattle.asmap_program.specs.Map.{limit, address_bit}
 use Rattle.asmap_program.specs.Widths.{is_width}
 use Rattle.asmap_program.specs.Core.{Read, INVALID, core_check, Number, core_interpret}
@@ -11,6 +10,7 @@ use Rattle.asmap_check.specs.Check.{check_of}
 use Rattle.asmap_walk_bits.specs.Walk.{walk_of, summary}
 use Rattle.asmap_walk.specs.Promise.{Kept}
 use Rattle.answer_maps.specs.Maps.{end_numbers}
+use Rattle.asmap_program.specs.Verdict.{Accepted}
 
 -- The walk of the map m by w bits of the address a was made, and came to the end of the defined walk: at a RETURN, 1, or at a
 -- difference, 2; within so many instructions. The number 0 is only that of a difference before any DEFAULT was read. `kept` says the rest

@@ -11,7 +11,6 @@ use lib.Dec.{ltb}
 use lib.ListN.{length}
 use borrow.Author.Tests.{le-ltb, ltb-true, ltb-false}
 use Rattle.asmap_program.specs.declared.Kind.TheVariants.{Returned}
-use Rattle.asmap_program.specs.declared.Verdict.TheVariants.{Accepted}
 use Rattle.asmap_program.specs.Map.{address_bit}
 use Rattle.asmap_program.specs.Check.{check}
 use Rattle.asmap_program.specs.Walk.{walk}
@@ -32,6 +31,7 @@ use Rattle.asmap_bit_writer.proofs.ByteLaws.{length-bytes_of}
 use Rattle.asmap_shapes.proofs.MapLaws.{shape_accepted, shape-walks}
 use Rattle.asmap_build.specs.Build.{number_in, tree_bits}
 use Rattle.asmap_build.specs.Promise.{Builds}
+use Rattle.asmap_program.specs.Verdict.{Accepted}
 
 -- every number is one of the list's or the given one
 pub number_at_lem : (w : ℕ) (ps : ℕ → Piece) (given n : ℕ) → ((i : ℕ) → i < n → Number (ps i).number) → Number given → (x : ℕ) → Number (number_at w ps given n x)

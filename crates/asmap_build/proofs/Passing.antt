@@ -20,7 +20,6 @@ use Rattle.asmap_codes.specs.Encode.{instruction_bits}
 use Rattle.asmap_bit_writer.specs.Bytes.{to_bytes, bytes_of}
 use Rattle.prefix_runs.specs.declared.Run.{Run}
 use Rattle.asmap_front_writer.specs.declared.Front.{Front}
-use Rattle.asmap_build.specs.declared.Size.TheVariants.{Ends}
 use Rattle.prefix_records.specs.models.Cursor.{value_of}
 use Rattle.asmap_build.specs.models.Size.{Sized, WriteReady, Filled}
 use Rattle.asmap_shapes.specs.Shape.{Shape, Leaf, shape, bits_of}
@@ -29,6 +28,7 @@ use Rattle.prefix_runs.specs.models.Runs.{RunAt}
 use Rattle.asmap_front_writer.specs.models.Front.{filled, Room, Moved, Emitted}
 use Rattle.asmap_shapes.proofs.TreeLaws.{return-length}
 use Rattle.asmap_build.proofs.PassLaws.{leaf_here, fork_here, fork_halves, whole_start, whole-down, whole-zero, whole_one, whole_long}
+use Rattle.std.specs.Prelude.{Some}
 
 -- ---- the output
 
@@ -406,7 +406,7 @@ module _ (f : ℕ → ℕ) (Cuts : ℕ → ℕ → Type 0) (w : ℕ) where
       }
 
   pub ending : {writes : Bool} {total : ℕ} {o₀ o starts : List ℕ} {front : Front} {v : ℕ} {run : Run}
-      → Passing writes total o₀ o starts front v 0 0 run → Sized (bits_of (shape f w 0)) (Ends front.done) × Filled writes (bits_of (shape f w 0)) o₀ o
+      → Passing writes total o₀ o starts front v 0 0 run → Sized (bits_of (shape f w 0)) (Some front.done) × Filled writes (bits_of (shape f w 0)) o₀ o
   unfolding whole filled bytes_of
   ending {o₀} {o} {front} s = (
     (s.counted ∙ sym (ap length s.all), omega (arith, ap length s.all, s.few)),

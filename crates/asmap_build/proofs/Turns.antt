@@ -12,7 +12,6 @@ use Rattle.asmap_codes.specs.Row.{type_row, operand_row, in_range}
 use Rattle.asmap_codes.specs.Encode.{instruction_bits}
 use Rattle.prefix_runs.specs.declared.Run.{Run}
 use Rattle.asmap_front_writer.specs.declared.Front.{Front}
-use Rattle.asmap_build.specs.declared.Size.TheVariants.{Ends}
 use Rattle.prefix_records.specs.models.Cursor.{value_of}
 use Rattle.asmap_shapes.specs.Shape.{shape, bits_of}
 use Rattle.asmap_shapes.proofs.TreeLaws.{Number}
@@ -20,6 +19,7 @@ use Rattle.prefix_runs.specs.models.Runs.{RunAt}
 use Rattle.asmap_front_writer.specs.models.Front.{Ready, Emitted}
 use Rattle.asmap_build.specs.models.Size.{Sized, WriteReady, Filled}
 use Rattle.asmap_build.proofs.Passing.{Passing, power_down, deeper, down, return_long, room_for, returned, over, close_long, close_over, closed, run_here, some_address, crossed, ending}
+use Rattle.std.specs.Prelude.{Some}
 
 -- ---- in range
 
@@ -164,7 +164,7 @@ module _ (f : ℕ → ℕ) (Cuts : ℕ → ℕ → Type 0) (w : ℕ) (small : w 
     pub over_filled : {o' : List ℕ} → WriteReady writes total B o₀ → 134217728 < length B → (writes ≡ false → o' ≡ o) → Filled writes B o₀ o'
     over_filled r h i = record { idle = λ e. i e ∙ s.idle e; busy = λ e. absurd (omega (arith, r.count e, r.most, h)) }
 
-    pub turn_end : d + t ≡ 0 → Sized B (Ends front.done) × Filled writes B o₀ o
+    pub turn_end : d + t ≡ 0 → Sized B (Some front.done) × Filled writes B o₀ o
     turn_end e =
         let a : d ≡ 0 = omega arith in
         let b : t ≡ 0 = omega arith in

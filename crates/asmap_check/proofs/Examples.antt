@@ -3,12 +3,12 @@
 use Prim.Native.Nat.{ℕ}
 use mathlib.Core.Path.{◌≡◌, refl}
 use mathlib.Core.List.{List, map}
-use Rattle.asmap_program.specs.declared.Verdict.{Verdict}
 use Rattle.asmap_program.specs.Map.{length_in, length_of}
 use Rattle.asmap_program.specs.Check.{guard, step, run, check, stops, stop_of}
 use Rattle.asmap_codes.specs.Instruction.{fetch_at, padded_from, map_of}
 use Rattle.asmap_check.specs.Check.{check_of}
 use Rattle.asmap_check.specs.Examples.{examples}
+use Rattle.asmap_program.specs.Verdict.{Verdict}
 
 pub examples_hold
     : map {B = Verdict × ℕ} (λ (e : List ℕ × (Verdict × ℕ)). (check_of e.0 128, stop_of (map_of e.0) 128)) examples

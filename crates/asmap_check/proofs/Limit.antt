@@ -8,31 +8,32 @@ use native.Mathlib.Omega.{arith}
 use borrow.Author.Tests.{lt-ltb, le-ltb, ltb-false}
 use lib.Dec.{ltb}
 use lib.ListN.{length}
-use Rattle.asmap_program.specs.declared.Verdict.TheVariants.{Accepted, Refused}
 use Rattle.asmap_program.specs.Check.{check}
 use Rattle.asmap_program.proofs.Wider.{accepted_wider}
 use Rattle.asmap_codes.specs.Instruction.{map_of}
 use Rattle.asmap_check_run.specs.declared.Judged.{Judged}
 use Rattle.asmap_check_run.specs.models.State.{judged}
-use Rattle.asmap_check.specs.declared.Stopped.TheVariants as stopped
 use Rattle.asmap_check.specs.Check.{unless_long, check_of, reason_of, stopped_of}
-use Rattle.asmap_check.specs.declared.Counted.TheVariants as counted
 use Rattle.asmap_check.specs.models.Counted.{counted_as, counted_of}
+use Rattle.asmap_program.specs.Verdict.{Accepted}
+use Rattle.asmap_check.specs.Stop.{At}
+use Rattle.refusals.specs.declared.Fault.TheVariants as fault
+use Rattle.std.specs.Prelude.{Err}
 
 module _ (m : List ℕ) (w : ℕ) where
-  pub checked_long : 16777216 < length m → Refused 1 ≡ check_of m w
+  pub checked_long : 16777216 < length m → Err fault.MapTooLong ≡ check_of m w
   checked_long h = rw (lt-ltb 16777216 (length m) h)
 
   pub checked : length m ≤ 16777216 → check (map_of m) w ≡ check_of m w
   checked h = rw (le-ltb 16777216 (length m) h)
 
-  pub stopped_long : 16777216 < length m → stopped.Refused 1 ≡ stopped_of m w
+  pub stopped_long : 16777216 < length m → Err fault.MapTooLong ≡ stopped_of m w
   stopped_long h = rw (lt-ltb 16777216 (length m) h)
 
-  pub stopped_at_lem : length m ≤ 16777216 → (j : Judged) → j ≡ judged m w → stopped.At (reason_of j.verdict) j.place ≡ stopped_of m w
+  pub stopped_at_lem : length m ≤ 16777216 → (j : Judged) → j ≡ judged m w → At (reason_of j.verdict) j.place ≡ stopped_of m w
   stopped_at_lem h j e = rw (e, le-ltb 16777216 (length m) h)
 
-  pub counted_long : 16777216 < length m → counted.Refused 1 ≡ counted_of m w
+  pub counted_long : 16777216 < length m → Err fault.MapTooLong ≡ counted_of m w
   counted_long h = rw (lt-ltb 16777216 (length m) h)
 
   pub counted_at : length m ≤ 16777216 → (j : Judged) → j ≡ judged m w → counted_as j.pieces j.verdict ≡ counted_of m w

@@ -9,18 +9,18 @@ use mathlib.Core.List.{List}
 use native.Mathlib.Omega.{arith}
 use lib.Dec.{ltb}
 use lib.ListN.{length}
-use Rattle.asmap_program.specs.declared.Verdict.{Verdict}
-use Rattle.asmap_program.specs.declared.Verdict.TheVariants.{Accepted, Refused}
 use Rattle.asmap_program.specs.Map.{limit, Map, Opcode, Operand, cut_reason}
 use Rattle.asmap_program.specs.Check.{State, Outcome, Next, Done, Refuse, step, after, run, start, check}
 use Rattle.asmap_program.proofs.Refusals.{test-number, Refuses, step_refuses}
 use Rattle.asmap_codes.specs.Instruction.{map_of}
 use Rattle.asmap_check.specs.Check.{unless_long, check_of, Reason}
+use Rattle.asmap_program.specs.Verdict.{Verdict}
+use Rattle.std.specs.Prelude.{Err, Ok}
 
 -- of a verdict that refuses
 abbrev pub Judged : (ℕ → Type 0) → Verdict → Type 0
-Judged P (Accepted c d) = Unit {0}
-Judged P (Refused n) = P n
+Judged P (Ok got) = Unit {0}
+Judged P (Err n) = P n
 
 -- none of them is 0, and a byte has room for each with 100 more
 pub reason-some : (n : ℕ) → Reason n → 0 < n

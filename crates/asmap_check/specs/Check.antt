@@ -1,20 +1,21 @@
 -- What the check answers for a list of bytes (document 01, Check and "What a call hands back").
 -- Assumes nothing.
-use Rattle.std.specs.Prelude.{ℕ, ◌≤◌, Bool, true, false, ◌≡◌, ◌⊎◌, List, ltb, length}
-use Rattle.asmap_program.specs.declared.Verdict.{Verdict}
-use Rattle.asmap_program.specs.declared.Verdict.TheVariants.{Accepted, Refused}
+use Rattle.std.specs.Prelude.{ℕ, ◌≤◌, Bool, true, false, ◌≡◌, ◌⊎◌, List, ltb, length, Result, Err, Ok}
 use Rattle.asmap_program.specs.Map.{limit}
 use Rattle.asmap_program.specs.Widths.{is_width, at_width}
 use Rattle.asmap_program.specs.Check.{accepted, check, stop_of}
 use Rattle.asmap_program.specs.Core.{core_check}
 use Rattle.asmap_codes.specs.Instruction.{map_of}
 use Rattle.asmap_codes.specs.Core.{file_of}
-use Rattle.asmap_check.specs.declared.Stopped.{Stopped}
-use Rattle.asmap_check.specs.declared.Stopped.TheVariants as stopped
+use Rattle.asmap_program.specs.Verdict.{Verdict}
+use Rattle.asmap_check.specs.declared.Stop.{Stop}
+use Rattle.asmap_check.specs.Stop.{At}
+use Rattle.refusals.specs.declared.Fault.{Fault}
+use Rattle.refusals.specs.declared.Fault.TheVariants as fault
 
 -- refused 1 where the test holds
 abbrev pub unless_long : Bool → Verdict → Verdict
-unless_long true v = Refused 1
+unless_long true v = Err fault.MapTooLong
 unless_long false v = v
 
 -- The check of a map's bytes over w address bits ("Order"): a map over the limit is 1, which comes before every other reason; any other
@@ -28,7 +29,7 @@ Reason n = ((2 ≤ n) × (n ≤ 10)) ⊎ (n ≡ 19)
 
 -- The check at a width (document 02, CR 3): 18, first of all, for a width that is neither 32 nor 128.
 abbrev pub check_at : List ℕ → ℕ → Verdict
-check_at m w = at_width w Refused (check_of m w)
+check_at m w = at_width w Err (check_of m w)
 
 -- Core's SanityCheckASMap (the paper core-asmap.md) over w address bits accepts a map within the limit exactly where r does. The limit is
 -- document 01's; Core has none.
@@ -41,18 +42,18 @@ LikeCoreAt m w r = is_width w ≡ true → LikeCore m w r
 
 -- The reason in a verdict: 0 where it accepts.
 abbrev pub reason_of : Verdict → ℕ
-reason_of (Accepted c d) = 0
-reason_of (Refused n) = n
+reason_of (Ok got) = 0
+reason_of (Err n) = n
 
 -- refused 1 where the test holds
-abbrev pub stops_unless_long : Bool → Stopped → Stopped
-stops_unless_long true s = stopped.Refused 1
+abbrev pub stops_unless_long : Bool → Result Stop Fault → Result Stop Fault
+stops_unless_long true s = Err fault.MapTooLong
 stops_unless_long false s = s
 
 -- Where the check of a map's bytes over w address bits stops: with which reason, and at which place. A map over the limit is 1.
-abbrev pub stopped_of : List ℕ → ℕ → Stopped
-stopped_of m w = stops_unless_long (ltb limit (length m)) (stopped.At (reason_of (check (map_of m) w)) (stop_of (map_of m) w))
+abbrev pub stopped_of : List ℕ → ℕ → Result Stop Fault
+stopped_of m w = stops_unless_long (ltb limit (length m)) (At (reason_of (check (map_of m) w)) (stop_of (map_of m) w))
 
 -- the same at a width: 18 where it is none
-abbrev pub stopped_at : List ℕ → ℕ → Stopped
-stopped_at m w = at_width w stopped.Refused (stopped_of m w)
+abbrev pub stopped_at : List ℕ → ℕ → Result Stop Fault
+stopped_at m w = at_width w Err (stopped_of m w)

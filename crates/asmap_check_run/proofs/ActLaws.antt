@@ -15,8 +15,6 @@ use Rattle.asmap_program.specs.declared.Previous.TheVariants.{Other, Default}
 use Rattle.asmap_program.specs.Map.{CutOperand, Operand, cut_reason, length_of}
 use Rattle.asmap_program.specs.Check.{Open, State, is_default, is_short, after_match, guard, Outcome, Next, Done, Refuse, closing, step_whole, step_on, step}
 use Rattle.asmap_program.specs.models.Pieces.{pieces_of}
-use Rattle.asmap_codes.specs.declared.Code.{Code}
-use Rattle.asmap_codes.specs.declared.Code.TheVariants.{Value, Cut}
 use Rattle.asmap_codes.specs.Row.{type_row, operand_row}
 use Rattle.asmap_codes.specs.Code.{code_at}
 use Rattle.asmap_codes.specs.Instruction.{with_operand, with_opcode, fetch_at, padded_from, map_of}
@@ -27,13 +25,16 @@ use Rattle.asmap_check_act.specs.models.Act.{refusing, returned, kept, on_operan
 use Rattle.asmap_check_act.specs.declared.Act.{Act}
 use Rattle.asmap_check_act.specs.declared.Act.TheVariants.{Opens, Closes, Uses, Keeps, Accepts, Refuses}
 use Rattle.asmap_check_run.proofs.StateLaws.{past_top_lem}
+use Rattle.asmap_codes.specs.Reading.{Code, Cut, Value}
+use Rattle.std.specs.Prelude.{Option}
+use Rattle.refusals.specs.declared.Fault.TheVariants as fault
 
 -- the instruction at a place, by what was read of it; where a code is cut, no outcome names it
-abbrev instruction : ℕ → ℕ → Code → Instruction
+abbrev instruction : ℕ → ℕ → Option Code → Instruction
 instruction p op Cut = record { opcode = op; operand = 0; place = p; size = 0 }
 instruction p op (Value v n) = record { opcode = op; operand = v; place = p; size = n - p }
 
-abbrev instruction_at : List ℕ → ℕ → Code → Instruction
+abbrev instruction_at : List ℕ → ℕ → Option Code → Instruction
 instruction_at m p Cut = instruction p 0 Cut
 instruction_at m p (Value op n) = instruction p op (code_at m n (operand_row op))
 
@@ -119,12 +120,12 @@ module _ (m ts ss : List ℕ) (left at : ℕ) (before : Previous) (count deepest
   cut_is d (suc (suc (suc zero))) h = rw (and-true (is_default before)) (guarded (s d) (instruction at 3 Cut) (is_default before) 5 _ (Refuses (cut_reason Operand)) refl)
   cut_is d (suc (suc (suc (suc op)))) h = absurd (omega arith)
 
-  operand_is : (d op : ℕ) → op < 4 → (c : Code) → ((v n : ℕ) → c ≡ Value v n → at < n)
+  operand_is : (d op : ℕ) → op < 4 → (c : Option Code) → ((v n : ℕ) → c ≡ Value v n → at < n)
       → step_on (map_of m) (s d) (with_operand at op c) ≡ applied (s d) (instruction at op c) (on_operand m before left d (top ts d) op c)
   operand_is d op h Cut k = cut_is d op h
   operand_is d op h (Value v n) k = whole_is d v n (k v n refl) op
 
-  opcode_is : (d : ℕ) (c : Code) → code_at m at type_row ≡ c
+  opcode_is : (d : ℕ) (c : Option Code) → code_at m at type_row ≡ c
       → step_on (map_of m) (s d) (with_opcode m at c) ≡ applied (s d) (instruction_at m at c) (on_opcode m before left d (top ts d) c)
   opcode_is d Cut q = refl
   opcode_is d (Value op e) q =
@@ -140,7 +141,7 @@ module _ (m ts ss : List ℕ) (left at : ℕ) (before : Previous) (count deepest
       (passed 2 _ ∙ guarded (s d) (here m at) (past_top d (top ts d) at) 3 _ (on_opcode m before left d (top ts d) (code_at m at type_row)) (opcode_is d (code_at m at type_row) refl))
 
   -- a step at its end
-  pub end_is : (d : ℕ) → 8 * length m ≤ at → step (map_of m) (s d) ≡ Refuse 2
+  pub end_is : (d : ℕ) → 8 * length m ≤ at → step (map_of m) (s d) ≡ Refuse fault.MapEnds
   unfolding step guard map_of
   end_is d h = rw (le-leb (8 * length m) at h)
 
@@ -159,16 +160,16 @@ sure_unless bits d true n a h = tt
 sure_unless bits d false n a h = h refl
 
 module _ (m : List ℕ) (p : Previous) (bits t : ℕ) where
-  sure-returned : (d : ℕ) (c : Code) → Sure bits d (returned m d t c)
+  sure-returned : (d : ℕ) (c : Option Code) → Sure bits d (returned m d t c)
   sure-returned d Cut = tt
   sure-returned zero (Value v n) = sure_unless bits 0 (not (padded_from m n)) 6 Accepts (λ _. tt)
   sure-returned (suc d) (Value v n) = rw (ne_eqb (suc d) 0 (omega arith)) (sure_unless bits (suc d) (not (eqb n t)) 7 (Closes n) (λ _. omega arith))
 
-  sure-kept : (d : ℕ) (c : Code) → Sure bits d (kept c)
+  sure-kept : (d : ℕ) (c : Option Code) → Sure bits d (kept c)
   sure-kept d Cut = tt
   sure-kept d (Value v n) = tt
 
-  sure_on : (d op : ℕ) (c : Code) → Sure bits d (on_operand m p bits d t op c)
+  sure_on : (d op : ℕ) (c : Option Code) → Sure bits d (on_operand m p bits d t op c)
   sure_on d zero c = sure_unless bits d (is_default p) 5 (returned m d t c) (λ _. sure-returned d c)
   sure_on d (suc zero) Cut = tt
   sure_on d (suc zero) (Value v n) =
@@ -180,7 +181,7 @@ module _ (m : List ℕ) (p : Previous) (bits t : ℕ) where
       (λ _. sure_unless bits d (ltb bits (length_of v)) 8 (Uses n (length_of v)) (λ z. ltb-false bits (length_of v) z))
   sure_on d (suc (suc (suc op))) c = sure_unless bits d (is_default p) 5 (kept c) (λ _. sure-kept d c)
 
-  sure_opcode : (d : ℕ) (c : Code) → Sure bits d (on_opcode m p bits d t c)
+  sure_opcode : (d : ℕ) (c : Option Code) → Sure bits d (on_opcode m p bits d t c)
   sure_opcode d Cut = tt
   sure_opcode d (Value op n) = sure_on d op (code_at m n (operand_row op))
 
@@ -202,12 +203,12 @@ tells_unless i true n a h = tt
 tells_unless i false n a h = h
 
 module _ (m : List ℕ) (p : Previous) (bits t : ℕ) where
-  tells-returned : (d place : ℕ) (c : Code) → Tells (instruction place 0 c) (returned m d t c)
+  tells-returned : (d place : ℕ) (c : Option Code) → Tells (instruction place 0 c) (returned m d t c)
   tells-returned d place Cut = tt
   tells-returned zero place (Value v n) = tells_unless (instruction place 0 (Value v n)) (not (padded_from m n)) 6 Accepts refl
   tells-returned (suc d) place (Value v n) = rw (ne_eqb (suc d) 0 (omega arith)) (tells_unless (instruction place 0 (Value v n)) (not (eqb n t)) 7 (Closes n) refl)
 
-  tells_on : (d op place : ℕ) (c : Code) → Tells (instruction place op c) (on_operand m p bits d t op c)
+  tells_on : (d op place : ℕ) (c : Option Code) → Tells (instruction place op c) (on_operand m p bits d t op c)
   tells_on d zero place c = tells_unless (instruction place 0 c) (is_default p) 5 (returned m d t c) (tells-returned d place c)
   tells_on d (suc zero) place Cut = tt
   tells_on d (suc zero) place (Value v n) =
@@ -220,7 +221,7 @@ module _ (m : List ℕ) (p : Previous) (bits t : ℕ) where
   tells_on d (suc (suc (suc op))) place Cut = tells_unless (instruction place (suc (suc (suc op))) Cut) (is_default p) 5 (kept Cut) tt
   tells_on d (suc (suc (suc op))) place (Value v n) = tells_unless (instruction place (suc (suc (suc op))) (Value v n)) (is_default p) 5 (kept (Value v n)) refl
 
-  tells_opcode : (d place : ℕ) (c : Code) → Tells (instruction_at m place c) (on_opcode m p bits d t c)
+  tells_opcode : (d place : ℕ) (c : Option Code) → Tells (instruction_at m place c) (on_opcode m p bits d t c)
   tells_opcode d place Cut = tt
   tells_opcode d place (Value op n) = tells_on d op place (code_at m n (operand_row op))
 

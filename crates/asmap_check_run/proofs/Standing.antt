@@ -7,7 +7,6 @@ use mathlib.Core.List.{List}
 use native.Mathlib.Omega.{arith}
 use lib.ListN.{length}
 use Rattle.asmap_program.specs.declared.Instruction.{Instruction}
-use Rattle.asmap_program.specs.declared.Verdict.TheVariants.{Accepted, Refused}
 use Rattle.asmap_program.specs.Check.{State, start, Outcome, Next, Done, Refuse, step, after, check, stopping, stop_of, listed, unpacked}
 use Rattle.asmap_program.specs.models.Pieces.{pieces_of, count_pieces}
 use Rattle.asmap_program.proofs.Tree.{View, view}
@@ -16,6 +15,8 @@ use Rattle.asmap_program.proofs.Loop.{moved, result, result-step, result_start, 
 use Rattle.asmap_codes.specs.Instruction.{map_of}
 use Rattle.asmap_check_run.specs.models.State.{judged}
 use Rattle.asmap_codes.proofs.MapLaws.{laws, map-bits}
+use Rattle.asmap_program.specs.Verdict.{Accepted}
+use Rattle.std.specs.Prelude.{Err}
 
 module _ (m : List ℕ) (w : ℕ) where
   pub record Standing (s : State) : Type 0 where
@@ -64,7 +65,7 @@ module _ (m : List ℕ) (w : ℕ) where
       λ j. record { verdict = sym (answer s h (Done i c d) e) j; place = sym (placed s h (Done i c d) e) j; pieces = q j }
 
   pub standing_refused : (s : State) → Standing s → (n : ℕ) → Counting s n → (r : ℕ) → step (map_of m) s ≡ Refuse r
-      → record { verdict = Refused r; place = s.at; pieces = n } ≡ judged m w
+      → record { verdict = Err r; place = s.at; pieces = n } ≡ judged m w
   unfolding count_pieces
   standing_refused s h n k r e =
       let q : n ≡ count_pieces (unpacked (map_of m) w) = sym (counting s n k (Refuse r) e ∙ omega arith) in

@@ -8,7 +8,6 @@ use native.Mathlib.Numerals.{add-one}
 use lib.ListN.{length, get_or, set}
 use Rattle.asmap_program.specs.declared.Previous.{Previous}
 use Rattle.asmap_program.specs.declared.Previous.TheVariants.{Other, Default}
-use Rattle.asmap_program.specs.declared.Verdict.TheVariants.{Accepted, Refused}
 use Rattle.asmap_program.specs.Check.{Open, State, after_match, Next, step}
 use Rattle.asmap_program.specs.models.Pieces.{pieces_of}
 use Rattle.asmap_codes.specs.Instruction.{map_of}
@@ -20,6 +19,9 @@ use Rattle.asmap_check_act.specs.declared.Act.TheVariants.{Opens, Closes, Uses, 
 use Rattle.asmap_check_run.proofs.StateLaws.{length_opens, opens-push, opens_pop}
 use Rattle.asmap_check_run.proofs.ActLaws.{here, closed, applied, act_is, end_is, Sure, sure, Tells, tells}
 use Rattle.asmap_check_run.proofs.Standing.{Standing, standing_on, Counting, counting_on, standing-done, standing_refused, onward, standing_room}
+use Rattle.asmap_program.specs.Verdict.{Accepted}
+use Rattle.refusals.specs.declared.Fault.TheVariants as fault
+use Rattle.std.specs.Prelude.{Err}
 
 same_state : {a b : State} → a.at ≡ b.at → a.left ≡ b.left → a.before ≡ b.before → a.opens ≡ b.opens → a.count ≡ b.count → a.deepest ≡ b.deepest → a ≡ b
 same_state p q r s t u = λ i. record { at = p i; left = q i; before = r i; opens = s i; count = t i; deepest = u i }
@@ -39,7 +41,7 @@ pub record Turned (m : List ℕ) (w pos n : ℕ) (s : State) : Type 0 where
 
 pub turn_end : (m : List ℕ) (w : ℕ) (st : CheckState) (pos : ℕ) (prev : Previous) (count deepest n : ℕ)
     → Standing m w (state_of st pos prev count deepest) → Counting m w (state_of st pos prev count deepest) n → 8 * length m ≤ pos
-    → record { verdict = Refused 2; place = pos; pieces = n } ≡ judged m w
+    → record { verdict = Err fault.MapEnds; place = pos; pieces = n } ≡ judged m w
 turn_end m w st pos prev count deepest n h c k =
     standing_refused m w _ h n c 2 (end_is m st.targets st.saved st.bits pos prev count deepest st.depth k)
 
@@ -117,5 +119,5 @@ module _ {m : List ℕ} {w : ℕ} {st : CheckState} {pos : ℕ} {prev : Previous
   turn_accepts e =
       rw (add-one count) (standing-done m w s T.standing pieces T.counting (here m pos) (suc count) deepest (step_is Accepts e) (told Accepts e))
 
-  pub turn_refuses : (n : ℕ) → a ≡ Refuses n → record { verdict = Refused n; place = pos; pieces = pieces } ≡ judged m w
+  pub turn_refuses : (n : ℕ) → a ≡ Refuses n → record { verdict = Err n; place = pos; pieces = pieces } ≡ judged m w
   turn_refuses n e = standing_refused m w s T.standing pieces T.counting n (step_is (Refuses n) e)

@@ -12,8 +12,8 @@ use Rattle.asmap_codes.proofs.BitLaws.{size_of_pow}
 use types.Run.{OneOf}
 use denote.Enum.Declared.{tag_of}
 use Rattle.asmap_codes.specs.contracts.Code.{the_type}
-use Rattle.asmap_codes.specs.declared.Code.{Code}
-use Rattle.asmap_codes.specs.declared.Code.TheVariants.{Value, Cut}
+use Rattle.asmap_codes.specs.Reading.{Code, Cut, Value}
+use Rattle.std.specs.Prelude.{Option}
 
 -- the head of what is left of a list
 pub heads : (l : List ℕ) (i : ℕ) → i < length l → drop i l ≡ get_or l i 0 ∷ drop (i + 1) l
@@ -28,6 +28,6 @@ pub size_small : (ss : List ℕ) (i : ℕ) → i < length ss → span (drop i ss
 size_small ss i h k = size_of_pow (get_or ss i 0) (omega (arith, span-drop ss i h))
 
 -- what the `else` of `let Code::Value(..) = g else` is told: the tag is 1
-pub cut-told : (g : Code) → OneOf (1 ∷ []) (tag_of the_type g) → g ≡ Cut
+pub cut-told : (g : Option Code) → OneOf (1 ∷ []) (tag_of the_type g) → g ≡ Cut
 cut-told (Value v n) k = absurd (omega arith)
 cut-told Cut k = refl

@@ -15,7 +15,6 @@ use lib.Seq.{length-take-le}
 use Rattle.asmap_program.specs.Check.{accepted, check}
 use Rattle.asmap_program.specs.Walk.{walk}
 use Rattle.asmap_program.specs.Core.{Read, INVALID, Reads, Joined, decode_of, no_ones, core_tail, core_check, Number, core_interpret}
-use Rattle.asmap_program.specs.declared.Verdict.TheVariants.{Accepted}
 use Rattle.asmap_program.proofs.CoreCheck.{core-verdict}
 use Rattle.asmap_program.proofs.CoreWalk.{core-number}
 use Rattle.asmap_codes.specs.Bits.{map_bits, number, all_zero}
@@ -23,14 +22,15 @@ use Rattle.asmap_codes.specs.Row.{Row, type_row, asn_row, match_row, jump_row, o
 use Rattle.asmap_codes.specs.Code.{tail, code, code_at, read_code}
 use Rattle.asmap_codes.specs.Instruction.{with_operand, with_opcode, fetch_at, padded_from, map_of}
 use Rattle.asmap_codes.specs.Core.{mantissa, decode_bits, Agrees, SameRead, CoreReads, file_of}
-use Rattle.asmap_codes.specs.declared.Code.{Code}
-use Rattle.asmap_codes.specs.declared.Code.TheVariants.{Value, Cut}
-use Rattle.asmap_codes.specs.declared.Decoded.{Decoded}
 use Rattle.asmap_codes.proofs.BitLaws.{AllBits, bits-map, length-map_bits}
 use Rattle.asmap_codes.proofs.RowLaws.{type_fit, operand_fit}
 use Rattle.asmap_codes.proofs.CodeLaws.{heads}
 use Rattle.asmap_codes.proofs.Inside.{value_at, read_at, read_cut, long_operand}
 use Rattle.asmap_codes.proofs.MapLaws.{laws}
+use Rattle.asmap_program.specs.Verdict.{Accepted}
+use Rattle.asmap_codes.specs.Reading.{Code, Cut, Value}
+use Rattle.refusals.specs.declared.Fault.{Fault}
+use Rattle.std.specs.Prelude.{Result, Option}
 
 module _ (B : List ℕ) (all : AllBits B) where
   -- at the end of the file
@@ -107,7 +107,7 @@ module _ (m : List ℕ) where
   pub invalid_is-cut : (row : Row) → Fit row → (p : ℕ) → p ≤ 8 * length m → (decode_bits (map_bits m) row.sizes row.least p).value ≡ INVALID → code_at m p row ≡ Cut
   invalid_is-cut row f p h e = go (code_at m p row) refl (decode-bits_is_core row p h)
     where
-      go : (c : Code) → code_at m p row ≡ c → Agrees c (decode_bits (map_bits m) row.sizes row.least p) → c ≡ Cut
+      go : (c : Option Code) → code_at m p row ≡ c → Agrees c (decode_bits (map_bits m) row.sizes row.least p) → c ≡ Cut
       go Cut q a = refl
       go (Value v n) q a = absurd (omega (arith, (value_at m p row v n f.many q).below, f.small, ap (λ (r : Read). r.value) a))
 
@@ -115,13 +115,13 @@ module _ (m : List ℕ) where
   read_is_core : (row : Row) → Fit row → (p : ℕ) → CoreReads m p (read_code m p row) (decode_bits (map_bits m) row.sizes row.least p)
   read_is_core row f p h k = go (code_at m p row) refl (decode-bits_is_core row p k)
     where
-      go : (c : Code) → code_at m p row ≡ c → Agrees c (decode_bits (map_bits m) row.sizes row.least p)
+      go : (c : Option Code) → code_at m p row ≡ c → Agrees c (decode_bits (map_bits m) row.sizes row.least p)
           → SameRead (read_code m p row) (decode_bits (map_bits m) row.sizes row.least p)
       go Cut q a = rw (read_cut m p row h q) a
       go (Value v n) q a = rw (read_at m p row h v n q) (a, omega (arith, (value_at m p row v n f.many q).below, f.small))
 
   -- the same for each of Core's four decoders, of a call's answer r
-  module _ (p : ℕ) (r : Decoded) where
+  module _ (p : ℕ) (r : Result Code Fault) where
     pub type_is_core : r ≡ read_code m p type_row → CoreReads m p r ((file_of m).decode_type p)
     unfolding file_of
     type_is_core e = rw e (read_is_core type_row type_fit p)
@@ -146,14 +146,14 @@ module _ (m : List ℕ) where
   operand_agrees (suc (suc (suc n))) q h = decode-bits_is_core (operand_row 3) q h
 
   reads_operand : (p op q : ℕ) → p < q → op < 4 → (file_of m).decode_type p ≡ record { value = op; pos = q }
-      → (c : Code) → code_at m q (operand_row op) ≡ c → Agrees c (decode_of (file_of m) op q) → Reads (file_of m) p (with_operand p op c)
+      → (c : Option Code) → code_at m q (operand_row op) ≡ c → Agrees c (decode_of (file_of m) op q) → Reads (file_of m) p (with_operand p op c)
   reads_operand p op q h k t Cut e a = (q, t, k, a)
   reads_operand p op q h k t (Value v n) e a =
       let x = value_at m q (operand_row op) v n (long_operand op) e in
       let z : p + (n - p) ≡ n = omega (arith, x.past) in
       (q, t, rw z a, omega (arith, x.below, (operand_fit op).small))
 
-  reads_opcode : (p : ℕ) (c : Code) → code_at m p type_row ≡ c → Agrees c ((file_of m).decode_type p) → Reads (file_of m) p (with_opcode m p c)
+  reads_opcode : (p : ℕ) (c : Option Code) → code_at m p type_row ≡ c → Agrees c ((file_of m).decode_type p) → Reads (file_of m) p (with_opcode m p c)
   reads_opcode p Cut e a = a
   reads_opcode p (Value op q) e a =
       let x = value_at m p type_row op q type_fit.many e in

@@ -10,11 +10,12 @@ use Rattle.asmap_program.specs.Map.{cut_reason}
 use Rattle.asmap_codes.specs.Bits.{map_bits}
 use Rattle.asmap_codes.specs.Row.{Row, operand_row, span}
 use Rattle.asmap_codes.specs.Code.{tail, code, code_at, part_from, read_code}
-use Rattle.asmap_codes.specs.declared.Code.TheVariants.{Value, Cut}
-use Rattle.asmap_codes.specs.declared.Decoded.TheVariants.{Found, Refused}
 use Rattle.asmap_codes.proofs.BitLaws.{length-map_bits, bits-map, bits-drop, length_left}
 use Rattle.asmap_codes.proofs.RowLaws.{operand_fit}
 use Rattle.asmap_codes.proofs.RoundTrip.{tail_read, cut_no_value, was_read}
+use Rattle.asmap_codes.specs.Reading.{Cut, Found, Value}
+use Rattle.refusals.specs.declared.Fault.TheVariants as fault
+use Rattle.std.specs.Prelude.{Err}
 
 Ends : ℕ → ℕ → List ℕ → Type 0
 Ends at n bs = (at ≤ n) × (n ≤ at + length bs)
@@ -78,11 +79,11 @@ past_end m at row h k = rw (drop_of_length-le (map_bits m) {i = at} (omega (arit
 
 -- what reading a code hands back: 1 before the number of its cut
 module _ (m : List ℕ) (at : ℕ) (row : Row) where
-  pub read_long : 16777216 < length m → read_code m at row ≡ Refused 1
+  pub read_long : 16777216 < length m → read_code m at row ≡ Err fault.MapTooLong
   read_long h = rw (lt-ltb 16777216 (length m) h)
 
   pub read_at : length m ≤ 16777216 → (v n : ℕ) → code_at m at row ≡ Value v n → read_code m at row ≡ Found v n
   read_at h v n e = rw (le-ltb 16777216 (length m) h, e)
 
-  pub read_cut : length m ≤ 16777216 → code_at m at row ≡ Cut → read_code m at row ≡ Refused (cut_reason (part_from row.least))
+  pub read_cut : length m ≤ 16777216 → code_at m at row ≡ Cut → read_code m at row ≡ Err (cut_reason (part_from row.least))
   read_cut h e = rw (le-ltb 16777216 (length m) h, e)

@@ -14,13 +14,13 @@ use Rattle.asmap_codes.specs.Row.{Row, type_row, operand_row, span}
 use Rattle.asmap_codes.specs.Code.{code, code_at}
 use Rattle.asmap_codes.specs.Encode.{encode_of, instruction_bits}
 use Rattle.asmap_codes.specs.Instruction.{with_operand, with_opcode, fetch_at, map_of}
-use Rattle.asmap_codes.specs.declared.Code.{Code}
-use Rattle.asmap_codes.specs.declared.Code.TheVariants.{Value, Cut}
 use Rattle.asmap_codes.proofs.BitLaws.{bits-drop, bits-map, length_left}
 use Rattle.asmap_codes.proofs.RoundTrip.{written_then_read, read_then_written, length_encode}
 use Rattle.asmap_codes.proofs.RowLaws.{type_fit}
 use Rattle.asmap_codes.proofs.Inside.{value_at, long_operand}
 use Rattle.asmap_codes.proofs.MapLaws.{laws, map_fetch, map-bits}
+use Rattle.asmap_codes.specs.Reading.{Code, Cut, Value}
+use Rattle.std.specs.Prelude.{Option}
 
 -- document 01, Codes: 5 to 57 bits, whatever the operand
 pub instruction-length : (op v : ℕ) → op < 4 → (5 ≤ length (instruction_bits op v)) × (length (instruction_bits op v) ≤ 57)
@@ -62,7 +62,7 @@ module _ (m : List ℕ) where
   bits_read at row v n e = read_then_written row at (drop at (map_bits m)) v n (bits-drop at (map_bits m) (bits-map m)) e
 
   operand-holds : (p op e : ℕ) → p < e → take (e - p) (drop p (map_bits m)) ≡ encode_of type_row op
-      → (c : Code) → code_at m e (operand_row op) ≡ c → Holds p (with_operand p op c)
+      → (c : Option Code) → code_at m e (operand_row op) ≡ c → Holds p (with_operand p op c)
   unfolding instruction_bits
   operand-holds p op e h t Cut q = tt
   operand-holds p op e h t (Value v n) q =
@@ -72,7 +72,7 @@ module _ (m : List ℕ) where
       let d : drop (e - p) (drop p (map_bits m)) ≡ drop e (map_bits m) = drop-drop (e - p) p (map_bits m) ∙ ap (λ (i : ℕ). drop i (map_bits m)) j in
       rw (k, take-add (e - p) (n - e) (drop p (map_bits m)), d, t, bits_read e (operand_row op) v n q)
 
-  opcode-holds : (p : ℕ) (c : Code) → code_at m p type_row ≡ c → Holds p (with_opcode m p c)
+  opcode-holds : (p : ℕ) (c : Option Code) → code_at m p type_row ≡ c → Holds p (with_opcode m p c)
   opcode-holds p Cut q = tt
   opcode-holds p (Value op e) q =
       let x = value_at m p type_row op e type_fit.many q in

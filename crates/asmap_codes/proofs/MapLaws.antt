@@ -11,11 +11,11 @@ use Rattle.asmap_program.specs.Map.{Fetched, Whole, CutOpcode, CutOperand, Laws,
 use Rattle.asmap_codes.specs.Row.{type_row, operand_row}
 use Rattle.asmap_codes.specs.Code.{code_at}
 use Rattle.asmap_codes.specs.Instruction.{with_operand, with_opcode, fetch_at, map_of, answered_whole, read_instruction}
-use Rattle.asmap_codes.specs.declared.DecodedInstruction.TheVariants.{Refused}
-use Rattle.asmap_codes.specs.declared.Code.{Code}
-use Rattle.asmap_codes.specs.declared.Code.TheVariants.{Value, Cut}
 use Rattle.asmap_codes.proofs.RowLaws.{type_fit}
 use Rattle.asmap_codes.proofs.Inside.{value_at, long_operand, past_end}
+use Rattle.asmap_codes.specs.Reading.{Code, Cut, Value}
+use Rattle.refusals.specs.declared.Fault.TheVariants as fault
+use Rattle.std.specs.Prelude.{Err, Option}
 
 least-match : (op : ℕ) → op ≡ 2 → (operand_row op).least ≡ 2
 least-match op e = rw e
@@ -33,14 +33,14 @@ Seen m p CutOpcode = Unit {0}
 Seen m p (CutOperand op) = Unit {0}
 
 module _ (m : List ℕ) where
-  operand_seen : (p op e : ℕ) → p < e → op < 4 → (c : Code) → code_at m e (operand_row op) ≡ c → Seen m p (with_operand p op c)
+  operand_seen : (p op e : ℕ) → p < e → op < 4 → (c : Option Code) → code_at m e (operand_row op) ≡ c → Seen m p (with_operand p op c)
   unfolding map_of
   operand_seen p op e h k Cut q = tt
   operand_seen p op e h k (Value v n) q =
       let x = value_at m e (operand_row op) v n (long_operand op) q in
       record { here = refl; some = omega (arith, x.past); fits = omega (arith, x.past, x.inside); known = k; from_one = omega (arith, least_operand op, x.above); wide = λ z. omega (arith, least-match op z, x.above) }
 
-  opcode_seen : (p : ℕ) (c : Code) → code_at m p type_row ≡ c → Seen m p (with_opcode m p c)
+  opcode_seen : (p : ℕ) (c : Option Code) → code_at m p type_row ≡ c → Seen m p (with_opcode m p c)
   opcode_seen p Cut q = tt
   opcode_seen p (Value op e) q =
       let x = value_at m p type_row op e type_fit.many q in
@@ -60,12 +60,12 @@ module _ (m : List ℕ) where
 
   -- ---- how an instruction is fetched, as code reads it
 
-  pub fetch_operand : (p op n : ℕ) → code_at m p type_row ≡ Value op n → (c : Code) → code_at m n (operand_row op) ≡ c → (map_of m).fetch p ≡ with_operand p op c
+  pub fetch_operand : (p op n : ℕ) → code_at m p type_row ≡ Value op n → (c : Option Code) → code_at m n (operand_row op) ≡ c → (map_of m).fetch p ≡ with_operand p op c
   unfolding map_of fetch_at
-  fetch_operand p op n e c q = ap (λ (x : Code). with_opcode m p x) e ∙ ap (λ (x : Code). with_operand p op x) q
+  fetch_operand p op n e c q = ap (λ (x : Option Code). with_opcode m p x) e ∙ ap (λ (x : Option Code). with_operand p op x) q
 
   -- what reading an instruction hands back: 1, then by what stands there
-  pub instruction_long : (p : ℕ) → 16777216 < length m → read_instruction m p ≡ Refused 1
+  pub instruction_long : (p : ℕ) → 16777216 < length m → read_instruction m p ≡ Err fault.MapTooLong
   unfolding read_instruction
   instruction_long p h = rw (lt-ltb 16777216 (length m) h)
 

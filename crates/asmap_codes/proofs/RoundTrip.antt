@@ -17,8 +17,8 @@ use Rattle.asmap_codes.specs.Bits.{number, high}
 use Rattle.asmap_codes.specs.Row.{Row, span, shortest, longest}
 use Rattle.asmap_codes.specs.Code.{tail, code}
 use Rattle.asmap_codes.specs.Encode.{encode, encode_of}
-use Rattle.asmap_codes.specs.declared.Code.TheVariants.{Value, Cut}
 use Rattle.asmap_codes.proofs.BitLaws.{AllBits, number_lt, number-below, bits-take}
+use Rattle.asmap_codes.specs.Reading.{Cut, Value}
 
 pub length_high : (n x : ℕ) → length (high n x) ≡ n
 length_high zero x = refl

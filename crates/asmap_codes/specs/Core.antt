@@ -1,14 +1,12 @@
 -- Bitcoin Core's DecodeBits (util/asmap.cpp, as the paper core-asmap.md tells it), bit by bit, with INVALID where the file ends
 -- too soon; a map's bytes as the file of Core's functions; and what it means that Core reads what we read. Only the promises
 -- named `core`, and the theorems behind them, speak of these. Assumes nothing.
-use Rattle.std.specs.Prelude.{ℕ, zero, suc, ◌+◌, ◌*◌, ◌^◌, ◌≤◌, ◌<◌, ◌≡◌, cond, List, [], ◌∷◌, eqb, length, get_or}
+use Rattle.std.specs.Prelude.{ℕ, zero, suc, ◌+◌, ◌*◌, ◌^◌, ◌≤◌, ◌<◌, ◌≡◌, cond, List, [], ◌∷◌, eqb, length, get_or, Result, Err, Option}
 use Rattle.asmap_program.specs.Map.{limit}
 use Rattle.asmap_program.specs.Core.{Read, File, INVALID}
 use Rattle.asmap_codes.specs.Bits.{map_bits}
-use Rattle.asmap_codes.specs.declared.Code.{Code}
-use Rattle.asmap_codes.specs.declared.Code.TheVariants.{Value, Cut}
-use Rattle.asmap_codes.specs.declared.Decoded.{Decoded}
-use Rattle.asmap_codes.specs.declared.Decoded.TheVariants.{Found, Refused}
+use Rattle.asmap_codes.specs.Reading.{Code, Cut, Found, Value}
+use Rattle.refusals.specs.declared.Fault.{Fault}
 
 -- B: the file's bits. pos: bitpos. v: the value so far.
 module _ (B : List ℕ) where
@@ -28,7 +26,7 @@ module _ (B : List ℕ) where
       (cond (eqb (get_or B pos 0) 1) (decode_bits (t ∷ ss) (v + 2 ^ s) (suc pos)) (mantissa s v (suc pos)))
 
 -- Core's answer for a code of ours: its value and the bit after it, or INVALID for a cut one.
-abbrev pub Agrees : Code → Read → Type 0
+abbrev pub Agrees : Option Code → Read → Type 0
 Agrees (Value v n) r = r ≡ record { value = v; pos = n }
 Agrees Cut r = r.value ≡ INVALID
 
@@ -45,11 +43,11 @@ file_of m = record {
 
 -- What a call that reads a code hands back, beside Core's answer: the value, which is never INVALID, and the bit after it; or a
 -- refusal, where Core says INVALID.
-abbrev pub SameRead : Decoded → Read → Type 0
+abbrev pub SameRead : Result Code Fault → Read → Type 0
 SameRead (Found v n) r = (r ≡ record { value = v; pos = n }) × (v < INVALID)
-SameRead (Refused k) r = r.value ≡ INVALID
+SameRead (Err k) r = r.value ≡ INVALID
 
 -- The same of a map within the limit, which is document 01's and not Core's, and from a bit up to the map's end, past which Core
 -- never reads.
-abbrev pub CoreReads : List ℕ → ℕ → Decoded → Read → Type 0
+abbrev pub CoreReads : List ℕ → ℕ → Result Code Fault → Read → Type 0
 CoreReads m at got r = length m ≤ limit → at ≤ 8 * length m → SameRead got r

@@ -1,22 +1,22 @@
 -- A map of bytes, as asmap_program speaks of maps: what stands at a place, what may follow the final RETURN, and what reading
 -- an instruction hands back. Assumes nothing.
-use Rattle.std.specs.Prelude.{ℕ, ◌-◌, ◌*◌, Bool, true, false, ◌&&◌, List, leb, ltb, length, drop}
+use Rattle.std.specs.Prelude.{ℕ, ◌-◌, ◌*◌, Bool, true, false, ◌&&◌, List, leb, ltb, length, drop, Result, Ok, Err, Option}
 use Rattle.asmap_program.specs.Map.{Map, Fetched, Whole, CutOpcode, CutOperand, Opcode, Operand, cut_reason, limit}
 use Rattle.asmap_codes.specs.Bits.{map_bits, all_zero}
 use Rattle.asmap_codes.specs.Row.{type_row, operand_row}
 use Rattle.asmap_codes.specs.Code.{code_at}
-use Rattle.asmap_codes.specs.declared.Code.{Code}
-use Rattle.asmap_codes.specs.declared.Code.TheVariants.{Value, Cut}
-use Rattle.asmap_codes.specs.declared.DecodedInstruction.{DecodedInstruction}
-use Rattle.asmap_codes.specs.declared.DecodedInstruction.TheVariants.{Found, Refused}
+use Rattle.asmap_codes.specs.Reading.{Code, Cut, Value}
+use Rattle.asmap_program.specs.declared.Instruction.{Instruction}
+use Rattle.refusals.specs.declared.Fault.{Fault}
+use Rattle.refusals.specs.declared.Fault.TheVariants as fault
 
 -- An opcode read at p, with its operand's code, which ends at e (document 01, Walk: place and length in bits).
-abbrev pub with_operand : ℕ → ℕ → Code → Fetched
+abbrev pub with_operand : ℕ → ℕ → Option Code → Fetched
 with_operand p op Cut = CutOperand op
 with_operand p op (Value v e) = Whole (record { opcode = op; operand = v; place = p; size = e - p })
 
 -- The operand's code starts where the opcode's ends.
-abbrev pub with_opcode : List ℕ → ℕ → Code → Fetched
+abbrev pub with_opcode : List ℕ → ℕ → Option Code → Fetched
 with_opcode m p Cut = CutOpcode
 with_opcode m p (Value op e) = with_operand p op (code_at m e (operand_row op))
 
@@ -34,12 +34,12 @@ map_of m = record { fetch = fetch_at m; bits = 8 * length m; padded = padded_fro
 
 -- An instruction as it is handed back (document 01, "What a call hands back"): refused 1 for a map over the limit, then by
 -- what stands at the place.
-abbrev pub answered_whole : Bool → Fetched → DecodedInstruction
-answered_whole true f = Refused 1
-answered_whole false (Whole i) = Found i
-answered_whole false CutOpcode = Refused (cut_reason Opcode)
-answered_whole false (CutOperand op) = Refused (cut_reason Operand)
+abbrev pub answered_whole : Bool → Fetched → Result Instruction Fault
+answered_whole true f = Err fault.MapTooLong
+answered_whole false (Whole i) = Ok i
+answered_whole false CutOpcode = Err (cut_reason Opcode)
+answered_whole false (CutOperand op) = Err (cut_reason Operand)
 
 -- Reading an instruction, for every map and every bit of it or past it.
-unfoldable pub read_instruction : List ℕ → ℕ → DecodedInstruction
+unfoldable pub read_instruction : List ℕ → ℕ → Result Instruction Fault
 read_instruction m at = answered_whole (ltb limit (length m)) (fetch_at m at)

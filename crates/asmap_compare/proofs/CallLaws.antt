@@ -11,21 +11,16 @@ use lib.Seq.{sets}
 use borrow.Author.Tests.{lt-ltb, le-ltb, eqb-true, eqb-false}
 use Rattle.byte_numbers.specs.Numbers.{big8}
 use Rattle.byte_numbers.proofs.Buffers.{sets-append_at}
-use Rattle.asmap_program.specs.declared.Verdict.{Verdict}
-use Rattle.asmap_program.specs.declared.Verdict.TheVariants as verdict
 use Rattle.asmap_program.specs.Check.{unpacked}
 use Rattle.asmap_program.specs.models.Pieces.{count_pieces}
 use Rattle.asmap_codes.specs.Instruction.{map_of}
 use Rattle.asmap_check.specs.Check.{check_of}
-use Rattle.asmap_check.specs.declared.Counted.TheVariants.{Pieces, Refused}
 use Rattle.asmap_check.specs.models.Counted.{counted_as, counted_of}
 use Rattle.asmap_check_run.specs.models.State.{most}
 use Rattle.asmap_check.proofs.Reasons.{Judged, reason_small, map-judged}
-use Rattle.asmap_records.specs.Output.{Result, Made, No, refuse, within, leaves, Hands}
+use Rattle.asmap_records.specs.Output.{Making, Made, No, refuse, within, leaves, Hands}
 use Rattle.asmap_records.proofs.RecordLaws.{sets_front}
 use Rattle.asmap_records.proofs.OutputLaws.{hands_no}
-use Rattle.asmap_records.specs.declared.Answer.{Answer}
-use Rattle.asmap_records.specs.declared.Answer.TheVariants as answer
 use Rattle.prefix_records.specs.Tiling.{number_of}
 use Rattle.prefix_changes.specs.Change.{Change, changes, among, Tells}
 use Rattle.prefix_changes.specs.Record.{first_changed}
@@ -35,74 +30,76 @@ use Rattle.prefix_changes.proofs.WiderLaws.{changes_wider}
 use Rattle.prefix_changes.proofs.RecordLaws.{length-changes}
 use Rattle.asmap_listing.specs.Listing.{listing}
 use Rattle.asmap_program.specs.Map.{address_bit}
-use Rattle.asmap_list.specs.declared.Needed.{Needed}
-use Rattle.asmap_list.specs.declared.Needed.TheVariants as needed
 use Rattle.asmap_list.proofs.CallLaws.{counts, covered}
 use Rattle.asmap_changes.specs.Changes.{changes_of}
 use Rattle.asmap_compare.specs.Compare.{Comparison, Told, Refuses, compared_as, comparison, records_made, needed_with, Finds}
 use Rattle.asmap_compare.specs.Promise.{ends_at, Compares}
 use Rattle.asmap_changes.specs.models.Side.{Ready}
+use Rattle.asmap_program.specs.Verdict.{Accepted, Verdict}
+use Rattle.refusals.specs.declared.Refusal.{Refusal}
+use Rattle.refusals.specs.declared.Refusal.TheVariants as refusal
+use Rattle.std.specs.Prelude.{Result, Ok, Err}
 
 -- ---- what a count tells
 
 module _ (m : List ℕ) (w : ℕ) (narrow : w ≤ 128) where
-  pub ready : (n : ℕ) → Pieces n ≡ counted_of m w → n ≤ most → Ready m × (length (listing (map_of m)) ≡ n)
+  pub ready : (n : ℕ) → Ok n ≡ counted_of m w → n ≤ most → Ready m × (length (listing (map_of m)) ≡ n)
   ready n e h =
       let c = counts m w narrow n e in
       (record { within = c.within; scans = c.listed.scans; tiles = c.listed.tiles; few = omega (arith, c.listed.count, h) }, c.listed.count)
 
-  pub accepts : (n : ℕ) → Pieces n ≡ counted_of m w → (c : ℕ) × (d : ℕ) × (check_of m w ≡ verdict.Accepted c d)
+  pub accepts : (n : ℕ) → Ok n ≡ counted_of m w → (c : ℕ) × (d : ℕ) × (check_of m w ≡ Accepted c d)
   accepts n e = go (check_of m w) refl e
     where
-      go : (v : Verdict) → check_of m w ≡ v → Pieces n ≡ counted_as (count_pieces (unpacked (map_of m) w)) v → (c : ℕ) × (d : ℕ) × (check_of m w ≡ verdict.Accepted c d)
-      go (verdict.Accepted c d) h q = (c, d, h)
-      go (verdict.Refused r) h q = let z : ◌≡◌ {A = ℕ} 0 1 = cc in absurd (omega arith)
+      go : (v : Verdict) → check_of m w ≡ v → Ok n ≡ counted_as (count_pieces (unpacked (map_of m) w)) v → (c : ℕ) × (d : ℕ) × (check_of m w ≡ Accepted c d)
+      go (Ok got) h q = (got.count, got.depth, h)
+      go (Err r) h q = let z : ◌≡◌ {A = ℕ} 0 1 = cc in absurd (omega arith)
 
-  pub refuses : (r : ℕ) → Refused r ≡ counted_of m w → check_of m w ≡ verdict.Refused r
+  pub refuses : (r : ℕ) → Err r ≡ counted_of m w → check_of m w ≡ Err r
   refuses r e = go (check_of m w) refl e
     where
-      go : (v : Verdict) → check_of m w ≡ v → Refused r ≡ counted_as (count_pieces (unpacked (map_of m) w)) v → check_of m w ≡ verdict.Refused r
-      go (verdict.Accepted c d) h q = let z : ◌≡◌ {A = ℕ} 0 1 = cc in absurd (omega arith)
-      go (verdict.Refused n) h q = let z : r ≡ n = cc in h ∙ ap verdict.Refused (sym z)
+      go : (v : Verdict) → check_of m w ≡ v → Err r ≡ counted_as (count_pieces (unpacked (map_of m) w)) v → check_of m w ≡ Err r
+      go (Ok got) h q = let z : ◌≡◌ {A = ℕ} 0 1 = cc in absurd (omega arith)
+      go (Err n) h q = let z : r ≡ n = cc in h ∙ ap Err (sym z)
 
   -- the number of a refusal has room for 100 more
-  pub small-reason : (r : ℕ) → check_of m w ≡ verdict.Refused r → r ≤ 19
+  pub small-reason : (r : ℕ) → check_of m w ≡ Err r → r ≤ 19
   small-reason r e = subst (Judged (λ n. n ≤ 19)) e (map-judged (λ n. n ≤ 19) reason_small m w (omega arith))
 
 -- ---- what the calls make of it
 
 module _ (old new : List ℕ) (w : ℕ) where
-  pub told : (c d c' d' : ℕ) → check_of old w ≡ verdict.Accepted c d → check_of new w ≡ verdict.Accepted c' d' → comparison old new w ≡ Told (changes_of old new w)
+  pub told : (c d c' d' : ℕ) → check_of old w ≡ Accepted c d → check_of new w ≡ Accepted c' d' → comparison old new w ≡ Told (changes_of old new w)
   unfolding comparison
   told c d c' d' e f =
-      ap (λ (v : Verdict). compared_as (changes_of old new w) v (check_of new w)) e ∙ ap (compared_as (changes_of old new w) (verdict.Accepted c d)) f
+      ap (λ (v : Verdict). compared_as (changes_of old new w) v (check_of new w)) e ∙ ap (compared_as (changes_of old new w) (Accepted c d)) f
 
-  pub old_refused : (r : ℕ) → check_of old w ≡ verdict.Refused r → comparison old new w ≡ Refuses r
+  pub old_refused : (r : ℕ) → check_of old w ≡ Err r → comparison old new w ≡ Refuses r
   unfolding comparison
   old_refused r e = ap (λ (v : Verdict). compared_as (changes_of old new w) v (check_of new w)) e
 
-  pub new_refused : (c d r : ℕ) → check_of old w ≡ verdict.Accepted c d → check_of new w ≡ verdict.Refused r → comparison old new w ≡ Refuses (100 + r)
+  pub new_refused : (c d r : ℕ) → check_of old w ≡ Accepted c d → check_of new w ≡ Err r → comparison old new w ≡ Refuses (100 + r)
   unfolding comparison
   new_refused c d r e f =
-      ap (λ (v : Verdict). compared_as (changes_of old new w) v (check_of new w)) e ∙ ap (compared_as (changes_of old new w) (verdict.Accepted c d)) f
+      ap (λ (v : Verdict). compared_as (changes_of old new w) v (check_of new w)) e ∙ ap (compared_as (changes_of old new w) (Accepted c d)) f
 
 -- the loop compares pieces among addresses of 128 bits, and finds the changes over w bits
-pub told_wide : (old new : List ℕ) (w : ℕ) → w ≤ 128 → (c d c' d' : ℕ) → check_of old w ≡ verdict.Accepted c d → check_of new w ≡ verdict.Accepted c' d'
+pub told_wide : (old new : List ℕ) (w : ℕ) → w ≤ 128 → (c d c' d' : ℕ) → check_of old w ≡ Accepted c d → check_of new w ≡ Accepted c' d'
     → comparison old new w ≡ Told (changes_of old new 128)
 told_wide old new w narrow c d c' d' e f =
     told old new w c d c' d' e f
     ∙ ap Told (changes_wider w 128 narrow 0 0 (2 ^ w) (2 ^ w) (listing (map_of old)) (listing (map_of new)) (covered old w c d e).tiles (covered new w c' d' f).tiles)
 
-pub hands_refused : (x : Comparison) (o : List ℕ) (n : ℕ) → x ≡ Refuses n → Hands (records_made x) o o (answer.Refused n)
+pub hands_refused : (x : Comparison) (o : List ℕ) (n : ℕ) → x ≡ Refuses n → Hands (records_made x) o o (Err n)
 hands_refused x o n e = hands_no (records_made x) o n (ap records_made e)
 
-pub hands_same : (x y : Comparison) (o o' : List ℕ) (r : Answer) → x ≡ y → Hands (records_made y) o o' r → Hands (records_made x) o o' r
+pub hands_same : (x y : Comparison) (o o' : List ℕ) (r : Result ℕ Refusal) → x ≡ y → Hands (records_made y) o o' r → Hands (records_made x) o o' r
 hands_same x y o o' r e h = subst (λ (y : Comparison). Hands (records_made y) o o' r) (sym e) h
 
-pub finds_refused : (x : Comparison) (o : List ℕ) (n : ℕ) → x ≡ Refuses n → Finds x o o (needed.Refused n)
-finds_refused x o n e = subst (λ (y : Comparison). Finds y o o (needed.Refused n)) (sym e) record { answer = refl; output = refl }
+pub finds_refused : (x : Comparison) (o : List ℕ) (n : ℕ) → x ≡ Refuses n → Finds x o o (Err n)
+finds_refused x o n e = subst (λ (y : Comparison). Finds y o o (Err n)) (sym e) record { answer = refl; output = refl }
 
-pub finds_same : (x y : Comparison) (o o' : List ℕ) (r : Needed) → x ≡ y → Finds y o o' r → Finds x o o' r
+pub finds_same : (x y : Comparison) (o o' : List ℕ) (r : Result ℕ Refusal) → x ≡ y → Finds y o o' r → Finds x o o' r
 finds_same x y o o' r e h = subst (λ (y : Comparison). Finds y o o' r) (sym e) h
 
 -- ---- the first address that differs
@@ -111,23 +108,23 @@ pub first-length : (cs : List Change) → length (first_changed cs) ≡ 16
 first-length [] = refl
 first-length (c ∷ cs) = refl
 
-finds : (cs : List Change) (o : List ℕ) (r : Result) → within (length o) (Made (first_changed cs)) ≡ r → Finds (Told cs) o (leaves r o) (needed_with (Told cs) r)
-finds cs o r q = record { answer = sym (ap (needed_with (Told cs)) q); output = sym (ap (λ (x : Result). leaves x o) q) }
+finds : (cs : List Change) (o : List ℕ) (r : Making) → within (length o) (Made (first_changed cs)) ≡ r → Finds (Told cs) o (leaves r o) (needed_with (Told cs) r)
+finds cs o r q = record { answer = sym (ap (needed_with (Told cs)) q); output = sym (ap (λ (x : Making). leaves x o) q) }
 
-pub finds_short : (cs : List Change) (o : List ℕ) → length o < 16 → Finds (Told cs) o o (needed.Refused 14)
+pub finds_short : (cs : List Change) (o : List ℕ) → length o < 16 → Finds (Told cs) o o (Err refusal.OutputTooShort)
 unfolding refuse
 finds_short cs o h =
-    finds cs o (No 14) (ap (λ (b : Bool). refuse b 14 (Made (first_changed cs))) (lt-ltb (length o) (length (first_changed cs)) (omega (arith, first-length cs))))
+    finds cs o (No refusal.OutputTooShort) (ap (λ (b : Bool). refuse b refusal.OutputTooShort (Made (first_changed cs))) (lt-ltb (length o) (length (first_changed cs)) (omega (arith, first-length cs))))
 
 pub finds-first : (cs : List Change) (o o₁ o₂ o₃ : List ℕ) (h l k : ℕ) → 16 ≤ length o → big8 h ++ big8 l ≡ first_changed cs → o₁ ≡ o → o₂ ≡ sets o₁ 0 (big8 h) → o₃ ≡ sets o₂ 8 (big8 l)
-    → k ≡ length cs → Finds (Told cs) o o₃ (needed.Bytes (28 * k))
+    → k ≡ length cs → Finds (Told cs) o o₃ (Ok (28 * k))
 unfolding refuse
 finds-first cs o o₁ o₂ o₃ h l k long e p q r n =
-    let v = finds cs o (Made (first_changed cs)) (ap (λ (b : Bool). refuse b 14 (Made (first_changed cs))) (le-ltb (length o) (length (first_changed cs)) (omega (arith, first-length cs)))) in
+    let v = finds cs o (Made (first_changed cs)) (ap (λ (b : Bool). refuse b refusal.OutputTooShort (Made (first_changed cs))) (le-ltb (length o) (length (first_changed cs)) (omega (arith, first-length cs)))) in
     let z : o₃ ≡ sets o 0 (first_changed cs) =
     r ∙ ap (λ (x : List ℕ). sets x 8 (big8 l)) (q ∙ ap (λ (x : List ℕ). sets x 0 (big8 h)) p) ∙ sym (sets-append_at o 0 8 (big8 h) (big8 l) refl) ∙ ap (sets o 0) e in
     record {
-      answer = ap needed.Bytes (ap (λ (x : ℕ). 28 * x) n ∙ sym (length-changes cs)) ∙ v.answer;
+      answer = ap Ok (ap (λ (x : ℕ). 28 * x) n ∙ sym (length-changes cs)) ∙ v.answer;
       output = z ∙ sets_front o (first_changed cs) (omega (arith, first-length cs)) ∙ v.output;
     }
 
@@ -163,5 +160,5 @@ compared old new w c d c' d' e f =
 
 -- ---- an output that was left as it was
 
-pub hands_left : (made : Result) (o o₁ o' : List ℕ) (r : Answer) → o₁ ≡ o → Hands made o₁ o' r → Hands made o o' r
+pub hands_left : (made : Making) (o o₁ o' : List ℕ) (r : Result ℕ Refusal) → o₁ ≡ o → Hands made o₁ o' r → Hands made o o' r
 hands_left made o o₁ o' r e h = subst (λ (x : List ℕ). Hands made x o' r) e h

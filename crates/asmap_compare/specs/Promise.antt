@@ -2,7 +2,6 @@
 -- two walks end with different numbers, and that record carries both".
 -- Assumes nothing.
 use Rattle.std.specs.Prelude.{ℕ, ◌≡◌, List, []}
-use Rattle.asmap_program.specs.declared.Verdict.TheVariants.{Accepted}
 use Rattle.asmap_program.specs.Map.{address_bit}
 use Rattle.asmap_program.specs.Walk.{walk}
 use Rattle.asmap_codes.specs.Instruction.{map_of}
@@ -10,6 +9,7 @@ use Rattle.asmap_check.specs.Check.{check_of}
 use Rattle.prefix_records.specs.Tiling.{number_of}
 use Rattle.prefix_changes.specs.Change.{Change, Tells, Rises, backs}
 use Rattle.asmap_changes.specs.Changes.{changes_of}
+use Rattle.asmap_program.specs.Verdict.{Accepted}
 
 -- The number at which an address, given by its bytes, ends in a map.
 abbrev pub ends_at : List ℕ → List ℕ → ℕ → ℕ

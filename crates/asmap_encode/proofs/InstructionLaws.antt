@@ -19,7 +19,8 @@ use Rattle.asmap_code_parts.specs.models.Parts.{InRow}
 use Rattle.asmap_encode.specs.models.Words.{length_written}
 use Rattle.asmap_code_parts.specs.declared.Parts.{Parts}
 use Rattle.asmap_encode.specs.declared.Word.{Word}
-use Rattle.asmap_encode.specs.declared.Written.TheVariants.{Bits, Refused}
+use Rattle.refusals.specs.declared.Refusal.TheVariants as refusal
+use Rattle.std.specs.Prelude.{Ok, Err}
 
 puts-append : (w : Word) (a b : List ℕ) → puts w (a ++ b) ≡ puts (puts w a) b
 puts-append w [] b = refl
@@ -34,15 +35,15 @@ opcode-word (suc (suc (suc zero))) h = (lit< tt, lit≤ tt)
 opcode-word (suc (suc (suc (suc op)))) h = absurd (omega arith)
 
 -- what was written was in range
-written-bits : (b : Bool) (u w : Word) → pick_written b (Bits u) (Refused 15) ≡ Bits w → (b ≡ true) × (u ≡ w)
+written-bits : (b : Bool) (u w : Word) → pick_written b (Ok u) (Err refusal.OutOfRange) ≡ Ok w → (b ≡ true) × (u ≡ w)
 written-bits true u w e = (refl, cc)
 written-bits false u w e = let z : ◌≡◌ {A = ℕ} 0 1 = cc in absurd (omega arith)
 
-refused-bits : (b : Bool) (u : Word) (n : ℕ) → pick_written b (Bits u) (Refused 15) ≡ Refused n → b ≡ false
+refused-bits : (b : Bool) (u : Word) (n : ℕ) → pick_written b (Ok u) (Err refusal.OutOfRange) ≡ Err n → b ≡ false
 refused-bits true u n e = let z : ◌≡◌ {A = ℕ} 0 1 = cc in absurd (omega arith)
 refused-bits false u n e = refl
 
-module _ (op : ℕ) (w : Word) (e : write_code type_row op ≡ Bits w) where
+module _ (op : ℕ) (w : Word) (e : write_code type_row op ≡ Ok w) where
   -- room for the operand after the opcode
   pub opcode-fits : (w.bits < 2 ^ w.len) × (w.len ≤ 3)
   opcode-fits =
@@ -55,7 +56,7 @@ module _ (op : ℕ) (w : Word) (e : write_code type_row op ≡ Bits w) where
       let h = written-bits (in_range type_row op) (puts none (encode_of type_row op)) w e in
       rw (h.0, puts-append none (encode_of type_row op) (encode_of (operand_row op) v), h.1)
 
-pub opcode_refused : (op v n : ℕ) → write_code type_row op ≡ Refused n → write_instruction op v ≡ Refused 15
+pub opcode_refused : (op v n : ℕ) → write_code type_row op ≡ Err n → write_instruction op v ≡ Err refusal.OutOfRange
 unfolding write_instruction
 opcode_refused op v n e = rw (refused-bits (in_range type_row op) (puts none (encode_of type_row op)) n e)
 
@@ -89,7 +90,7 @@ pub record WordOf (op v : ℕ) (w : Word) : Type 0 where
   pub some : 5 ≤ w.len
   pub most : w.len ≤ 57
 
-pub instruction_word : (op v : ℕ) (w : Word) → write_instruction op v ≡ Bits w → WordOf op v w
+pub instruction_word : (op v : ℕ) (w : Word) → write_instruction op v ≡ Ok w → WordOf op v w
 unfolding write_instruction
 instruction_word op v w e =
     let h = written-bits (in_range type_row op && in_range (operand_row op) v) (puts none (instruction_bits op v)) w e in

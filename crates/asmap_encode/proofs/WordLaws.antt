@@ -15,15 +15,14 @@ use Rattle.asmap_code_parts.specs.models.Parts.{ones_then, zeros_then, InRow, Co
 use Rattle.asmap_encode.specs.models.Words.{Shortened, number_of, after, written_as}
 use Rattle.asmap_encode.specs.Write.{put, puts, write_after}
 use Rattle.asmap_code_parts.specs.declared.Parts.{Parts}
-use Rattle.asmap_code_parts.specs.declared.Coded.{Coded}
-use Rattle.asmap_code_parts.specs.declared.Coded.TheVariants.{In, Out}
 use Rattle.asmap_encode.specs.declared.Word.{Word}
-use Rattle.asmap_encode.specs.declared.Written.TheVariants.{Bits}
 use native.Mathlib.Numerals.{add-one}
 use native.Mathlib.Omega.{arith}
 use lib.Pow.{pow_pos, pow-add, pow_mono, shl_exact}
 use Rattle.asmap_codes.proofs.GrownLaws.{stops_fit}
 use Rattle.asmap_codes.proofs.ReverseLaws.{rev_lt}
+use Rattle.asmap_code_parts.specs.models.Coded.{In, Out}
+use Rattle.std.specs.Prelude.{Ok, Option}
 
 -- a word of k bits above n bits, in 64
 pub shifted : (w k n : ℕ) → w < 2 ^ k → n + k ≤ 64 → w * 2 ^ n % 2 ^ 64 ≡ w * 2 ^ n
@@ -93,13 +92,13 @@ module _ (row : Row) (v pre : ℕ) (p : Parts) (r : InRow row v pre p) where
       ap₂ (λ (i j : ℕ). record { bits = i; len = j }) b l
 
 -- what was found of a value of a row fits a word, and is written as the row's code
-pub coded_short : (row : Row) (v : ℕ) (c : Coded) → CodedAs row v c → Shortened c
+pub coded_short : (row : Row) (v : ℕ) (c : Option (ℕ × Parts)) → CodedAs row v c → Shortened c
 coded_short row v (In pre p) r =
     let h = r.parts in
     let s = stops_fit p.ones (length row.sizes) h.inside in
     record { ones = omega (arith, r.prefix); prefix = omega (arith, r.prefix, r.few, s); size = h.size; small = h.small }
 coded_short row v Out r = tt
 
-pub coded_written : (w : Word) (row : Row) (v : ℕ) (c : Coded) → CodedAs row v c → written_as w c ≡ write_after w row v
-coded_written w row v (In pre p) r = rw r.ranged (ap Bits (code_after row v pre p r w))
+pub coded_written : (w : Word) (row : Row) (v : ℕ) (c : Option (ℕ × Parts)) → CodedAs row v c → written_as w c ≡ write_after w row v
+coded_written w row v (In pre p) r = rw r.ranged (ap Ok (code_after row v pre p r w))
 coded_written w row v Out r = rw r

@@ -9,21 +9,21 @@ use Rattle.asmap_codes.specs.Row.{type_row, operand_row, in_range}
 use Rattle.asmap_encode.specs.Write.{write_instruction}
 use Rattle.asmap_encode.specs.declared.Word.{Word}
 use Rattle.asmap_encode.specs.models.Words.{length_written}
-use Rattle.asmap_encode.specs.declared.Written.{Written}
-use Rattle.asmap_encode.specs.declared.Written.TheVariants.{Bits, Refused}
 use Rattle.asmap_bit_writer.proofs.WrittenLaws.{Holding, Measured, written_some, written_never}
 use Rattle.asmap_front_writer.specs.declared.Front.{Front}
 use Rattle.asmap_front_writer.specs.models.Front.{Room, Moved, Ready, Emitted}
+use Rattle.refusals.specs.declared.Refusal.{Refusal}
+use Rattle.std.specs.Prelude.{Result, Ok, Err}
 
 -- the length of an instruction in range
 pub measured : (op v n : ℕ) → (in_range type_row op && in_range (operand_row op) v) ≡ true → n ≡ length_written (write_instruction op v) → Measured op v n
 measured op v n h e = go (write_instruction op v) refl e
   where
-    go : (x : Written) → write_instruction op v ≡ x → n ≡ length_written x → Measured op v n
-    go (Bits u) q l =
+    go : (x : Result Word Refusal) → write_instruction op v ≡ x → n ≡ length_written x → Measured op v n
+    go (Ok u) q l =
         let k = written_some op v u q in
         record { ranged = h; len = l ∙ k.len; short = subst (λ (i : ℕ). i ≤ 57) (sym l) k.short }
-    go (Refused m) q l = absurd (written_never op v m h q)
+    go (Err m) q l = absurd (written_never op v m h q)
 
 module _ (o : List ℕ) (w : Front) (op v : ℕ) (writes : Bool) where
   -- an instruction that is only counted

@@ -5,14 +5,11 @@ use mathlib.Core.Path.{◌≡◌, refl, sym, ap, ◌∙◌}
 use mathlib.Core.List.{List}
 use native.Mathlib.Omega.{arith}
 use lib.ListN.{length}
-use Rattle.asmap_program.specs.declared.Verdict.{Verdict}
-use Rattle.asmap_program.specs.declared.Verdict.TheVariants as verdict
 use Rattle.asmap_program.specs.Check.{unpacked}
 use Rattle.asmap_program.specs.models.Pieces.{count_pieces}
 use Rattle.asmap_codes.specs.Instruction.{map_of}
 use Rattle.asmap_codes.proofs.MapLaws.{laws}
 use Rattle.asmap_check.specs.Check.{check_of}
-use Rattle.asmap_check.specs.declared.Counted.TheVariants.{Pieces, Refused}
 use Rattle.asmap_check.specs.models.Counted.{counted_as, counted_of}
 use Rattle.asmap_check.proofs.Limit.{accepted_within}
 use Rattle.asmap_records.specs.Output.{Made, No}
@@ -27,6 +24,8 @@ use Rattle.asmap_listing.proofs.CountLaws.{listing_counted}
 use Rattle.asmap_list.specs.List.{list_as, list_of}
 use Rattle.asmap_list.specs.Promise.{Covers}
 use Rattle.asmap_list.specs.models.Listed.{Listed}
+use Rattle.asmap_program.specs.Verdict.{Accepted, Verdict}
+use Rattle.std.specs.Prelude.{Ok, Err}
 
 -- what the calls learn where the check accepts with n pieces counted
 pub record Counts (m : List ℕ) (w n : ℕ) : Type 0 where
@@ -36,7 +35,7 @@ pub record Counts (m : List ℕ) (w n : ℕ) : Type 0 where
   pub listed : Listed m n
 
 module _ (m : List ℕ) (w : ℕ) (narrow : w ≤ 128) where
-  counts_by : (c d n : ℕ) → check_of m w ≡ verdict.Accepted c d → n ≡ count_pieces (unpacked (map_of m) w) → Counts m w n
+  counts_by : (c d n : ℕ) → check_of m w ≡ Accepted c d → n ≡ count_pieces (unpacked (map_of m) w) → Counts m w n
   unfolding list_of
   counts_by c d n e q =
       let s = accepted_within m w c d e in
@@ -52,21 +51,21 @@ module _ (m : List ℕ) (w : ℕ) (narrow : w ≤ 128) where
         };
       }
 
-  pub counts : (n : ℕ) → Pieces n ≡ counted_of m w → Counts m w n
+  pub counts : (n : ℕ) → Ok n ≡ counted_of m w → Counts m w n
   counts n e = go (check_of m w) refl e
     where
-      go : (v : Verdict) → check_of m w ≡ v → Pieces n ≡ counted_as (count_pieces (unpacked (map_of m) w)) v → Counts m w n
-      go (verdict.Accepted c d) h q = let z : n ≡ count_pieces (unpacked (map_of m) w) = cc in counts_by c d n h z
-      go (verdict.Refused r) h q = let z : ◌≡◌ {A = ℕ} 0 1 = cc in absurd (omega arith)
+      go : (v : Verdict) → check_of m w ≡ v → Ok n ≡ counted_as (count_pieces (unpacked (map_of m) w)) v → Counts m w n
+      go (Ok got) h q = let z : n ≡ count_pieces (unpacked (map_of m) w) = cc in counts_by got.count got.depth n h z
+      go (Err r) h q = let z : ◌≡◌ {A = ℕ} 0 1 = cc in absurd (omega arith)
 
   -- refused as the check says
-  pub refuses : (r : ℕ) → Refused r ≡ counted_of m w → list_of m w ≡ No r
+  pub refuses : (r : ℕ) → Err r ≡ counted_of m w → list_of m w ≡ No r
   unfolding list_of
   refuses r e = go (check_of m w) refl e
     where
-      go : (v : Verdict) → check_of m w ≡ v → Refused r ≡ counted_as (count_pieces (unpacked (map_of m) w)) v → list_as m (check_of m w) ≡ No r
-      go (verdict.Accepted c d) h q = let z : ◌≡◌ {A = ℕ} 0 1 = cc in absurd (omega arith)
-      go (verdict.Refused n) h q = let z : r ≡ n = cc in ap (list_as m) h ∙ ap No (sym z)
+      go : (v : Verdict) → check_of m w ≡ v → Err r ≡ counted_as (count_pieces (unpacked (map_of m) w)) v → list_as m (check_of m w) ≡ No r
+      go (Ok got) h q = let z : ◌≡◌ {A = ℕ} 0 1 = cc in absurd (omega arith)
+      go (Err n) h q = let z : r ≡ n = cc in ap (list_as m) h ∙ ap No (sym z)
 
 -- every accepted map is listed whole
 pub covered : (m : List ℕ) (w : ℕ) → Covers m w

@@ -2,13 +2,13 @@
 -- "every address lies in just one, and that one carries the walk's number".
 -- Assumes nothing.
 use Rattle.std.specs.Prelude.{ℕ, ◌^◌, ◌≡◌, List}
-use Rattle.asmap_program.specs.declared.Verdict.TheVariants.{Accepted}
 use Rattle.asmap_program.specs.Map.{address_bit}
 use Rattle.asmap_program.specs.Walk.{walk}
 use Rattle.asmap_codes.specs.Instruction.{map_of}
 use Rattle.asmap_check.specs.Check.{check_of}
 use Rattle.prefix_records.specs.Tiling.{Piece, Tiles, JustOne, number_of}
 use Rattle.asmap_listing.specs.Listing.{listing}
+use Rattle.asmap_program.specs.Verdict.{Accepted}
 
 -- The pieces tile all addresses of w bits: the first begins at 0, each other where the one before it ends, the last ends at 2 ^ w. And every
 -- address, given by its bytes, lies in just one, which has the number of its walk.

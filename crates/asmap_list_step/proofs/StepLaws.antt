@@ -14,8 +14,6 @@ use Rattle.asmap_program.proofs.Length.{length-below}
 use Rattle.asmap_codes.specs.Bits.{map_bits}
 use Rattle.asmap_codes.specs.Row.{Row, type_row, operand_row, span}
 use Rattle.asmap_codes.specs.Code.{code_at}
-use Rattle.asmap_codes.specs.declared.Code.{Code}
-use Rattle.asmap_codes.specs.declared.Code.TheVariants.{Value, Cut}
 use Rattle.asmap_codes.specs.Instruction.{map_of}
 use Rattle.asmap_codes.proofs.Inside.{value_at, long_operand}
 use Rattle.asmap_codes.proofs.MapLaws.{laws, fetch-cut, fetch_operand}
@@ -26,6 +24,8 @@ use Rattle.asmap_listing.specs.models.Scan.{Leaf, leaf, Entry, Side, Half, Scan,
 use Rattle.asmap_listing.proofs.ScanLaws.{scanned-step, stack_bound}
 use Rattle.asmap_list_step.specs.declared.Spot.{Spot}
 use Rattle.asmap_list_step.specs.models.Step.{entry_if, entry_of, stack_of, ahead, rest, one, weight, Sane, Onward, Reads}
+use Rattle.asmap_codes.specs.Reading.{Code, Cut, Value}
+use Rattle.std.specs.Prelude.{Option}
 
 -- ---- the stack in its arrays
 
@@ -169,11 +169,11 @@ module _ (map : List ℕ) (s : Spot) (bs ns : List ℕ) (sane : Sane map s bs ns
 
 -- what is read from a window that holds the code is the code of the map
 pub was_read : (map : List ℕ) (from w : ℕ) (row : Row) → 1 < length row.sizes → Holds row map from w
-    → {r : Code} → r ≡ row_in row from (8 * length map) w → code_at map from row ≡ r
+    → {r : Option Code} → r ≡ row_in row from (8 * length map) w → code_at map from row ≡ r
 was_read map from w row l h e = sym (e ∙ row-window map from w row l h)
 
 -- so of an opcode, in a window of the place
-pub opcode_read : (map : List ℕ) (at w : ℕ) → Window 57 w (drop at (map_bits map)) → {r : Code} → r ≡ row_in type_row at (8 * length map) w → code_at map at type_row ≡ r
+pub opcode_read : (map : List ℕ) (at w : ℕ) → Window 57 w (drop at (map_bits map)) → {r : Option Code} → r ≡ row_in type_row at (8 * length map) w → code_at map at type_row ≡ r
 opcode_read map at w h e = was_read map at w type_row (lit< tt) (window-holds map at w type_row (lit≤ tt) h) e
 
 -- an opcode is below 4

@@ -14,11 +14,11 @@ use borrow.Author.Tests.{lt-ltb, le-ltb, le-leb, lt-leb, ltb-true, ltb-false, eq
 use Rattle.asmap_program.specs.Map.{Map, Laws, address_bit, bit_of}
 use Rattle.asmap_program.specs.Check.{check}
 use Rattle.asmap_program.specs.Walk.{walk}
-use Rattle.asmap_program.specs.declared.Verdict.TheVariants.{Accepted}
 use Rattle.prefix_records.specs.Tiling.{Piece, holds, JustOne, number_of, Bits}
 use Rattle.asmap_listing.specs.Listing.{listing}
 use Rattle.prefix_records.proofs.TilingLaws.{placed_in}
 use Rattle.asmap_listing.proofs.ListingLaws.{listing-walks}
+use Rattle.asmap_program.specs.Verdict.{Accepted}
 
 -- the bits of an address of w bits that is given as a number
 abbrev pub bits_of : ℕ → ℕ → ℕ → ℕ

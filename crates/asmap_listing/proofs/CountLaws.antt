@@ -10,7 +10,6 @@ use lib.ListN.{length, length-append}
 use Rattle.asmap_program.specs.declared.Instruction.{Instruction}
 use Rattle.asmap_program.specs.declared.Previous.{Previous}
 use Rattle.asmap_program.specs.declared.Previous.TheVariants.{Other, Default}
-use Rattle.asmap_program.specs.declared.Verdict.TheVariants.{Accepted}
 use Rattle.asmap_program.specs.Map.{RETURN, JUMP, MATCH, DEFAULT, end_of, target_of, Whole, Map, Laws, bit_of, length_of}
 use Rattle.asmap_program.specs.Check.{after_match, check, unpacked}
 use Rattle.asmap_program.specs.Tree.{Tree, return, jump, match, default}
@@ -19,6 +18,7 @@ use Rattle.prefix_records.specs.Tiling.{Piece}
 use Rattle.asmap_listing.specs.Listing.{piece, aside, sides, list_from, listing}
 use Rattle.asmap_program.specs.models.Pieces.{pieces_at, count_pieces}
 use Rattle.asmap_listing.proofs.ListingLaws.{spot, list_at}
+use Rattle.asmap_program.specs.Verdict.{Accepted}
 
 aside-length : (b : Bool) (p : Piece) (ps : List Piece) → length (aside b p ps) ≡ suc (length ps)
 unfolding aside

@@ -12,7 +12,6 @@ use borrow.Author.Tests.{lt-ltb, le-leb}
 use Rattle.asmap_program.specs.declared.Instruction.{Instruction}
 use Rattle.asmap_program.specs.declared.Previous.{Previous}
 use Rattle.asmap_program.specs.declared.Previous.TheVariants.{Other, Default}
-use Rattle.asmap_program.specs.declared.Verdict.TheVariants.{Accepted}
 use Rattle.asmap_program.specs.Map.{RETURN, JUMP, MATCH, DEFAULT, end_of, target_of, Fetched, Whole, Map, Laws, bit_of, length_of}
 use Rattle.asmap_program.specs.Check.{after_match, check}
 use Rattle.asmap_program.specs.Tree.{Tree, return, jump, match, default}
@@ -23,6 +22,7 @@ use Rattle.asmap_program.proofs.Demand.{walk_at}
 use Rattle.prefix_records.specs.Tiling.{Piece, Tiles, Block, JustOne, number_of, Bits}
 use Rattle.asmap_listing.specs.Listing.{piece, Lister, aside, sides, list_whole, list_on, list_from, listing}
 use Rattle.prefix_records.proofs.TilingLaws.{block_halves, in-low, in_high, here}
+use Rattle.asmap_program.specs.Verdict.{Accepted}
 
 -- ---- a MATCH
 

@@ -13,7 +13,6 @@ use lib.ListN.{length}
 use Rattle.asmap_program.specs.declared.Instruction.{Instruction}
 use Rattle.asmap_program.specs.declared.Previous.{Previous}
 use Rattle.asmap_program.specs.declared.Previous.TheVariants.{Other, Default}
-use Rattle.asmap_program.specs.declared.Verdict.TheVariants.{Accepted}
 use Rattle.asmap_program.specs.Map.{RETURN, JUMP, MATCH, DEFAULT, end_of, target_of, Fetched, Whole, CutOpcode, CutOperand, Map, Laws, bit_of, length_of}
 use Rattle.asmap_program.specs.Check.{after_match, check}
 use Rattle.asmap_program.specs.Tree.{Tree, return, jump, match, default}
@@ -22,6 +21,7 @@ use Rattle.prefix_records.specs.Tiling.{Piece}
 use Rattle.asmap_listing.specs.Listing.{piece, aside, sides, list_from, listing}
 use Rattle.asmap_listing.specs.models.Scan.{Leaf, leaf, leaves, Entry, Side, Half, Scan, scan_start, popped, taken, given, bitwise, enough, scan_whole, scan_on, scan_from, scanned, bit_of_entry, Rising}
 use Rattle.asmap_listing.proofs.ListingLaws.{spot, list_at}
+use Rattle.asmap_program.specs.Verdict.{Accepted}
 
 leaves-append : (xs ys : List Piece) → leaves (xs ++ ys) ≡ leaves xs ++ leaves ys
 unfolding leaves

@@ -24,6 +24,7 @@ use Rattle.asmap_bit_writer.proofs.WrittenLaws.{measured_some, measured_none}
 use Rattle.asmap_records.specs.Output.{Made, No, refuse}
 use Rattle.load_draws.specs.Draw.{next}
 use Rattle.asmap_load.specs.Load.{number_by, match_by, load_bits, load_of}
+use Rattle.refusals.specs.declared.Refusal.TheVariants as refusal
 
 -- ---- in range
 
@@ -122,11 +123,11 @@ load-bits (suc n) s =
 
 -- ---- refused, or made
 
-pub load_seed : (s n : ℕ) → s ≡ 0 → load_of s n ≡ No 20
+pub load_seed : (s n : ℕ) → s ≡ 0 → load_of s n ≡ No refusal.Load
 unfolding load_of refuse
 load_seed s n h = rw (eq-eqb s 0 h)
 
-pub load_many : (s n : ℕ) → s ≢ 0 → 128 < n → load_of s n ≡ No 20
+pub load_many : (s n : ℕ) → s ≢ 0 → 128 < n → load_of s n ≡ No refusal.Load
 unfolding load_of refuse
 load_many s n h k = rw (ne_eqb s 0 h, lt-ltb 128 n k)
 

@@ -8,7 +8,6 @@ use native.Mathlib.Omega.{arith}
 use borrow.Author.Tests.{le-leb, le-ltb}
 use lib.ListN.{length, drop, take}
 use lib.Seq.{sets, take_at}
-use Rattle.asmap_program.specs.declared.Verdict.TheVariants.{Accepted}
 use Rattle.asmap_program.specs.declared.Kind.TheVariants.{Returned}
 use Rattle.asmap_program.specs.declared.Previous.TheVariants.{Other}
 use Rattle.asmap_program.specs.declared.Instruction.{Instruction}
@@ -26,7 +25,6 @@ use Rattle.asmap_bit_writer.specs.Bytes.{bytes_of}
 use Rattle.asmap_bit_writer.proofs.ByteLaws.{length-bytes_of}
 use Rattle.asmap_bit_writer.proofs.ToCome.{read_back}
 use Rattle.asmap_records.specs.Output.{Made, No, Hands}
-use Rattle.asmap_records.specs.declared.Answer.TheVariants.{Wrote, Refused}
 use Rattle.asmap_records.proofs.OutputLaws.{hands_no, hands_short, hands_made}
 use Rattle.asmap_records.proofs.RecordLaws.{sets_front}
 use Rattle.asmap_load.specs.Load.{load_bits, load_of, last_number}
@@ -34,6 +32,9 @@ use Rattle.asmap_load.specs.Promise.{Begins, Passes, WritesLoad}
 use Rattle.asmap_load.proofs.LoadLaws.{load-bits, load_short, load_made}
 use Rattle.asmap_load.proofs.ShapeLaws.{Laid, laid, laid_count, laid_tree, NoJump, laid_no-jump, flat, laid_walk}
 use Rattle.asmap_load.proofs.AddressLaws.{whole_length, whole-bytes, whole-begins}
+use Rattle.asmap_program.specs.Verdict.{Accepted}
+use Rattle.refusals.specs.declared.Refusal.TheVariants as refusal
+use Rattle.std.specs.Prelude.{Ok, Err}
 
 module _ (s n : ℕ) where
   abbrev m : List ℕ
@@ -97,21 +98,21 @@ made_short s n z h = (m s n, load_made s n z h, omega (arith, length-bytes_of (l
 
 -- ---- what the call wrote
 
-refused_none : (s n k : ℕ) (o : List ℕ) → WritesLoad s n o (Refused k)
+refused_none : (s n k : ℕ) (o : List ℕ) → WritesLoad s n o (Err k)
 refused_none s n k o j e = let y : ◌≡◌ {A = ℕ} 0 1 = cc in absurd (omega arith)
 
 -- what the call hands back, by what is refused or made
-pub load_refused : (s n : ℕ) (o : List ℕ) (k : ℕ) → load_of s n ≡ No k → Hands (load_of s n) o o (Refused k) × WritesLoad s n o (Refused k)
+pub load_refused : (s n : ℕ) (o : List ℕ) (k : ℕ) → load_of s n ≡ No k → Hands (load_of s n) o o (Err k) × WritesLoad s n o (Err k)
 load_refused s n o k e = (hands_no (load_of s n) o k e, refused_none s n k o)
 
 module _ (s n : ℕ) (o : List ℕ) (k : ℕ) (some : s ≢ 0) (few : n ≤ 128) (size : k ≡ (length (load_bits n s) + 7) / 8) where
   bytes_size : k ≡ length (m s n)
   bytes_size = size ∙ sym (length-bytes_of (load_bits n s))
 
-  pub load_no_room : length o < k → Hands (load_of s n) o o (Refused 14) × WritesLoad s n o (Refused 14)
+  pub load_no_room : length o < k → Hands (load_of s n) o o (Err refusal.OutputTooShort) × WritesLoad s n o (Err refusal.OutputTooShort)
   load_no_room h = (hands_short (load_of s n) o (m s n) (load_made s n some few) (omega (arith, bytes_size)), refused_none s n 14 o)
 
-  pub load_wrote : (o' : List ℕ) → k ≤ length o → o' ≡ sets o 0 (bytes_of (load_bits n s)) → Hands (load_of s n) o o' (Wrote k) × WritesLoad s n o' (Wrote k)
+  pub load_wrote : (o' : List ℕ) → k ≤ length o → o' ≡ sets o 0 (bytes_of (load_bits n s)) → Hands (load_of s n) o o' (Ok k) × WritesLoad s n o' (Ok k)
   load_wrote o' h q =
       let fits : length (m s n) ≤ length o = omega (arith, bytes_size) in (
         hands_made (load_of s n) o (m s n) o' k (load_made s n some few) bytes_size fits q,

@@ -3,7 +3,7 @@ use Rattle.std.specs.Prelude.{ℕ, zero, suc, ◌+◌, ◌*◌, ◌%◌, ◌||�
 use Rattle.asmap_program.specs.Map.{RETURN, MATCH, DEFAULT}
 use Rattle.asmap_codes.specs.Encode.{instruction_bits}
 use Rattle.asmap_bit_writer.specs.Bytes.{bytes_of}
-use Rattle.asmap_records.specs.Output.{Result, Made, refuse}
+use Rattle.asmap_records.specs.Output.{Making, Made, refuse}
 use Rattle.load_draws.specs.Draw.{next, draw, no_load}
 
 -- "Each number is 1 + draw mod 65,536", d being the draw.
@@ -26,7 +26,7 @@ load_bits (suc n) s =
     instruction_bits DEFAULT (number_by (next s)) ++ (instruction_bits MATCH (match_by (next (next s))) ++ load_bits n (next (next s)))
 
 -- The bytes of a load of n pairs from the seed s: "20 for seed 0, … or n over 128".
-unfoldable pub load_of : ℕ → ℕ → Result
+unfoldable pub load_of : ℕ → ℕ → Making
 load_of s n = refuse (eqb s 0 || ltb 128 n) no_load (Made (bytes_of (load_bits n s)))
 
 -- The bit of MATCH number i, from 0 on: draw number 2, 4, 6 and so on.

@@ -1,15 +1,14 @@
 -- What is promised of every load (document 02, CR 6): "Every load passes the check at width 128, and some address walks 2 × n + 1 instructions."
 -- Assumes nothing.
-use Rattle.std.specs.Prelude.{ℕ, zero, suc, ◌+◌, ◌*◌, ◌≤◌, ◌<◌, cond, ◌≡◌, List, [], ◌∷◌, ltb, length, take, get_or}
+use Rattle.std.specs.Prelude.{ℕ, zero, suc, ◌+◌, ◌*◌, ◌≤◌, ◌<◌, cond, ◌≡◌, List, [], ◌∷◌, ltb, length, take, get_or, Result, Ok}
 use Rattle.asmap_program.specs.declared.Kind.TheVariants.{Returned}
-use Rattle.asmap_program.specs.declared.Verdict.TheVariants.{Accepted}
 use Rattle.asmap_program.specs.Map.{address_bit}
 use Rattle.asmap_codes.specs.Bits.{number}
 use Rattle.asmap_check.specs.Check.{check_of}
 use Rattle.asmap_walk_bits.specs.Walk.{walk_of, summary}
-use Rattle.asmap_records.specs.declared.Answer.{Answer}
-use Rattle.asmap_records.specs.declared.Answer.TheVariants.{Wrote}
 use Rattle.asmap_load.specs.Load.{match_bit, last_number}
+use Rattle.asmap_program.specs.Verdict.{Accepted}
+use Rattle.refusals.specs.declared.Refusal.{Refusal}
 
 -- The first n bits of the address are the MATCH bits in order.
 abbrev pub Begins : ℕ → ℕ → List ℕ → Type 0
@@ -35,5 +34,5 @@ pub record Passes (s n : ℕ) (m : List ℕ) : Type 0 where
   pub begins : Begins s n (whole_address s n)
 
 -- so it is of the bytes that a call wrote, o being the output at exit and r the answer
-abbrev pub WritesLoad : ℕ → ℕ → List ℕ → Answer → Type 0
-WritesLoad s n o r = (k : ℕ) → r ≡ Wrote k → Passes s n (take k o)
+abbrev pub WritesLoad : ℕ → ℕ → List ℕ → Result ℕ Refusal → Type 0
+WritesLoad s n o r = (k : ℕ) → r ≡ Ok k → Passes s n (take k o)

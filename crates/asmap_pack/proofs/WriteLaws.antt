@@ -11,7 +11,7 @@ use Rattle.asmap_codes.specs.Encode.{instruction_bits}
 use Rattle.byte_numbers.specs.Numbers.{number4}
 use Rattle.asmap_records.specs.Record.{zeros3}
 use Rattle.asmap_bit_writer.specs.Bytes.{bytes_of}
-use Rattle.asmap_records.specs.Output.{Result, Made}
+use Rattle.asmap_records.specs.Output.{Making, Made}
 use Rattle.asmap_records.specs.Pack.{records_bits}
 use Rattle.asmap_records.proofs.OutputLaws.{made_same}
 use Rattle.asmap_records.proofs.PackLaws.{field_right, record_at_lem, records_split}
@@ -36,7 +36,7 @@ pub writing_start : (rs out bs : List ℕ) (w : BitWriter) → w ≡ record { bi
 writing_start rs out bs w z e h =
     let k : length rs - 0 ≡ length rs = omega arith in
     let c = all_to_come out bs w z h in
-    let g : goal rs out ≡ sets out 0 (bytes_of bs) = ap (λ (r : Result). sets out 0 (bytes_of (bits_in r))) e in
+    let g : goal rs out ≡ sets out 0 (bytes_of bs) = ap (λ (r : Making). sets out 0 (bytes_of (bits_in r))) e in
     record { rest = bs; made = rw (z, k) e; come = subst (λ (x : List ℕ). ToCome x out out w bs) (sym g) c }
 
 -- the record at `from`, in a turn

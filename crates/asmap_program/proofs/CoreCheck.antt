@@ -11,13 +11,14 @@ use borrow.Author.Tests.{eqb-true, eqb-false, ltb-true, le-leb, lt-leb, eq-eqb, 
 use Rattle.asmap_program.specs.declared.Instruction.{Instruction}
 use Rattle.asmap_program.specs.declared.Previous.{Previous}
 use Rattle.asmap_program.specs.declared.Previous.TheVariants.{Other, Short, Default}
-use Rattle.asmap_program.specs.declared.Verdict.{Verdict}
-use Rattle.asmap_program.specs.declared.Verdict.TheVariants.{Accepted, Refused}
 use Rattle.asmap_program.specs.Map.{Map, Fetched, Whole, CutOpcode, CutOperand, end_of, target_of, Laws, length_of}
 use Rattle.asmap_program.specs.Check.{Open, is_default, is_short, State, Outcome, Next, Done, Refuse, guard, past, closing, step_whole, step_on, step, after, run, check}
 pub use Rattle.asmap_program.specs.Check.{accepted}
 use Rattle.asmap_program.specs.Core.{INVALID, Read, File, Op, RETURN, JUMP, MATCH, DEFAULT, is_op_default, is_op_match, Sanity, sanity_start, Passed, On, Says, refuse_if, or_refuse, core_after, top_reached, core_tail, core_return, core_jump, core_match, core_default, core_opcode, core_step, core_run, core_check, decode_of, Reads, Joined}
 use Rattle.asmap_program.proofs.Tree.{Forest, accepts, forest, forward}
+use Rattle.asmap_program.specs.Verdict.{Verdict}
+use Rattle.std.specs.Prelude.{Err, Ok}
+use Rattle.refusals.specs.declared.Fault.TheVariants as fault
 
 -- what our check remembers, of what Core remembers
 abbrev seen : Op → Bool → Previous
@@ -86,7 +87,7 @@ module _ (m : Map) where
   early true o q h k = h refl
   early false o q h k = k refl
 
-  finish : (b b' : Bool) (i : Instruction) (c d : ℕ) → b ≡ b' → Same (guard (not b) 6 (Done i c d)) (Says b')
+  finish : (b b' : Bool) (i : Instruction) (c d : ℕ) → b ≡ b' → Same (guard (not b) fault.Padding (Done i c d)) (Says b')
   unfolding guard
   finish true b' i c d e = sym e
   finish false b' i c d e = sym e
@@ -165,8 +166,8 @@ module _ (m : Map) where
       never s o opens q h g = pick (run m g s) refl
         where
           pick : (a : Verdict) → run m g s ≡ a → accepted a ≡ false
-          pick (Refused n) e = refl
-          pick (Accepted c d) e =
+          pick (Err n) e = refl
+          pick (Ok got) e =
               let t : Forest m s.before s.at s.left (o ∷ opens) _ = rw q at (forest m law (accepts m g s e)) in
               let a = forward m law t.3 in
               absurd (omega arith)

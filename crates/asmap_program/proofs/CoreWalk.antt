@@ -11,7 +11,6 @@ use borrow.Author.Tests.{eqb-true, eqb-false, lt-ltb, le-ltb, le-leb, lt-leb, eq
 use Rattle.asmap_program.specs.declared.Instruction.{Instruction}
 use Rattle.asmap_program.specs.declared.Previous.{Previous}
 use Rattle.asmap_program.specs.declared.Previous.TheVariants.{Other}
-use Rattle.asmap_program.specs.declared.Verdict.TheVariants.{Accepted}
 use Rattle.asmap_program.specs.Map.{RETURN, JUMP, MATCH, DEFAULT, Map, Whole, end_of, target_of, Laws, bit_of, length_of}
 use Rattle.asmap_program.specs.Check.{check}
 use Rattle.asmap_program.specs.declared.Walker.{Walker}
@@ -20,6 +19,7 @@ use Rattle.asmap_program.specs.Core.{INVALID, Read, File, Pointer, CoreAnswer, N
 use Rattle.asmap_program.specs.Tree.{Tree, return, jump, match, default}
 use Rattle.asmap_program.proofs.Tree.{program, forward}
 use Rattle.asmap_program.proofs.Demand.{walk_at}
+use Rattle.asmap_program.specs.Verdict.{Accepted}
 
 eqb_comm : (a b : ℕ) → eqb a b ≡ eqb b a
 eqb_comm a b = pick (eqb b a) refl

@@ -15,7 +15,6 @@ use borrow.Author.Tests.{lt-ltb, le-leb}
 use Rattle.asmap_program.specs.declared.Instruction.{Instruction}
 use Rattle.asmap_program.specs.declared.Previous.{Previous}
 use Rattle.asmap_program.specs.declared.Previous.TheVariants.{Other, Short, Default}
-use Rattle.asmap_program.specs.declared.Verdict.TheVariants.{Accepted}
 use Rattle.asmap_program.specs.declared.Kind.TheVariants.{Returned, Differed}
 use Rattle.asmap_program.specs.Map.{RETURN, JUMP, MATCH, DEFAULT, end_of, target_of, Fetched, Whole, Map, Laws, length_of, bit_of}
 use Rattle.asmap_program.specs.Check.{is_default, check, unpacked, after_match}
@@ -26,6 +25,7 @@ use Rattle.asmap_program.proofs.Length.{length_some}
 use Rattle.asmap_program.proofs.Default.{default_holds_until_another, FromOne, reads_from_one, zero_none}
 use Rattle.asmap_program.specs.Tree.{Tree, return, jump, match, default}
 use Rattle.asmap_program.proofs.Tree.{program, forward}
+use Rattle.asmap_program.specs.Verdict.{Accepted}
 
 -- the count may be one more than twice the bits, but not after a DEFAULT
 abbrev slack : Previous → ℕ

@@ -10,11 +10,11 @@ use native.Mathlib.Omega.{arith}
 use borrow.Author.Tests.{leb-false}
 use lib.ListN.{length}
 use Rattle.asmap_program.specs.declared.Instruction.{Instruction}
-use Rattle.asmap_program.specs.declared.Verdict.TheVariants.{Accepted}
 use Rattle.asmap_program.specs.Map.{Map, target_of}
 use Rattle.asmap_program.specs.Check.{Open, past, Before, Nested, State, start, check, unpacked}
 pub use Rattle.asmap_program.specs.Check.{Reached, begins, goes}
 use Rattle.asmap_program.proofs.Tree.{Moves, closes, opened, matched, defaulted, View, view, Accepts, last, more, accepts}
+use Rattle.asmap_program.specs.Verdict.{Accepted}
 
 -- of each open jump: it and those under it, with the bits that it saved, are at most w
 abbrev pub Held : ℕ → List Open → Type 0

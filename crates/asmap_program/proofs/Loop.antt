@@ -10,8 +10,6 @@ use lib.Dec.{eqb}
 use lib.ListN.{length}
 use borrow.Author.Tests.{le-leb}
 use Rattle.asmap_program.specs.declared.Instruction.{Instruction}
-use Rattle.asmap_program.specs.declared.Verdict.{Verdict}
-use Rattle.asmap_program.specs.declared.Verdict.TheVariants.{Accepted}
 use Rattle.asmap_program.specs.Map.{end_of, Fetched, Whole, CutOpcode, CutOperand, Map, Laws, length_of}
 use Rattle.asmap_program.specs.Check.{State, Outcome, Next, Done, Refuse, guard, step, after, run, start, check, stopping, stops, stop_of, listed, reads, unpacked}
 use Rattle.asmap_program.specs.declared.Kind.TheVariants.{OpcodeCut}
@@ -19,6 +17,8 @@ use Rattle.asmap_program.specs.declared.Walker.{Walker}
 use Rattle.asmap_program.specs.Walk.{Walked, Turn, Goes, Stops, Compared, Equal, Different, aborted, enough, meeting, compared, turn_whole, turn_on, push, go_on, walk_from, walk}
 use Rattle.asmap_program.proofs.Tree.{Moves, closes, opened, matched, defaulted, View, view, Accepts, last, more, accepts}
 use Rattle.asmap_program.proofs.Depth.{carries}
+use Rattle.asmap_program.specs.Verdict.{Accepted, Verdict}
+use Rattle.refusals.specs.declared.Fault.TheVariants as fault
 
 module _ (m : Map) where
   -- a step goes on at the instruction's end
@@ -55,7 +55,7 @@ module _ (m : Map) where
   -- ---- the check's loop: its answer, and the place at which it stops
 
   -- at or past the end the check says 2
-  pub ended : (s : State) → m.bits ≤ s.at → step m s ≡ Refuse 2
+  pub ended : (s : State) → m.bits ≤ s.at → step m s ≡ Refuse fault.MapEnds
   unfolding step guard
   ended s h = rw (le-leb m.bits s.at h)
 

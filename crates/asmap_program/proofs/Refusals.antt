@@ -10,10 +10,10 @@ use native.Mathlib.Omega.{arith}
 use lib.Dec.{T, leb, eqb, leb→le}
 use borrow.Author.Tests.{eq-eqb}
 use Rattle.asmap_program.specs.declared.Instruction.{Instruction}
-use Rattle.asmap_program.specs.declared.Verdict.TheVariants.{Refused}
 use Rattle.asmap_program.specs.Map.{Opcode, Operand, cut_reason, Fetched, Whole, CutOpcode, CutOperand, Map, Laws}
 use Rattle.asmap_program.specs.Check.{Open, State, Outcome, Next, Done, Refuse, guard, closing, step_whole, step_on, step, check, stop_of, Gives, StopsAt}
 use Rattle.asmap_program.proofs.Stop.{stops_at}
+use Rattle.std.specs.Prelude.{Err}
 
 -- ---- the numbers of the tests: from 2 to 10, and none of them the number of a cut
 
@@ -79,7 +79,7 @@ step_shows m s =
     (λ op e. record { opcode = λ z. absurd (omega arith); operand = λ _. (op, e) })
 
 -- where the check refuses a map for a cut code, that code is cut at the place where it stops: an opcode, or an operand behind its opcode
-pub stops_at_a_cut : (m : Map) → Laws m → (w n : ℕ) → check m w ≡ Refused n → Shows m (stop_of m w) n
+pub stops_at_a_cut : (m : Map) → Laws m → (w n : ℕ) → check m w ≡ Err n → Shows m (stop_of m w) n
 stops_at_a_cut m law w n e = subst (λ (p : ℕ). Shows m p n) x.here (by (step m x.state) x.gives (step_shows m x.state))
   where
     x : StopsAt m w (check m w) (stop_of m w)

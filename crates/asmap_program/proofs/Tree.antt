@@ -15,11 +15,10 @@ use borrow.Author.Tests.{eqb-true, eqb-false, ltb-false, not-false}
 use Rattle.asmap_program.specs.declared.Instruction.{Instruction}
 use Rattle.asmap_program.specs.declared.Previous.{Previous}
 use Rattle.asmap_program.specs.declared.Previous.TheVariants.{Other, Default}
-use Rattle.asmap_program.specs.declared.Verdict.{Verdict}
-use Rattle.asmap_program.specs.declared.Verdict.TheVariants.{Accepted}
 use Rattle.asmap_program.specs.Map.{RETURN, JUMP, MATCH, end_of, target_of, Fetched, Whole, CutOpcode, CutOperand, Map, Laws, length_of}
 use Rattle.asmap_program.specs.Tree.{Tree, return, jump, match, default, Program, JumpsInside}
 use Rattle.asmap_program.specs.Check.{Open, is_default, is_short, State, Outcome, Next, Done, Refuse, guard, past, closing, step_whole, step_on, step, after, run, listed, reads, start, check, unpacked, after_match}
+use Rattle.asmap_program.specs.Verdict.{Accepted, Verdict}
 
 module _ (m : Map) where
   -- What is left to read in a state: a tree up to each open target, the innermost first, then one up to the padding.

@@ -14,13 +14,12 @@ use borrow.Author.Tests.{le-ltb, lt-leb, eq-eqb, ne_eqb}
 use Rattle.asmap_program.specs.declared.Instruction.{Instruction}
 use Rattle.asmap_program.specs.declared.Previous.{Previous}
 use Rattle.asmap_program.specs.declared.Previous.TheVariants.{Other, Default}
-use Rattle.asmap_program.specs.declared.Verdict.{Verdict}
-use Rattle.asmap_program.specs.declared.Verdict.TheVariants.{Accepted}
 use Rattle.asmap_program.specs.Map.{RETURN, JUMP, MATCH, DEFAULT, end_of, target_of, Fetched, Whole, Map, Laws, length_of}
 use Rattle.asmap_program.specs.Check.{Open, is_default, is_short, after_match, State, guard, past, step_whole, step_on, step, after, check, unpacked}
 use Rattle.asmap_program.specs.Tree.{Tree, return, jump, match, default, Program}
 use Rattle.asmap_program.proofs.Tree.{forward}
 use Rattle.asmap_program.proofs.Loop.{result, result-step, result_start, list_from, unpacked_list}
+use Rattle.asmap_program.specs.Verdict.{Accepted, Verdict}
 
 module _ (m : Map) where
   -- a tree that ends at `end` is what the open jumps wait for: its end is the innermost target, or with none the padding's start

@@ -10,10 +10,9 @@ use lib.Dec.{leb, ltb, eqb}
 use lib.ListN.{length}
 use borrow.Author.Tests.{eqb-false, ne_eqb, ltb-false, le-ltb}
 use Rattle.asmap_program.specs.declared.Instruction.{Instruction}
-use Rattle.asmap_program.specs.declared.Verdict.{Verdict}
-use Rattle.asmap_program.specs.declared.Verdict.TheVariants.{Accepted}
 use Rattle.asmap_program.specs.Map.{end_of, target_of, Fetched, Whole, CutOpcode, CutOperand, Map, length_of}
 use Rattle.asmap_program.specs.Check.{Open, is_default, is_short, State, Outcome, Next, Done, Refuse, guard, past, closing, step_whole, step_on, step, after, run, listed, reads, start, check, unpacked}
+use Rattle.asmap_program.specs.Verdict.{Accepted, Verdict}
 
 -- k address bits more, left and saved
 more : ℕ → List Open → List Open

@@ -1,13 +1,13 @@
 -- The check (document 01, Check; `sanity_check`), over a width of w address bits: a step, with the tests in the paper's order and the
 -- paper's numbers, and its repetition.
 -- Assumes nothing.
-use Rattle.std.specs.Prelude.{ℕ, zero, suc, ◌-◌, ◌<◌, max, Bool, true, false, not, ◌&&◌, ◌||◌, cond, ◌≡◌, List, [], ◌∷◌, leb, ltb, eqb, length}
+use Rattle.std.specs.Prelude.{ℕ, zero, suc, ◌-◌, ◌<◌, max, Bool, true, false, not, ◌&&◌, ◌||◌, cond, ◌≡◌, List, [], ◌∷◌, leb, ltb, eqb, length, Err, Ok}
 use Rattle.asmap_program.specs.declared.Instruction.{Instruction}
 use Rattle.asmap_program.specs.declared.Previous.{Previous}
 use Rattle.asmap_program.specs.declared.Previous.TheVariants.{Other, Short, Default}
-use Rattle.asmap_program.specs.declared.Verdict.{Verdict}
-use Rattle.asmap_program.specs.declared.Verdict.TheVariants.{Accepted, Refused}
 use Rattle.asmap_program.specs.Map.{RETURN, DEFAULT, end_of, target_of, Fetched, Whole, CutOpcode, CutOperand, Opcode, Operand, cut_reason, Map, length_of}
+use Rattle.asmap_program.specs.Verdict.{Accepted, Verdict}
+use Rattle.refusals.specs.declared.Fault.TheVariants as fault
 
 -- Of the opcode before ("previous"), the check asks two things. Was it a DEFAULT?
 abbrev pub is_default : Previous → Bool
@@ -63,17 +63,17 @@ past (o ∷ opens) p = leb o.target p
 -- Check, RETURN, once it is read whole. With no open jump it is the last: 6 where what is left over is no padding, else accepted. With
 -- one, it must end where the innermost jump lands, else 7; that jump closes, and its target is read with the bits that it saved.
 abbrev pub closing : Map → State → Instruction → List Open → Outcome
-closing m s i [] = guard (not (m.padded (end_of i))) 6 (Done i (suc s.count) s.deepest)
+closing m s i [] = guard (not (m.padded (end_of i))) fault.Padding (Done i (suc s.count) s.deepest)
 closing m s i (o ∷ opens) =
-    guard (not (eqb (end_of i) o.target)) 7
+    guard (not (eqb (end_of i) o.target)) fault.NotAtTarget
     (Next i (record { at = end_of i; left = o.saved; before = Other; opens = opens; count = suc s.count; deepest = s.deepest }))
 
 -- Check, JUMP: 8 with no address bit left, 9 where its target is not before the innermost open one; else it opens. It uses one bit, and
 -- the bits left after that are both those of its first half and those that it saves for its target.
 abbrev pub opening : State → Instruction → Outcome
 opening s i =
-    guard (eqb s.left 0) 8
-    (guard (past s.opens (target_of i)) 9
+    guard (eqb s.left 0) fault.NoBits
+    (guard (past s.opens (target_of i)) fault.TargetsCross
     (Next i (record {
       at = end_of i;
       left = s.left - 1;
@@ -87,8 +87,8 @@ opening s i =
 -- it uses as many bits as it is long.
 abbrev pub matching : State → Instruction → Outcome
 matching s i =
-    guard (ltb (length_of i.operand) 8 && is_short s.before) 10
-    (guard (ltb s.left (length_of i.operand)) 8
+    guard (ltb (length_of i.operand) 8 && is_short s.before) fault.ShortMatches
+    (guard (ltb s.left (length_of i.operand)) fault.NoBits
     (Next i (record {
       at = end_of i;
       left = s.left - length_of i.operand;
@@ -104,32 +104,32 @@ defaulting s i = Next i (record { at = end_of i; left = s.left; before = Default
 
 -- Check, at an instruction read whole, by its opcode: RETURN, JUMP, MATCH, DEFAULT. RETURN and DEFAULT are 5 after a DEFAULT.
 abbrev pub step_whole : Map → State → Instruction → ℕ → Outcome
-step_whole m s i zero = guard (is_default s.before) 5 (closing m s i s.opens)
+step_whole m s i zero = guard (is_default s.before) fault.AfterDefault (closing m s i s.opens)
 step_whole m s i (suc zero) = opening s i
 step_whole m s i (suc (suc zero)) = matching s i
-step_whole m s i (suc (suc (suc n))) = guard (is_default s.before) 5 (defaulting s i)
+step_whole m s i (suc (suc (suc n))) = guard (is_default s.before) fault.AfterDefault (defaulting s i)
 
 -- Check, by what can be read here. A cut opcode, or a cut operand, is refused with the number of its cut; but where a RETURN or a DEFAULT
 -- stands after a DEFAULT, 5 comes first, since the opcode alone shows it.
 abbrev pub step_on : Map → State → Fetched → Outcome
 step_on m s (Whole i) = step_whole m s i i.opcode
 step_on m s CutOpcode = Refuse (cut_reason Opcode)
-step_on m s (CutOperand op) = guard (is_default s.before && (eqb op RETURN || eqb op DEFAULT)) 5 (Refuse (cut_reason Operand))
+step_on m s (CutOperand op) = guard (is_default s.before && (eqb op RETURN || eqb op DEFAULT)) fault.AfterDefault (Refuse (cut_reason Operand))
 
 -- Check, one step: 2 at the map's end, 3 where the place is not before the innermost open target, else by what can be read here.
 unfoldable pub step : Map → State → Outcome
-step m s = guard (leb m.bits s.at) 2 (guard (past s.opens s.at) 3 (step_on m s (m.fetch s.at)))
+step m s = guard (leb m.bits s.at) fault.MapEnds (guard (past s.opens s.at) fault.PastTarget (step_on m s (m.fetch s.at)))
 
 -- The answer after a step, k being the answer from a state on.
 abbrev pub after : (State → Verdict) → Outcome → Verdict
 after k (Next i s) = k s
 after k (Done i c d) = Accepted c d
-after k (Refuse n) = Refused n
+after k (Refuse n) = Err n
 
 -- Steps until one accepts or refuses. Each uses up a bit of the map at least, so with a step for each bit none is wanting: when they are
 -- used up the place is the map's end, and that is 2.
 unfoldable pub run : Map → ℕ → State → Verdict
-run m zero s = Refused 2
+run m zero s = Err fault.MapEnds
 run m (suc f) s = after (λ (s' : State). run m f s') (step m s)
 
 -- The check of a map over w address bits: accepted, with the count of instructions and the greatest depth, or refused with a number.
@@ -154,8 +154,8 @@ stop_of m w = stops m m.bits (start w)
 
 -- Whether a verdict is an acceptance: all that Core's check answers.
 abbrev pub accepted : Verdict → Bool
-accepted (Accepted c d) = true
-accepted (Refused n) = false
+accepted (Ok got) = true
+accepted (Err n) = false
 
 -- The states that the check of a map over w address bits comes to.
 pub data Reached (m : Map) (w : ℕ) : State → Type 0 where
@@ -166,7 +166,7 @@ pub data Reached (m : Map) (w : ℕ) : State → Type 0 where
 abbrev pub Gives : Verdict → Outcome → Type 0
 Gives v (Next i s) = ⊥
 Gives v (Done i c d) = v ≡ Accepted c d
-Gives v (Refuse n) = v ≡ Refused n
+Gives v (Refuse n) = v ≡ Err n
 
 -- The check comes to a state with the place p, and there gives the verdict v.
 pub record StopsAt (m : Map) (w : ℕ) (v : Verdict) (p : ℕ) : Type 0 where

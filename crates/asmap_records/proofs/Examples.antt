@@ -8,9 +8,11 @@ use Rattle.asmap_codes.specs.Encode.{instruction_bits}
 use Rattle.asmap_codes.specs.Instruction.{fetch_at, padded_from, map_of}
 use Rattle.asmap_records.specs.Record.{record_of}
 use Rattle.asmap_bit_writer.specs.Bytes.{bytes_of}
-use Rattle.asmap_records.specs.Output.{Result, Made, No, refuse}
+use Rattle.asmap_records.specs.Output.{Making, Made, No, refuse}
 use Rattle.asmap_records.specs.Pack.{field_bits, record_bits, pack_bits, pack_of}
 use Rattle.asmap_records.specs.Unpack.{unpack_of}
+use Rattle.refusals.specs.declared.Fault.TheVariants as fault
+use Rattle.refusals.specs.declared.Refusal.TheVariants as refusal
 
 -- a record from its four fields
 abbrev fields : ℕ → ℕ → ℕ → ℕ → List ℕ
@@ -38,7 +40,7 @@ lists =
     ∷ fields 0 1 0 16
     ∷ []
 
-abbrev answers : List Result
+abbrev answers : List Making
 answers =
     Made []
     ∷ Made (0 ∷ 0 ∷ 0 ∷ [])
@@ -46,13 +48,13 @@ answers =
     ∷ Made (254 ∷ 255 ∷ 255 ∷ 255 ∷ 3 ∷ [])
     ∷ Made (253 ∷ 255 ∷ 255 ∷ 255 ∷ 255 ∷ 255 ∷ 255 ∷ 1 ∷ [])
     ∷ Made (3 ∷ [])
-    ∷ No 16
-    ∷ No 15
-    ∷ No 15
-    ∷ No 15
-    ∷ No 16
-    ∷ No 16
-    ∷ No 16
+    ∷ No refusal.Record
+    ∷ No refusal.OutOfRange
+    ∷ No refusal.OutOfRange
+    ∷ No refusal.OutOfRange
+    ∷ No refusal.Record
+    ∷ No refusal.Record
+    ∷ No refusal.Record
     ∷ []
 
 pub pack-examples : map pack_of lists ≡ answers
@@ -60,13 +62,13 @@ unfolding pack_of pack_bits refuse field_bits bytes_of instruction_bits
 pack-examples = refl
 
 pub unpack-examples : map (λ (m : List ℕ). unpack_of m 128) ((0 ∷ 0 ∷ 0 ∷ []) ∷ (1 ∷ 0 ∷ 0 ∷ 0 ∷ 0 ∷ 0 ∷ []) ∷ [] ∷ [])
-    ≡ Made (fields 0 1 0 17) ∷ Made jump ∷ No 2 ∷ []
+    ≡ Made (fields 0 1 0 17) ∷ Made jump ∷ No (refusal.Map fault.MapEnds) ∷ []
 unfolding unpack_of map_of check unpacked run reads step guard fetch_at padded_from length_of length_in
 unpack-examples = refl
 
 -- a record that ends on the last bit of the greatest map, one that ends past it, and one that does so at a wrong place
 pub end-examples : (record_bits (fields 2 2 134217723 5) 134217723 ≡ Made (1 ∷ 1 ∷ 0 ∷ 0 ∷ 0 ∷ []))
-    × (record_bits (fields 2 2 134217724 5) 134217724 ≡ No 1)
-    × (record_bits (fields 2 2 134217725 5) 134217724 ≡ No 16)
+    × (record_bits (fields 2 2 134217724 5) 134217724 ≡ No (refusal.Map fault.MapTooLong))
+    × (record_bits (fields 2 2 134217725 5) 134217724 ≡ No refusal.Record)
 unfolding refuse field_bits instruction_bits
 end-examples = (refl, refl, refl)

@@ -5,11 +5,11 @@ use mathlib.Core.Path.{◌≡◌, refl, sym, ap₂, subst}
 use mathlib.Core.List.{List, [], ◌∷◌}
 use mathlib.Core.Bool.{true}
 use Rattle.asmap_program.specs.declared.Instruction.{Instruction}
-use Rattle.asmap_program.specs.declared.Verdict.TheVariants.{Accepted}
 use Rattle.asmap_program.specs.Map.{end_of, Fetched, Whole, Map}
 use Rattle.asmap_program.specs.Check.{State, start, check, unpacked}
 use Rattle.asmap_program.proofs.Tree.{Accepts, last, more, accepts}
 use Rattle.asmap_program.proofs.Loop.{moved}
+use Rattle.asmap_program.specs.Verdict.{Accepted}
 
 module _ (m : Map) where
   -- the instructions that stand from p to q, one after the other

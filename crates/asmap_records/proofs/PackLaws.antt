@@ -15,10 +15,12 @@ use Rattle.asmap_bit_writer.specs.Bytes.{bytes_of}
 use Rattle.byte_numbers.specs.Numbers.{number4}
 use Rattle.byte_numbers.proofs.NumberLaws.{number4-drop}
 use Rattle.asmap_records.specs.Record.{zeros3}
-use Rattle.asmap_records.specs.Output.{Result, Made, No, refuse, on}
+use Rattle.asmap_records.specs.Output.{Making, Made, No, refuse, on}
 use Rattle.asmap_records.specs.Pack.{field_bits, record_bits, records_bits, pack_bits, pack_of}
 use Rattle.asmap_records.proofs.RecordLaws.{and_both}
 use Rattle.asmap_records.proofs.OutputLaws.{passed, made_same}
+use Rattle.refusals.specs.declared.Fault.TheVariants as fault
+use Rattle.refusals.specs.declared.Refusal.TheVariants as refusal
 
 -- ---- one record, over its fields
 
@@ -29,15 +31,15 @@ module _ (op : ℕ) (zeros : Bool) (v place size at : ℕ) where
   abbrev right : Bool
   right = zeros && eqb place at && eqb size (length (instruction_bits op v))
 
-  pub field_range : ranged ≡ false → field_bits op zeros v place size at ≡ No 15
+  pub field_range : ranged ≡ false → field_bits op zeros v place size at ≡ No refusal.OutOfRange
   unfolding field_bits refuse
   field_range h = rw h
 
-  pub field_wrong : ranged ≡ true → right ≡ false → field_bits op zeros v place size at ≡ No 16
+  pub field_wrong : ranged ≡ true → right ≡ false → field_bits op zeros v place size at ≡ No refusal.Record
   unfolding field_bits refuse
   field_wrong h a = rw (h, a)
 
-  pub field_long : ranged ≡ true → right ≡ true → 134217728 < at + length (instruction_bits op v) → field_bits op zeros v place size at ≡ No 1
+  pub field_long : ranged ≡ true → right ≡ true → 134217728 < at + length (instruction_bits op v) → field_bits op zeros v place size at ≡ No (refusal.Map fault.MapTooLong)
   unfolding field_bits refuse
   field_long h a d = rw (h, a, lt-ltb 134217728 (at + length (instruction_bits op v)) d)
 
@@ -112,12 +114,12 @@ pub record Split (n : ℕ) (l : List ℕ) (at : ℕ) (all : List ℕ) : Type 0 w
   pub after : records_bits n (drop 16 l) (at + length first) ≡ Made rest
   pub both : all ≡ first ++ rest
 
-split_rest : (n : ℕ) (l : List ℕ) (at : ℕ) (all bs : List ℕ) (q : Result) → record_bits l at ≡ Made bs → records_bits n (drop 16 l) (at + length bs) ≡ q
+split_rest : (n : ℕ) (l : List ℕ) (at : ℕ) (all bs : List ℕ) (q : Making) → record_bits l at ≡ Made bs → records_bits n (drop 16 l) (at + length bs) ≡ q
     → on (λ (cs : List ℕ). Made (bs ++ cs)) q ≡ Made all → Split n l at all
 split_rest n l at all bs (Made cs) e f h = record { first = bs; rest = cs; here = e; after = f; both = cc }
 split_rest n l at all bs (No k) e f h = let z : ◌≡◌ {A = ℕ} 0 1 = cc in absurd (omega arith)
 
-split_first : (n : ℕ) (l : List ℕ) (at : ℕ) (all : List ℕ) (r : Result) → record_bits l at ≡ r
+split_first : (n : ℕ) (l : List ℕ) (at : ℕ) (all : List ℕ) (r : Making) → record_bits l at ≡ r
     → on (λ (bs : List ℕ). on (λ (cs : List ℕ). Made (bs ++ cs)) (records_bits n (drop 16 l) (at + length bs))) r ≡ Made all → Split n l at all
 split_first n l at all (Made bs) e h = split_rest n l at all bs (records_bits n (drop 16 l) (at + length bs)) e refl h
 split_first n l at all (No k) e h = let z : ◌≡◌ {A = ℕ} 0 1 = cc in absurd (omega arith)
@@ -136,12 +138,12 @@ records_bound (suc n) l at all h e =
 
 -- ---- all of them
 
-pub pack_ragged : (rs : List ℕ) → (length rs % 16 ≡ 0 → ⊥) → pack_of rs ≡ No 16
+pub pack_ragged : (rs : List ℕ) → (length rs % 16 ≡ 0 → ⊥) → pack_of rs ≡ No refusal.Record
 unfolding pack_of pack_bits refuse
 pack_ragged rs h = rw (ne_eqb (length rs % 16) 0 h)
 
 -- whole records: as their bits are made
-pub pack_whole : (rs : List ℕ) (r : Result) → length rs % 16 ≡ 0 → records_bits (length rs / 16) rs 0 ≡ r
+pub pack_whole : (rs : List ℕ) (r : Making) → length rs % 16 ≡ 0 → records_bits (length rs / 16) rs 0 ≡ r
     → pack_of rs ≡ on (λ (bs : List ℕ). Made (bytes_of bs)) r
 unfolding pack_of pack_bits refuse
 pack_whole rs r h e = rw (eq-eqb (length rs % 16) 0 h) (ap (on (λ (bs : List ℕ). Made (bytes_of bs))) e)

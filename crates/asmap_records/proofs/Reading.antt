@@ -15,12 +15,12 @@ use Rattle.asmap_codes.specs.Row.{type_row, asn_row, operand_row, in_range}
 use Rattle.asmap_codes.specs.Code.{tail, code, code_at}
 use Rattle.asmap_codes.specs.Encode.{instruction_bits}
 use Rattle.asmap_codes.specs.Instruction.{with_operand, with_opcode, fetch_at}
-use Rattle.asmap_codes.specs.declared.Code.{Code}
-use Rattle.asmap_codes.specs.declared.Code.TheVariants.{Value, Cut}
 use Rattle.asmap_codes.proofs.RowLaws.{type_fit, operand_fit, within_range, range_of}
 use Rattle.asmap_codes.proofs.Inside.{value_at}
 use Rattle.asmap_codes.proofs.Instructions.{written_then_fetched, fetched_then_written}
 use Rattle.asmap_records.proofs.RecordLaws.{and_both}
+use Rattle.asmap_codes.specs.Reading.{Code, Cut, Value}
+use Rattle.std.specs.Prelude.{Option}
 
 abbrev pub instruction : ℕ → ℕ → ℕ → ℕ → Instruction
 instruction op v p n = record { opcode = op; operand = v; place = p; size = n }
@@ -37,14 +37,14 @@ record Seen (m : List ℕ) (p : ℕ) (i : Instruction) : Type 0 where
   size : i.size ≡ end - p
 
 module _ (m : List ℕ) (p : ℕ) (i : Instruction) where
-  seen_operand : (op middle : ℕ) (r : Code) → code_at m p type_row ≡ Value op middle → code_at m middle (operand_row op) ≡ r
+  seen_operand : (op middle : ℕ) (r : Option Code) → code_at m p type_row ≡ Value op middle → code_at m middle (operand_row op) ≡ r
       → with_operand p op r ≡ Whole i → Seen m p i
   seen_operand op middle Cut e f h = let z : ◌≡◌ {A = ℕ} 0 1 = cc in absurd (omega arith)
   seen_operand op middle (Value v end) e f h =
       let q : instruction op v p (end - p) ≡ i = cc in
       subst (Seen m p) q record { middle = middle; end = end; opcode = e; operand = f; place = refl; size = refl }
 
-  seen_opcode : (r : Code) → code_at m p type_row ≡ r → with_opcode m p r ≡ Whole i → Seen m p i
+  seen_opcode : (r : Option Code) → code_at m p type_row ≡ r → with_opcode m p r ≡ Whole i → Seen m p i
   seen_opcode Cut e h = let z : ◌≡◌ {A = ℕ} 0 1 = cc in absurd (omega arith)
   seen_opcode (Value op middle) e h = seen_operand op middle (code_at m middle (operand_row op)) e refl h
 

@@ -12,7 +12,6 @@ use lib.Seq.{drop_at, drop-drop, take-add, length-take-le}
 use Rattle.byte_numbers.specs.Numbers.{bytes4, number4}
 use Rattle.byte_numbers.proofs.NumberLaws.{AllBytes, bytes_drop, small_bytes, number_of-bytes, four}
 use Rattle.asmap_program.specs.declared.Instruction.{Instruction}
-use Rattle.asmap_program.specs.declared.Verdict.TheVariants.{Accepted}
 use Rattle.asmap_program.specs.Map.{end_of}
 use Rattle.asmap_program.specs.Check.{unpacked}
 use Rattle.asmap_codes.specs.Bits.{map_bits, all_zero}
@@ -23,7 +22,7 @@ use Rattle.asmap_codes.proofs.BitLaws.{AllBits, bits-map, bits-take, bits-drop, 
 use Rattle.asmap_check.specs.Check.{check_of}
 use Rattle.asmap_records.specs.Record.{record_of, records_of}
 use Rattle.asmap_bit_writer.specs.Bytes.{to_bytes, bytes_of}
-use Rattle.asmap_records.specs.Output.{Result, Made, No, on}
+use Rattle.asmap_records.specs.Output.{Making, Made, No, on}
 use Rattle.asmap_records.specs.Pack.{field_bits, record_bits, records_bits, pack_bits, pack_of}
 use Rattle.asmap_records.specs.Unpack.{unpack_of}
 use Rattle.asmap_bit_writer.proofs.ByteLaws.{word_lt, word_low, map-to_bytes, length-to_bytes}
@@ -36,6 +35,7 @@ use Rattle.asmap_records.proofs.Listing.{Listing, none, then, Stop, one_listing,
 use Rattle.asmap_check.proofs.Limit.{accepted_within}
 use Rattle.asmap_records.proofs.UnpackLaws.{unpack_as_lem}
 use Rattle.asmap_records.proofs.Reading.{instruction, Stands, stands, fetched, padding}
+use Rattle.asmap_program.specs.Verdict.{Accepted}
 
 -- ---- bytes and their bits
 
@@ -177,7 +177,7 @@ packs : (rs m : List ℕ) → pack_of rs ≡ Made m → Packs rs m
 unfolding pack_of pack_bits
 packs rs m h = go (pack_bits rs) refl h
   where
-    go : (r : Result) → pack_bits rs ≡ r → on (λ (bs : List ℕ). Made (bytes_of bs)) r ≡ Made m → Packs rs m
+    go : (r : Making) → pack_bits rs ≡ r → on (λ (bs : List ℕ). Made (bytes_of bs)) r ≡ Made m → Packs rs m
     go (Made bs) e q =
         let p = passed _ 16 _ bs e in
         record { bits = bs; whole = eqb-true (length rs % 16) 0 (not-false _ p.0); made = p.1; bytes = made_same q }

@@ -4,8 +4,6 @@ use mathlib.Core.List.{List}
 use Prim.Native.Nat.{ℕ, ◌*◌, ◌≤◌}
 use native.Mathlib.Omega.{arith}
 use lib.ListN.{length}
-use Rattle.asmap_program.specs.declared.Verdict.{Verdict}
-use Rattle.asmap_program.specs.declared.Verdict.TheVariants.{Accepted, Refused}
 use Rattle.asmap_program.specs.Check.{check, unpacked}
 use Rattle.asmap_program.proofs.Depth.{carries}
 use Rattle.asmap_codes.specs.Instruction.{map_of}
@@ -15,6 +13,8 @@ use Rattle.asmap_records.specs.Record.{records_of}
 use Rattle.asmap_records.specs.Output.{Made}
 use Rattle.asmap_records.specs.Unpack.{unpack_as, unpack_of}
 use Rattle.asmap_records.proofs.RecordLaws.{length_records}
+use Rattle.asmap_program.specs.Verdict.{Accepted, Verdict}
+use Rattle.std.specs.Prelude.{Err, Ok}
 
 module _ (m : List ℕ) (w : ℕ) where
   pub unpack_as_lem : (v : Verdict) → v ≡ check_of m w → unpack_of m w ≡ unpack_as m w v
@@ -38,7 +38,7 @@ module _ (m : List ℕ) (w : ℕ) where
   unpacks rs h = go (check_of m w) refl h
     where
       go : (a : Verdict) → check_of m w ≡ a → unpack_as m w a ≡ Made rs → Unpacks rs
-      go (Accepted c d) e q =
+      go (Ok got) e q =
           let s = accepted_within m w c d e in
           record { count = c; depth = d; short = s.0; accepted = s.1; records = cc }
-      go (Refused n) e q = let z : ◌≡◌ {A = ℕ} 0 1 = cc in absurd (omega arith)
+      go (Err n) e q = let z : ◌≡◌ {A = ℕ} 0 1 = cc in absurd (omega arith)

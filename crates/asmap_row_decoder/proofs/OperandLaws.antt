@@ -11,11 +11,11 @@ use lib.Seq.{drop-drop}
 use Rattle.asmap_codes.specs.Bits.{map_bits}
 use Rattle.asmap_codes.specs.Row.{type_row, operand_row, longest}
 use Rattle.asmap_codes.specs.Code.{code, code_at}
-use Rattle.asmap_codes.specs.declared.Code.TheVariants.{Value}
 use Rattle.asmap_codes.proofs.RoundTrip.{tail_read, cut_no_value}
 use Rattle.asmap_window.specs.models.Window.{Window}
 use Rattle.asmap_row_decoder.specs.models.InWindow.{Holds}
 use Rattle.asmap_window.proofs.ByteLaws.{window_shift}
+use Rattle.asmap_codes.specs.Reading.{Value}
 
 -- an opcode read from bit p to bit n, and its operand, fit a window of 57 bits from p on
 abbrev Room : ℕ → ℕ → ℕ → Type 0

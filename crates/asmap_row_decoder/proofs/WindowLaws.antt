@@ -13,9 +13,9 @@ use Rattle.asmap_codes.specs.Row.{Row, longest}
 use Rattle.asmap_codes.specs.Code.{tail, code, code_at}
 use Rattle.asmap_window.specs.models.Window.{Window}
 use Rattle.asmap_row_decoder.specs.models.InWindow.{Holds, tail_in, code_in, row_in}
-use Rattle.asmap_codes.specs.declared.Code.TheVariants.{Cut}
 use Rattle.asmap_codes.proofs.BitLaws.{length_left}
 use Rattle.asmap_codes.proofs.CodeLaws.{heads}
+use Rattle.asmap_codes.specs.Reading.{Cut}
 
 -- one bit on
 pub window_tail : (n w b : ℕ) (bs : List ℕ) → Window (suc n) w (b ∷ bs) → Window n (w / 2) bs

@@ -7,7 +7,6 @@ use native.Mathlib.Omega.{arith}
 use lib.ListN.{length}
 use borrow.Author.Tests.{le-leb}
 use Rattle.asmap_program.specs.declared.Kind.TheVariants.{Returned}
-use Rattle.asmap_program.specs.declared.Verdict.TheVariants.{Accepted}
 use Rattle.asmap_program.specs.Check.{check}
 use Rattle.asmap_program.specs.Tree.{Program}
 use Rattle.asmap_program.specs.Walk.{walk}
@@ -21,6 +20,7 @@ use Rattle.asmap_bit_writer.proofs.ToCome.{read_back}
 use Rattle.asmap_shapes.specs.Shape.{Shape, shape, bits_of}
 use Rattle.asmap_shapes.proofs.ShapeLaws.{depth, Each, depth-shape, each-shape, found-shape}
 use Rattle.asmap_shapes.proofs.TreeLaws.{Number, list_of, all-bits, Stands, tree_of, Finds, walk_of}
+use Rattle.asmap_program.specs.Verdict.{Accepted}
 
 -- ---- a shape no deeper than the addresses have bits
 

@@ -9,10 +9,10 @@ use Rattle.asmap_program.specs.declared.Instruction.{Instruction}
 use Rattle.asmap_program.specs.Map.{Map, end_of, Fetched, Whole, CutOpcode, CutOperand}
 use Rattle.asmap_program.proofs.Loop.{list_from}
 use Rattle.asmap_codes.specs.Instruction.{map_of, read_instruction}
-use Rattle.asmap_codes.specs.declared.DecodedInstruction.TheVariants.{Found, Refused}
 use Rattle.asmap_codes.proofs.MapLaws.{instruction_at_lem, laws, map-bits}
 use Rattle.asmap_records.specs.Record.{record_of, records_of}
 use Rattle.byte_numbers.proofs.Buffers.{sets-append}
+use Rattle.std.specs.Prelude.{Ok, Err}
 
 -- ---- what is listed, by what stands at a place
 
@@ -39,7 +39,7 @@ module _ (m : Map) (p : ℕ) where
 
 module _ (m : List ℕ) (p : ℕ) (h : length m ≤ 16777216) where
   -- an instruction that was read stands there
-  pub read_whole : (i : Instruction) → read_instruction m p ≡ Found i → (map_of m).fetch p ≡ Whole i
+  pub read_whole : (i : Instruction) → read_instruction m p ≡ Ok i → (map_of m).fetch p ≡ Whole i
   read_whole i e = go ((map_of m).fetch p) refl
     where
       go : (f : Fetched) → (map_of m).fetch p ≡ f → f ≡ Whole i
@@ -48,7 +48,7 @@ module _ (m : List ℕ) (p : ℕ) (h : length m ≤ 16777216) where
       go (CutOperand op) q = let r = sym (instruction_at_lem m p h (CutOperand op) q) ∙ e in let z : ◌≡◌ {A = ℕ} 0 1 = cc in absurd (omega arith)
 
   -- where none was read, none is listed
-  pub read_none : (n r : ℕ) → read_instruction m p ≡ Refused r → list_from (map_of m) n p ≡ []
+  pub read_none : (n r : ℕ) → read_instruction m p ≡ Err r → list_from (map_of m) n p ≡ []
   read_none n r e = go ((map_of m).fetch p) refl
     where
       go : (f : Fetched) → (map_of m).fetch p ≡ f → list_from (map_of m) n p ≡ []
@@ -76,7 +76,7 @@ pub record Turn (m : List ℕ) (p : ℕ) (i : Instruction) : Type 0 where
   pub inside : p + i.size ≤ 8 * length m
   pub small : i.opcode < 4
 
-pub turn_of : (m : List ℕ) (p : ℕ) (i : Instruction) → length m ≤ 16777216 → read_instruction m p ≡ Found i → Turn m p i
+pub turn_of : (m : List ℕ) (p : ℕ) (i : Instruction) → length m ≤ 16777216 → read_instruction m p ≡ Ok i → Turn m p i
 turn_of m p i h e =
     let f = read_whole m p h i e in
     let s = (laws m).stands p i f in

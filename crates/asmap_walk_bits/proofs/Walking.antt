@@ -18,7 +18,6 @@ use Rattle.asmap_program.specs.declared.Walker.{Walker}
 use Rattle.asmap_program.specs.Walk.{Walked, walk_start, Turn, Goes, Stops, Compared, Equal, Different, compared, aborted, enough, meeting, turn_whole, turn_on, walk}
 use Rattle.asmap_program.proofs.Length.{length-below}
 use Rattle.asmap_program.proofs.Loop.{walked, Ahead, ahead_start, ahead_goes, ahead_stops}
-use Rattle.asmap_codes.specs.declared.Code.TheVariants.{Value, Cut}
 use Rattle.asmap_codes.specs.Row.{type_row, operand_row, span}
 use Rattle.asmap_codes.specs.Code.{code_at}
 use Rattle.asmap_codes.specs.Instruction.{map_of}
@@ -26,6 +25,7 @@ use Rattle.asmap_codes.proofs.Inside.{value_at, long_operand, past_end}
 use Rattle.asmap_codes.proofs.MapLaws.{laws, fetch-cut, fetch_operand}
 use Rattle.asmap_walk_bits.specs.Walk.{walk_of, summary}
 use Rattle.asmap_walk_bits.specs.declared.Ending.{Ending}
+use Rattle.asmap_codes.specs.Reading.{Cut, Value}
 
 -- m: the map, a: the address, w: the number of its bits that the walk may use
 module _ (m a : List ℕ) (w : ℕ) where

@@ -4,11 +4,11 @@ use Prim.Native.Nat.{ℕ}
 use mathlib.Core.Path.{◌≡◌, ap, subst}
 use mathlib.Core.Logic.{◌⊎◌, inl, inr}
 use mathlib.Core.List.{List, [], ◌∷◌}
-use Rattle.asmap_program.specs.declared.Verdict.{Verdict}
-use Rattle.asmap_program.specs.declared.Verdict.TheVariants.{Accepted, Refused}
 use Rattle.answer_outcome.specs.Outcome.{Outcome, Done, No, handed, IsDone, Hands}
 use Rattle.answer_maps.specs.Maps.{map_checked}
 use Rattle.answers.proofs.Handing.{Refuses}
+use Rattle.asmap_program.specs.Verdict.{Accepted, Verdict}
+use Rattle.std.specs.Prelude.{Err, Ok}
 
 -- ---- any call
 
@@ -38,8 +38,8 @@ done_as o e h = let n = rw e at h.numbers in cc
 -- 0: accepted
 pub accepted : (v : Verdict) {r c d : ℕ} {lent : List ℕ} → Hands (map_checked v) r lent (c ∷ d ∷ []) → r ≡ 0 → v ≡ Accepted c d
 unfolding handed IsDone map_checked
-accepted (Accepted c' d') h z = let e = h.numbers in cc
-accepted (Refused n) h z = absurd (h.zero_is_done z)
+accepted (Ok got) h z = let e = h.numbers in cc
+accepted (Err n) h z = absurd (h.zero_is_done z)
 
 -- and an accepted map is answered by 0
 pub answered : (v : Verdict) {r c d : ℕ} {lent left : List ℕ} → v ≡ Accepted c d → Hands (map_checked v) r lent left → r ≡ 0
@@ -52,6 +52,6 @@ unfolding handed map_checked
 handed_out v e h = let k = rw e at h.numbers in (cc, cc)
 
 -- a refusal's number is the answer
-pub refused_by : (v : Verdict) {r n : ℕ} {lent left : List ℕ} → v ≡ Refused n → Hands (map_checked v) r lent left → r ≡ n
+pub refused_by : (v : Verdict) {r n : ℕ} {lent left : List ℕ} → v ≡ Err n → Hands (map_checked v) r lent left → r ≡ n
 unfolding map_checked
 refused_by v e h = refused_as (map_checked v) (ap map_checked e) h

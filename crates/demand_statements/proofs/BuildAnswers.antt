@@ -17,8 +17,6 @@ use Rattle.asmap_program.proofs.Widths.{at_width_lem, no_width, a_width, neither
 use Rattle.byte_numbers.proofs.NumberLaws.{AllBytes}
 use Rattle.prefix_records.specs.Tiling.{past_of, holds, number_of}
 use Rattle.prefix_records.proofs.PlaceLaws.{held_from, held_if}
-use Rattle.prefix_lists.specs.declared.Judged.{Judged}
-use Rattle.prefix_lists.specs.declared.Judged.TheVariants as judged
 use Rattle.prefix_lists.specs.List.{big, count_of, address_at, length_at, piece_at, number_at, earliest, fits, is_number, judge}
 use Rattle.prefix_lists.specs.models.Listed.{Rising}
 use Rattle.prefix_lists.proofs.BigLaws.{halves, big-eight}
@@ -30,7 +28,7 @@ use Rattle.prefix_lists.proofs.NumberLaws.{number_held, number_none}
 use Rattle.asmap_listing.proofs.AddressLaws.{number_wider}
 use Rattle.asmap_bit_writer.specs.Bytes.{bytes_of}
 use Rattle.asmap_bit_writer.proofs.ByteLaws.{length-bytes_of}
-use Rattle.asmap_records.specs.Output.{Result, Made, No, refuse, within, answer_of}
+use Rattle.asmap_records.specs.Output.{Making, Made, No, refuse, within, answer_of}
 use Rattle.asmap_build.specs.Build.{number_in, tree_bits, build_as, build_of, build_at}
 use Rattle.asmap_build.specs.Promise as promise
 use Rattle.asmap_build.proofs.WidthLaws.{number_scaled}
@@ -42,6 +40,11 @@ use Rattle.demand_statements.specs.Built.{InRange, Right, Builds, Built}
 use Rattle.demand_statements.proofs.AnswerLaws.{numbered, refused_as}
 use Rattle.demand_statements.proofs.TripLaws.{wrote, has_room, no_room, left_alone}
 use Rattle.demand_statements.proofs.ListBytes.{address_number}
+use Rattle.prefix_lists.specs.Judged.{Listed}
+use Rattle.refusals.specs.declared.Refusal.{Refusal}
+use Rattle.std.specs.Prelude.{Result, Err}
+use Rattle.refusals.specs.declared.Fault.TheVariants as fault
+use Rattle.refusals.specs.declared.Refusal.TheVariants as refusal
 
 -- ---- the fields of a record
 
@@ -110,7 +113,7 @@ module _ (w : ℕ) (l : List ℕ) (given : ℕ) (r : Right l given w) where
         is-number (piece_at l j).number (subst InRange (sym (number_read l j)) (r.numbers j h)),
       )
 
-  right_listed : judge w l given ≡ judged.Listed
+  right_listed : judge w l given ≡ Listed
   right_listed = all_passed w l given (record { whole = r.whole; each = passes_at; last = is-number given r.others })
 
 -- ---- the call
@@ -124,34 +127,34 @@ unfolding build_of
 at_bits l given w h = at_width_lem w No (build_of l given w) (a_width w h)
 
 -- what was made, was made at a width from a list that is not refused
-made_from : (l : List ℕ) (given w : ℕ) (bs : List ℕ) → build_at l given w ≡ Made bs → (is_width w ≡ true) × (judge w l given ≡ judged.Listed)
+made_from : (l : List ℕ) (given w : ℕ) (bs : List ℕ) → build_at l given w ≡ Made bs → (is_width w ≡ true) × (judge w l given ≡ Listed)
 unfolding at_width build_of
 made_from l given w bs e = go (is_width w) refl e
   where
-    by : (v : Judged) → judge w l given ≡ v → build_as (tree_bits l given w) v ≡ Made bs → judge w l given ≡ judged.Listed
-    by judged.Listed q h = q
-    by (judged.Refused n) q h = let z : ◌≡◌ {A = ℕ} 0 1 = cc in absurd (omega arith)
+    by : (v : Result (Unit {0}) Refusal) → judge w l given ≡ v → build_as (tree_bits l given w) v ≡ Made bs → judge w l given ≡ Listed
+    by Listed q h = q
+    by (Err n) q h = let z : ◌≡◌ {A = ℕ} 0 1 = cc in absurd (omega arith)
 
-    go : (b : Bool) → is_width w ≡ b → mathlib.Core.Bool.cond b (build_of l given w) (No 18) ≡ Made bs → (is_width w ≡ true) × (judge w l given ≡ judged.Listed)
+    go : (b : Bool) → is_width w ≡ b → mathlib.Core.Bool.cond b (build_of l given w) (No refusal.Width) ≡ Made bs → (is_width w ≡ true) × (judge w l given ≡ Listed)
     go true q h = (q, by (judge w l given) refl h)
     go false q h = let z : ◌≡◌ {A = ℕ} 0 1 = cc in absurd (omega arith)
 
 -- a right list is answered, or its map is over the limit
 answers : (l : List ℕ) (given w : ℕ) (o o' : List ℕ) {r x x' : ℕ} → Writes (build_at l given w) o o' r (x ∷ []) (x' ∷ [])
-    → (w ≡ 32) ⊎ (w ≡ 128) → judge w l given ≡ judged.Listed → 16777216 ≤ length o → (r ≡ 0) ⊎ (r ≡ 1)
+    → (w ≡ 32) ⊎ (w ≡ 128) → judge w l given ≡ Listed → 16777216 ≤ length o → (r ≡ 0) ⊎ (r ≡ 1)
 unfolding bytes_written refuse
 answers l given w o o' {r} h k e room = go (ltb 134217728 (length bits)) refl
   where
     bits : List ℕ
     bits = tree_bits l given w
 
-    made : build_at l given w ≡ refuse (ltb 134217728 (length bits)) 1 (Made (bytes_of bits))
+    made : build_at l given w ≡ refuse (ltb 134217728 (length bits)) (refusal.Map fault.MapTooLong) (Made (bytes_of bits))
     made = at_bits l given w k ∙ ap (build_as bits) e
 
     go : (b : Bool) → ltb 134217728 (length bits) ≡ b → (r ≡ 0) ⊎ (r ≡ 1)
-    go true q = inr (refused_as _ (ap (λ (x : Result). bytes_written (answer_of (within (length o) x))) (made ∙ ap (λ (b : Bool). refuse b 1 (Made (bytes_of bits))) q)) h.hands)
+    go true q = inr (refused_as _ (ap (λ (x : Making). bytes_written (answer_of (within (length o) x))) (made ∙ ap (λ (b : Bool). refuse b (refusal.Map fault.MapTooLong) (Made (bytes_of bits))) q)) h.hands)
     go false q =
-        inl (has_room (build_at l given w) (bytes_of bits) o o' (made ∙ ap (λ (b : Bool). refuse b 1 (Made (bytes_of bits))) q)
+        inl (has_room (build_at l given w) (bytes_of bits) o o' (made ∙ ap (λ (b : Bool). refuse b (refusal.Map fault.MapTooLong) (Made (bytes_of bits))) q)
         (omega (arith, length-bytes_of bits, ltb-false 134217728 (length bits) q, room)) h)
 
 pub builds : (l : List ℕ) (given w : ℕ) (o o' : List ℕ) {r x x' : ℕ} → Writes (build_at l given w) o o' r (x ∷ []) (x' ∷ []) → Builds l given w o o' r x x'
@@ -167,12 +170,12 @@ builds l given w o o' h = record {
   untouched = left_alone (build_at l given w) h;
 }
   where
-    by : Result → Outcome
+    by : Making → Outcome
     by x = bytes_written (answer_of (within (length o) x))
 
 -- ---- what was built
 
-module _ (l : List ℕ) (given w : ℕ) (bytes : AllBytes l) (wide : is_width w ≡ true) (fine : judge w l given ≡ judged.Listed) where
+module _ (l : List ℕ) (given w : ℕ) (bytes : AllBytes l) (wide : is_width w ≡ true) (fine : judge w l given ≡ Listed) where
   rising : Rising w l
   rising = (judged_rising w l given bytes fine).0
 

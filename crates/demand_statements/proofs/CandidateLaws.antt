@@ -10,7 +10,6 @@ use borrow.Author.Tests.{eq-eqb, ne_eqb}
 use lib.Dec.{eqb, ltb}
 use lib.ListN.{length, take, drop, get_or, length-drop}
 use lib.Seq.{length-take-le, take-take, drop-drop, get_or-take, get_or-drop}
-use Rattle.peer_lists.specs.declared.Refusal.TheVariants.{None}
 use Rattle.candidate_bytes.specs.Candidate.{address, mapped_front, mapped, valid}
 use Rattle.peer_lists.specs.Refusal.{candidate_refusal}
 use Rattle.netgroup.specs.Group.{prefix4, old_prefix_group, ipv4, prefix_group}
@@ -19,6 +18,7 @@ use Rattle.pick_passes.specs.First.{Pass, examine, pass_from}
 use Rattle.pick_passes.proofs.Passes.{examine_count}
 use Rattle.demand_statements.specs.AnyInput.{Candidate}
 use Rattle.demand_statements.specs.Picked.{each, ipv4_at, prefix_at, old_prefix_at}
+use Rattle.std.specs.Prelude.{None}
 
 -- ---- one candidate
 

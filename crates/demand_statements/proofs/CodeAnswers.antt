@@ -14,13 +14,10 @@ use Rattle.asmap_program.specs.Core.{Read}
 use Rattle.asmap_codes.specs.Bits.{map_bits}
 use Rattle.asmap_codes.specs.Row.{Row, type_row, operand_row, span, in_range}
 use Rattle.asmap_codes.specs.Encode.{encode_of, instruction_bits}
-use Rattle.asmap_codes.specs.declared.Code.{Code}
-use Rattle.asmap_codes.specs.declared.Code.TheVariants.{Value, Cut}
 use Rattle.asmap_codes.specs.Code.{code, code_at, answered, part_from, read_code}
 use Rattle.asmap_codes.specs.Instruction.{answered_whole, fetch_at, with_opcode, read_instruction}
 use Rattle.asmap_codes.proofs.BitLaws.{length-map_bits}
 use Rattle.asmap_encode.specs.declared.Word.{Word}
-use Rattle.asmap_encode.specs.declared.Written.TheVariants.{Bits, Refused}
 use Rattle.asmap_encode.specs.Write.{puts, none, pick_written, write_code, write_instruction}
 use Rattle.answer_outcome.specs.Outcome.{Outcome, Done, No, Hands}
 use Rattle.answer_codes.specs.Codes.{code_read, instruction_read, bits_written}
@@ -28,6 +25,9 @@ use Rattle.answers.specs.Promise.{CoreCode}
 use Rattle.demand_statements.specs.Same.{CoreReads}
 use Rattle.demand_statements.specs.AnyInput.{Reads, ReadsInstruction, Writes, WritesInstruction, least_operand, greatest_operand}
 use Rattle.demand_statements.proofs.AnswerLaws.{kept, refused_as, done_as}
+use Rattle.asmap_codes.specs.Reading.{Code, Cut, Value}
+use Rattle.refusals.specs.declared.Refusal.TheVariants as refusal
+use Rattle.std.specs.Prelude.{Ok, Err, Option}
 
 -- ---- reading
 
@@ -74,7 +74,7 @@ read_cut m o h l e = refused_as _ (ap o (le-ltb limit (length m) l) ∙ e) h
 nothing : (m : List ℕ) (at : ℕ) → 8 * length m ≤ at → drop at (map_bits m) ≡ []
 nothing m at h = drop_of_length-le (map_bits m) {i = at} (omega (arith, length-map_bits m))
 
-read_code_lem : (p : Part) (b : Bool) (c : Code) → Outcomes (λ n. n ≡ cut_reason p) b (code_read (answered p b c))
+read_code_lem : (p : Part) (b : Bool) (c : Option Code) → Outcomes (λ n. n ≡ cut_reason p) b (code_read (answered p b c))
 unfolding code_read
 read_code_lem p true c = long
 read_code_lem p false (Value v n) = found
@@ -96,7 +96,7 @@ code_reads m at row e h =
       numbers = a.numbers;
       too_long = a.too_long;
       only_then = a.only_then;
-      past_the_end = λ l k. read_cut m o h l (ap (λ (c : Code). code_read (answered p false c)) (ap (code row.sizes row.least at) (nothing m at k) ∙ e));
+      past_the_end = λ l k. read_cut m o h l (ap (λ (c : Option Code). code_read (answered p false c)) (ap (code row.sizes row.least at) (nothing m at k) ∙ e));
       untouched = a.untouched;
     }
 
@@ -122,7 +122,7 @@ instruction_reads m at h =
       too_long = a.too_long;
       only_then = a.only_then;
       past_the_end = λ l k.
-          read_cut m o h l (ap (λ (c : Code). instruction_read (answered_whole false (with_opcode m at c))) (ap (code type_row.sizes type_row.least at) (nothing m at k)));
+          read_cut m o h l (ap (λ (c : Option Code). instruction_read (answered_whole false (with_opcode m at c))) (ap (code type_row.sizes type_row.least at) (nothing m at k)));
       untouched = a.untouched;
     }
 
@@ -141,13 +141,13 @@ module _ (row : Row) (greatest : ℕ) (top : row.least + span row.sizes ≡ grea
   outside (inl l) = rw (lt-leb row.least v l)
   outside (inr h) = rw (le-ltb v (row.least + span row.sizes) (omega arith)) (and-false (leb row.least v))
 
-wrote : (b : Bool) (w : Word) {r : ℕ} {entry exit : List ℕ} → b ≡ true → Hands (bits_written (pick_written b (Bits w) (Refused 15))) r entry exit → r ≡ 0
+wrote : (b : Bool) (w : Word) {r : ℕ} {entry exit : List ℕ} → b ≡ true → Hands (bits_written (pick_written b (Ok w) (Err refusal.OutOfRange))) r entry exit → r ≡ 0
 unfolding bits_written
-wrote b w e h = done_as _ (ap (λ (c : Bool). bits_written (pick_written c (Bits w) (Refused 15))) e) h
+wrote b w e h = done_as _ (ap (λ (c : Bool). bits_written (pick_written c (Ok w) (Err refusal.OutOfRange))) e) h
 
-unwritten : (b : Bool) (w : Word) {r : ℕ} {entry exit : List ℕ} → b ≡ false → Hands (bits_written (pick_written b (Bits w) (Refused 15))) r entry exit → r ≡ 15
+unwritten : (b : Bool) (w : Word) {r : ℕ} {entry exit : List ℕ} → b ≡ false → Hands (bits_written (pick_written b (Ok w) (Err refusal.OutOfRange))) r entry exit → r ≡ 15
 unfolding bits_written
-unwritten b w e h = refused_as _ (ap (λ (c : Bool). bits_written (pick_written c (Bits w) (Refused 15))) e) h
+unwritten b w e h = refused_as _ (ap (λ (c : Bool). bits_written (pick_written c (Ok w) (Err refusal.OutOfRange))) e) h
 
 pub code_writes : (row : Row) (greatest : ℕ) → row.least + span row.sizes ≡ greatest + 1 → (v : ℕ) {r : ℕ} {entry exit : List ℕ}
     → Hands (bits_written (write_code row v)) r entry exit → Writes row.least greatest v r entry exit

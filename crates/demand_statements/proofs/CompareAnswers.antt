@@ -10,8 +10,6 @@ use lib.Dec.{ltb}
 use lib.ListN.{length, drop}
 use lib.Seq.{drop-append_seam}
 use borrow.Author.Tests.{lt-ltb, le-ltb}
-use Rattle.asmap_program.specs.declared.Verdict.{Verdict}
-use Rattle.asmap_program.specs.declared.Verdict.TheVariants.{Accepted, Refused}
 use Rattle.asmap_check.specs.Check.{check_of, Reason}
 use Rattle.asmap_records.specs.Output.{Made, refuse, within, answer_of, leaves}
 use Rattle.prefix_changes.specs.Change.{Change}
@@ -33,6 +31,9 @@ use Rattle.demand_statements.proofs.TripLaws.{wrote, left_alone}
 use Rattle.demand_statements.proofs.WalkLaws.{has-bits, Ends}
 use Rattle.demand_statements.proofs.MapAnswers.{reason-number, number_1}
 use Rattle.demand_statements.proofs.ListAnswers.{walk-number}
+use Rattle.asmap_program.specs.Verdict.{Accepted, Verdict}
+use Rattle.std.specs.Prelude.{Err, Ok}
+use Rattle.refusals.specs.declared.Refusal.TheVariants as refusal
 
 -- a number that either check, or a room too short, gives
 abbrev OfTwo : ℕ → Type 0
@@ -64,16 +65,16 @@ changed m n w o o' v = record {
 
 -- what is lent for the address, by whether it is too short
 module _ (cs : List Change) (o o' : List ℕ) {r : ℕ} {lent left : List ℕ} where
-  past_first : (b : Bool) → Hands (bytes_needed (needed_with (Told cs) (refuse b 14 (Made (first_changed cs))))) r lent left
-      → o' ≡ leaves (refuse b 14 (Made (first_changed cs))) o → r ≡ 0 → drop 16 o' ≡ drop 16 o
+  past_first : (b : Bool) → Hands (bytes_needed (needed_with (Told cs) (refuse b refusal.OutputTooShort (Made (first_changed cs))))) r lent left
+      → o' ≡ leaves (refuse b refusal.OutputTooShort (Made (first_changed cs))) o → r ≡ 0 → drop 16 o' ≡ drop 16 o
   unfolding refuse bytes_needed IsDone
   past_first true h e z = absurd (h.zero_is_done z)
   past_first false h e z =
       let f = first_changed cs in
       ap (drop 16) e ∙ ap (λ (k : ℕ). drop k (f ++ drop (length f) o)) (sym (first-length cs)) ∙ drop-append_seam f (drop (length f) o) ∙ ap (λ (k : ℕ). drop k o) (first-length cs)
 
-  left-first : (b : Bool) → Hands (bytes_needed (needed_with (Told cs) (refuse b 14 (Made (first_changed cs))))) r lent left
-      → o' ≡ leaves (refuse b 14 (Made (first_changed cs))) o → (r ≡ 0 → ⊥) → o' ≡ o
+  left-first : (b : Bool) → Hands (bytes_needed (needed_with (Told cs) (refuse b refusal.OutputTooShort (Made (first_changed cs))))) r lent left
+      → o' ≡ leaves (refuse b refusal.OutputTooShort (Made (first_changed cs))) o → (r ≡ 0 → ⊥) → o' ≡ o
   unfolding refuse bytes_needed handed
   left-first true h e n = e
   left-first false h e n = let k = h.numbers in let z : r ≡ 0 = cc in absurd (n z)
@@ -97,10 +98,10 @@ found m n w o o' {r} {bytes} {bytes'} v = record {
   new_refused = λ c d k e f. refused_as _ (ap (λ (x : Comparison). bytes_needed (needed_with x (within (length o) (first_made x)))) (new_refused m n w c d k e f)) v.hands;
   answered = λ c d c' d' e f l.
       done_as _ (ap (λ (x : Comparison). bytes_needed (needed_with x (within (length o) (first_made x)))) (told m n w c d c' d' e f)
-      ∙ ap (λ (b : Bool). bytes_needed (needed_with (Told (changes_of m n w)) (refuse b 14 (Made (first_changed (changes_of m n w)))))) (le-ltb (length o) (length (first_changed (changes_of m n w))) (omega (arith, first-length (changes_of m n w), l)))) v.hands;
+      ∙ ap (λ (b : Bool). bytes_needed (needed_with (Told (changes_of m n w)) (refuse b refusal.OutputTooShort (Made (first_changed (changes_of m n w)))))) (le-ltb (length o) (length (first_changed (changes_of m n w))) (omega (arith, first-length (changes_of m n w), l)))) v.hands;
   no_room = λ c d c' d' e f l.
       refused_as _ (ap (λ (x : Comparison). bytes_needed (needed_with x (within (length o) (first_made x)))) (told m n w c d c' d' e f)
-      ∙ ap (λ (b : Bool). bytes_needed (needed_with (Told (changes_of m n w)) (refuse b 14 (Made (first_changed (changes_of m n w)))))) (lt-ltb (length o) (length (first_changed (changes_of m n w))) (omega (arith, first-length (changes_of m n w), l)))) v.hands;
+      ∙ ap (λ (b : Bool). bytes_needed (needed_with (Told (changes_of m n w)) (refuse b refusal.OutputTooShort (Made (first_changed (changes_of m n w)))))) (lt-ltb (length o) (length (first_changed (changes_of m n w))) (omega (arith, first-length (changes_of m n w), l)))) v.hands;
   past = past_finds (comparison m n w) o o' v;
   untouched = λ z. (left_finds (comparison m n w) o o' v z, let e = kept _ v.hands z in cc);
 }
@@ -115,9 +116,9 @@ both_accepted m n w cs e = go (check_of m w) refl (check_of n w) refl
   where
     go : (v : Verdict) → check_of m w ≡ v → (u : Verdict) → check_of n w ≡ u
         → (c : ℕ) × (d : ℕ) × (c' : ℕ) × (d' : ℕ) × (check_of m w ≡ Accepted c d) × (check_of n w ≡ Accepted c' d')
-    go (Refused k) h u g = let x = rw h at e in let z : ◌≡◌ {A = ℕ} 0 1 = cc in absurd (omega arith)
-    go (Accepted c d) h (Refused k) g = let x = rw (h, g) at e in let z : ◌≡◌ {A = ℕ} 0 1 = cc in absurd (omega arith)
-    go (Accepted c d) h (Accepted c' d') g = (c, d, c', d', h, g)
+    go (Err k) h u g = let x = rw h at e in let z : ◌≡◌ {A = ℕ} 0 1 = cc in absurd (omega arith)
+    go (Ok got) h (Err k) g = let x = rw (h, g) at e in let z : ◌≡◌ {A = ℕ} 0 1 = cc in absurd (omega arith)
+    go (Ok got) h (Ok got') g = (got.count, got.depth, got'.count, got'.depth, h, g)
 
 -- what was asked for and answered by 0 was told, and its length handed out
 told-length : (x : Comparison) (o o' : List ℕ) {r bytes : ℕ} {lent : List ℕ} → Finds x o o' r lent (bytes ∷ []) → r ≡ 0
@@ -125,7 +126,7 @@ told-length : (x : Comparison) (o o' : List ℕ) {r bytes : ℕ} {lent : List �
 unfolding bytes_needed IsDone handed refuse
 told-length (Told cs) o o' {r} {bytes} {lent} w z = (cs, refl, go (ltb (length o) (length (first_changed cs))) w.hands)
   where
-    go : (b : Bool) → Hands (bytes_needed (needed_with (Told cs) (refuse b 14 (Made (first_changed cs))))) r lent (bytes ∷ []) → bytes ≡ length (change_records_of cs)
+    go : (b : Bool) → Hands (bytes_needed (needed_with (Told cs) (refuse b refusal.OutputTooShort (Made (first_changed cs))))) r lent (bytes ∷ []) → bytes ≡ length (change_records_of cs)
     go true h = absurd (h.zero_is_done z)
     go false h = let k = h.numbers in cc
 told-length (Refuses k) o o' w z = absurd (w.hands.zero_is_done z)

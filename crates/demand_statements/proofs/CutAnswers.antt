@@ -9,13 +9,9 @@ use native.Mathlib.Omega.{arith}
 use native.Mathlib.Decide.{dec_le}
 use lib.Dec.{ltb}
 use lib.ListN.{length}
-use Rattle.asmap_program.specs.declared.Verdict.{Verdict}
-use Rattle.asmap_program.specs.declared.Verdict.TheVariants.{Accepted, Refused}
 use Rattle.asmap_program.specs.Map.{limit, Opcode, Fetched, CutOpcode, CutOperand}
 use Rattle.asmap_program.specs.Check.{check}
 use Rattle.asmap_program.proofs.Refusals.{Shows, stops_at_a_cut}
-use Rattle.asmap_codes.specs.declared.Code.{Code}
-use Rattle.asmap_codes.specs.declared.Code.TheVariants.{Value, Cut}
 use Rattle.asmap_codes.specs.Row.{type_row, operand_row}
 use Rattle.asmap_codes.specs.Code.{code_at, answered, read_code}
 use Rattle.asmap_codes.specs.Instruction.{map_of, with_operand, with_opcode, fetch_at, answered_whole, read_instruction}
@@ -27,17 +23,20 @@ use Rattle.answer_codes.specs.Codes.{code_read, instruction_read}
 use Rattle.demand_statements.specs.AnyInput.{Stops}
 use Rattle.demand_statements.specs.Cut.{WhichIsCut, HandedOn}
 use Rattle.demand_statements.proofs.AnswerLaws.{refused_as, done_as}
+use Rattle.asmap_program.specs.Verdict.{Verdict}
+use Rattle.asmap_codes.specs.Reading.{Code, Cut, Value}
+use Rattle.std.specs.Prelude.{Err, Option, Ok}
 
 -- ---- an opcode read, and the instruction at the same bit
 
 -- an instruction behind an opcode: done, or its operand is cut
-behind : (at op : ℕ) (c : Code) {r : ℕ} {entry exit : List ℕ} → Hands (instruction_read (answered_whole false (with_operand at op c))) r entry exit → r ≢ 0 → r ≡ 19
+behind : (at op : ℕ) (c : Option Code) {r : ℕ} {entry exit : List ℕ} → Hands (instruction_read (answered_whole false (with_operand at op c))) r entry exit → r ≢ 0 → r ≡ 19
 unfolding instruction_read
 behind at op (Value v n) h z = absurd (z (done_as _ refl h))
 behind at op Cut h z = refused_as _ refl h
 
 -- long: whether the map is too long; c: the opcode as it was read
-which : (m : List ℕ) (at : ℕ) (long : Bool) (c : Code) {q r : ℕ} {lent left entry exit : List ℕ} → Hands (code_read (answered Opcode long c)) q lent left
+which : (m : List ℕ) (at : ℕ) (long : Bool) (c : Option Code) {q r : ℕ} {lent left entry exit : List ℕ} → Hands (code_read (answered Opcode long c)) q lent left
     → Hands (instruction_read (answered_whole long (with_opcode m at c))) r entry exit → WhichIsCut q r
 unfolding code_read instruction_read
 which m at true c k h = let one = refused_as _ refl k in record { opcode = λ z. absurd (omega arith); operand = λ z. absurd (omega arith) }
@@ -62,12 +61,12 @@ module _ (m : List ℕ) (w : ℕ) {a reason place r : ℕ} {lent entry exit : Li
       by (yes l) = l
       by (no l) = let one = s.too_long (omega arith) in absurd (omega arith)
 
-  refused : reason ≢ 0 → check (map_of m) w ≡ Refused reason
+  refused : reason ≢ 0 → check (map_of m) w ≡ Err reason
   refused n = checked m w short ∙ by (check_of m w) refl
     where
-      by : (v : Verdict) → check_of m w ≡ v → check_of m w ≡ Refused reason
-      by (Accepted c d) e = absurd (n (s.accepted c d z e))
-      by (Refused k) e = e ∙ ap Refused (sym (s.refused k z e))
+      by : (v : Verdict) → check_of m w ≡ v → check_of m w ≡ Err reason
+      by (Ok got) e = absurd (n (s.accepted got.count got.depth z e))
+      by (Err k) e = e ∙ ap Err (sym (s.refused k z e))
 
   shows : reason ≢ 0 → Shows (map_of m) place reason
   shows n = subst (λ (p : ℕ). Shows (map_of m) p reason) (sym (s.exact z)) (stops_at_a_cut (map_of m) (laws m) w reason (refused n))

@@ -7,8 +7,6 @@ use native.Mathlib.Nat.{suc-mul, mul-mod_left}
 use native.Mathlib.Omega.{arith}
 use lib.ListN.{length, take}
 use lib.Pow.{pow_pos, pow-add}
-use Rattle.asmap_program.specs.declared.Verdict.{Verdict}
-use Rattle.asmap_program.specs.declared.Verdict.TheVariants.{Accepted, Refused}
 use Rattle.asmap_program.specs.Map.{address_bit}
 use Rattle.asmap_program.specs.Walk.{walk}
 use Rattle.asmap_codes.specs.Instruction.{map_of}
@@ -16,7 +14,7 @@ use Rattle.asmap_codes.proofs.MapLaws.{map_fetch}
 use Rattle.asmap_check.specs.Check.{check_of}
 use Rattle.asmap_walk_bits.specs.Walk.{walk_of}
 use Rattle.asmap_walk.specs.Interpret.{interpret_over}
-use Rattle.asmap_records.specs.Output.{Result, Made, No}
+use Rattle.asmap_records.specs.Output.{Making, Made, No}
 use Rattle.asmap_records.proofs.OutputLaws.{made_same}
 use Rattle.asmap_records.proofs.Reading.{stands}
 use Rattle.byte_numbers.proofs.NumberLaws.{AllBytes}
@@ -42,10 +40,12 @@ use Rattle.demand_statements.proofs.TripLaws.{wrote, has_room, no_room}
 use Rattle.demand_statements.proofs.WalkLaws.{has-bits, Ends}
 use Rattle.demand_statements.proofs.MapAnswers.{reason-number, number_1, CheckOr14, by_check}
 use Rattle.demand_statements.proofs.ListBytes.{Reads, reads, in_front, address_number}
+use Rattle.asmap_program.specs.Verdict.{Accepted, Verdict}
+use Rattle.std.specs.Prelude.{Err, Ok}
 
 -- ---- any input
 
-not_made : (m : List ℕ) (w n : ℕ) → check_of m w ≡ Refused n → list_of m w ≡ No n
+not_made : (m : List ℕ) (w n : ℕ) → check_of m w ≡ Err n → list_of m w ≡ No n
 unfolding list_of
 not_made m w n e = ap (list_as m) e
 
@@ -62,8 +62,8 @@ pub needs : (m : List ℕ) (w : ℕ) {r : ℕ} {entry exit : List ℕ} → Hands
 unfolding bytes_needed
 needs m w h = record {
   numbers = numbered CheckNumber _ (length-numbers CheckNumber m w (map-numbers CheckNumber reason-number m w number_1)) h;
-  accepted = λ c d e. done_as _ (ap (λ (x : Result). bytes_needed (bytes_of x)) (made m w c d e)) h;
-  refused = λ n e. refused_as _ (ap (λ (x : Result). bytes_needed (bytes_of x)) (not_made m w n e)) h;
+  accepted = λ c d e. done_as _ (ap (λ (x : Making). bytes_needed (bytes_of x)) (made m w c d e)) h;
+  refused = λ n e. refused_as _ (ap (λ (x : Making). bytes_needed (bytes_of x)) (not_made m w n e)) h;
   untouched = kept _ h;
 }
 
@@ -81,8 +81,8 @@ unfolding list_of
 accepts m w bs e = go (check_of m w) refl
   where
     go : (v : Verdict) → check_of m w ≡ v → (c : ℕ) × (d : ℕ) × (check_of m w ≡ Accepted c d)
-    go (Accepted c d) h = (c, d, h)
-    go (Refused n) h = let k = sym (ap (list_as m) h) ∙ e in let z : ◌≡◌ {A = ℕ} 0 1 = cc in absurd (omega arith)
+    go (Ok got) h = (got.count, got.depth, h)
+    go (Err n) h = let k = sym (ap (list_as m) h) ∙ e in let z : ◌≡◌ {A = ℕ} 0 1 = cc in absurd (omega arith)
 
 -- the first call refused, and nothing was listed
 pub unlisted : (m : List ℕ) (w : ℕ) (o : List ℕ) {r needed written : ℕ} {entry exit : List ℕ} → Hands (bytes_needed (needed_of m w)) r entry exit → (r ≡ 0 → ⊥) → ListedWithRoom m w o r needed written

@@ -8,9 +8,8 @@ use native.Mathlib.Decide.{ℕ_discrete, dec_le}
 use native.Mathlib.Omega.{arith}
 use lib.ListN.{length, take}
 use Rattle.asmap_check.specs.Check.{check_of}
-use Rattle.asmap_records.specs.Output.{Result, Made, No, within, answer_of}
+use Rattle.asmap_records.specs.Output.{Making, Made, No, within, answer_of}
 use Rattle.load_draws.specs.Draw.{next, draw, drawn_after}
-use Rattle.load_draws.specs.declared.Drawn.TheVariants as drawn
 use Rattle.load_draws.proofs.DrawLaws.{drawn-zero, drawn-some}
 use Rattle.asmap_load.specs.Load.{load_of}
 use Rattle.asmap_load.specs.Promise.{Passes, whole_address}
@@ -24,10 +23,12 @@ use Rattle.answers.proofs.NeverZeroLoads.{load-numbers, number_drawn_lem}
 use Rattle.demand_statements.specs.Loaded.{Draws, DrawsOn, Loads, Loaded, LoadChecked}
 use Rattle.demand_statements.proofs.AnswerLaws.{kept, numbered, refused_as, done_as, handed_out}
 use Rattle.demand_statements.proofs.TripLaws.{wrote, has_room, no_room, left_alone}
+use Rattle.std.specs.Prelude.{Ok}
+use Rattle.refusals.specs.declared.Refusal.TheVariants as refusal
 
 -- ---- draws
 
-same_number : {a b : ℕ} → drawn.Number a ≡ drawn.Number b → b ≡ a
+same_number : {a b : ℕ} → Ok a ≡ Ok b → b ≡ a
 same_number e = cc
 
 pub draws : (s : ℕ) {r d d' : ℕ} → Hands (number_drawn (drawn_after s)) r (d ∷ []) (d' ∷ []) → (r ≡ 0 → d' ≢ 0) → Draws s r d d'
@@ -63,10 +64,10 @@ not_drawn seed h n = record { zero = h.zero; never_refused = h.answered; exact =
 abbrev LoadNumber : ℕ → Type 0
 LoadNumber n = (n ≡ 14) ⊎ (n ≡ 20)
 
-many_or_none : (seed pairs : ℕ) → 128 < pairs → load_of seed pairs ≡ No 20
+many_or_none : (seed pairs : ℕ) → 128 < pairs → load_of seed pairs ≡ No refusal.Load
 many_or_none seed pairs h = go (ℕ_discrete seed 0)
   where
-    go : Dec (seed ≡ 0) → load_of seed pairs ≡ No 20
+    go : Dec (seed ≡ 0) → load_of seed pairs ≡ No refusal.Load
     go (yes z) = load_seed seed pairs z
     go (no z) = load_many seed pairs z h
 
@@ -82,7 +83,7 @@ loads seed pairs o o' h = record {
   untouched = left_alone (load_of seed pairs) h;
 }
   where
-    by : Result → Outcome
+    by : Making → Outcome
     by x = bytes_written (answer_of (within (length o) x))
 
 pub loaded : (seed pairs : ℕ) (o o' : List ℕ) {r w w' : ℕ} → Writes (load_of seed pairs) o o' r (w ∷ []) (w' ∷ [])

@@ -10,8 +10,6 @@ use native.Mathlib.Decide.{dec_le}
 use borrow.Author.Tests.{lt-ltb, le-ltb, ltb-false, eq-eqb, ne_eqb}
 use lib.Dec.{ltb, eqb}
 use lib.ListN.{length, drop}
-use Rattle.asmap_program.specs.declared.Verdict.{Verdict}
-use Rattle.asmap_program.specs.declared.Verdict.TheVariants.{Accepted, Refused}
 use Rattle.asmap_program.specs.declared.Kind.{Kind}
 use Rattle.asmap_program.specs.Map.{limit, address_bit}
 use Rattle.asmap_program.specs.Demand.{Answers, Aborts}
@@ -21,16 +19,13 @@ use Rattle.asmap_program.specs.Check.{check, StopsAt, stop_of}
 use Rattle.asmap_program.proofs.Stop.{stops_at, stop_inside}
 use Rattle.asmap_codes.specs.Instruction.{map_of}
 use Rattle.asmap_codes.proofs.MapLaws.{laws, map-bits}
-use Rattle.asmap_check.specs.declared.Stopped.TheVariants.{At}
 use Rattle.asmap_check.specs.Check.{unless_long, check_of, Reason, reason_of, stops_unless_long, stopped_of}
 use Rattle.asmap_check.proofs.Limit.{checked}
 use Rattle.asmap_walk_bits.specs.declared.Ending.{Ending}
-use Rattle.asmap_walk.specs.declared.Interpreted.{Interpreted}
-use Rattle.asmap_walk.specs.declared.Interpreted.TheVariants.{Ended}
 use Rattle.asmap_walk_bits.specs.Walk.{walk_of, summary}
 use Rattle.asmap_walk.specs.Interpret.{interpret_over, interpret_of, refused_if}
 use Rattle.asmap_walk.proofs.Promised.{as_128}
-use Rattle.asmap_records.specs.Output.{Result, No, refuse, within, answer_of}
+use Rattle.asmap_records.specs.Output.{Making, No, refuse, within, answer_of}
 use Rattle.asmap_records.specs.Unpack.{unpack_of}
 use Rattle.asmap_records.specs.Pack.{pack_bits, pack_of}
 use Rattle.asmap_records.proofs.OutputLaws.{made_same}
@@ -42,6 +37,11 @@ use Rattle.answers.proofs.NeverZeroMaps.{check-numbers, map-numbers, unpack-numb
 use Rattle.demand_statements.specs.AnyInput.{CheckNumber, Checks, Stops, Told, Walks, Unpacks, Packs}
 use Rattle.demand_statements.proofs.AnswerLaws.{kept, numbered, refused_as, done_as, handed_out, refused_by}
 use Rattle.demand_statements.proofs.TripLaws.{wrote, no_room, left_alone, unpack_made, unpack_size, unpack_answers}
+use Rattle.asmap_program.specs.Verdict.{Accepted, Verdict}
+use Rattle.asmap_check.specs.Stop.{At}
+use Rattle.refusals.specs.declared.Refusal.{Refusal}
+use Rattle.std.specs.Prelude.{Result, Ok, Err}
+use Rattle.refusals.specs.declared.Refusal.TheVariants as refusal
 
 -- ---- the check
 
@@ -112,7 +112,7 @@ module _ (m : List ℕ) (w : ℕ) {r reason place : ℕ} {entry : List ℕ} (h :
     too_long = λ l. refused_as _ (by_test true (lt-ltb limit (length m) l)) h;
     answered = λ l. done_as _ (by_test false (le-ltb limit (length m) l)) h;
     accepted = λ c d z e. same-reason z (Accepted c d) e;
-    refused = λ n z e. same-reason z (Refused n) e;
+    refused = λ n z e. same-reason z (Err n) e;
     exact = λ z. (found z).1.1;
     stands = λ z.
         let f = found z in
@@ -128,14 +128,14 @@ pub stops_as_checked : (m : List ℕ) (w : ℕ) {a r : ℕ} {reason place : ℕ}
 stops_as_checked m w {r} {reason} s z k = by (check_of m w) refl
   where
     by : (v : Verdict) → check_of m w ≡ v → reason ≡ r
-    by (Accepted c d) e = s.accepted c d z e ∙ sym (k.accepted c d e).0
-    by (Refused n) e = s.refused n z e ∙ sym (k.refused n e)
+    by (Ok got) e = s.accepted got.count got.depth z e ∙ sym (k.accepted got.count got.depth e).0
+    by (Err n) e = s.refused n z e ∙ sym (k.refused n e)
 
 -- ---- the walk
 
 -- the numbers of a walk that was made, by the call's two tests
 ends_with : (enough long : Bool) (e : Ending) {r kind number count bits : ℕ} {entry : List ℕ}
-    → Hands (walk_made (refused_if (not enough) 11 (refused_if long 1 (Ended e)))) r entry (kind ∷ number ∷ count ∷ bits ∷ [])
+    → Hands (walk_made (refused_if (not enough) 11 (refused_if long 1 (Ok e)))) r entry (kind ∷ number ∷ count ∷ bits ∷ [])
     → r ≡ 0 → kind ∷ number ∷ count ∷ bits ∷ [] ≡ end_numbers e
 unfolding handed IsDone walk_made
 ends_with false long e h z = absurd (h.zero_is_done z)
@@ -181,31 +181,31 @@ unfolding walk_made
 walks m a w whole h =
     let e = summary (walk_of m a w) in
     let long = ltb limit (length m) in
-    let by : Bool → Interpreted = λ (b : Bool). refused_if (not b) 11 (refused_if long 1 (Ended e)) in
-    let enough : length a ≡ w / 8 → walk_made (interpret_over m a w) ≡ walk_made (refused_if long 1 (Ended e)) =
+    let by : Bool → Result Ending Refusal = λ (b : Bool). refused_if (not b) 11 (refused_if long 1 (Ok e)) in
+    let enough : length a ≡ w / 8 → walk_made (interpret_over m a w) ≡ walk_made (refused_if long 1 (Ok e)) =
     λ l. ap (λ (b : Bool). walk_made (by b)) (eq-eqb (8 * length a) w (omega arith)) in
     record {
       no_address = λ n. refused_as _ (ap (λ (b : Bool). walk_made (by b)) (ne_eqb (8 * length a) w (λ z. n (omega arith)))) h;
-      too_long = λ l k. refused_as _ (enough l ∙ ap (λ (b : Bool). walk_made (refused_if b 1 (Ended e))) (lt-ltb limit (length m) k)) h;
-      answered = λ l k. done_as _ (enough l ∙ ap (λ (b : Bool). walk_made (refused_if b 1 (Ended e))) (le-ltb limit (length m) k)) h;
+      too_long = λ l k. refused_as _ (enough l ∙ ap (λ (b : Bool). walk_made (refused_if b 1 (Ok e))) (lt-ltb limit (length m) k)) h;
+      answered = λ l k. done_as _ (enough l ∙ ap (λ (b : Bool). walk_made (refused_if b 1 (Ok e))) (le-ltb limit (length m) k)) h;
       told = λ z. told (walk_of m a w) (zero_of m a w) (ends_with (eqb (8 * length a) w) long e h z);
       untouched = kept _ h;
     }
 
 -- the call that takes no width walks by 128 bits
 pub over_128 : (m a : List ℕ) {r : ℕ} {lent left : List ℕ} → Hands (walk_made (interpret_of m a)) r lent left → Hands (walk_made (interpret_over m a 128)) r lent left
-over_128 m a {r} {lent} {left} h = subst (λ (x : Interpreted). Hands (walk_made x) r lent left) (sym (as_128 m a)) h
+over_128 m a {r} {lent} {left} h = subst (λ (x : Result Ending Refusal). Hands (walk_made x) r lent left) (sym (as_128 m a)) h
 
 -- ---- unpack and pack
 
-not_made : (m : List ℕ) (w n : ℕ) → check_of m w ≡ Refused n → unpack_of m w ≡ No n
+not_made : (m : List ℕ) (w n : ℕ) → check_of m w ≡ Err n → unpack_of m w ≡ No n
 unfolding unpack_of
 not_made m w n e = rw e
 
 -- A call that writes what is made by the check's verdict, in a room as long as o.
 pub record ByCheck (m : List ℕ) (w : ℕ) (o o' : List ℕ) (r written written' : ℕ) : Type 0 where
   pub numbers : (r ≡ 0) ⊎ (CheckNumber r ⊎ (r ≡ 14))
-  pub refused : (n : ℕ) → check_of m w ≡ Refused n → r ≡ n
+  pub refused : (n : ℕ) → check_of m w ≡ Err n → r ≡ n
   pub past : r ≡ 0 → drop written' o' ≡ drop written' o
   pub untouched : (r ≡ 0 → ⊥) → (o' ≡ o) × (written' ≡ written)
 
@@ -213,13 +213,13 @@ pub record ByCheck (m : List ℕ) (w : ℕ) (o o' : List ℕ) (r written written
 abbrev pub CheckOr14 : ℕ → Type 0
 CheckOr14 n = CheckNumber n ⊎ (n ≡ 14)
 
-pub by_check : (m : List ℕ) (w : ℕ) (o o' : List ℕ) {r written written' : ℕ} (made : Result) → ((n : ℕ) → check_of m w ≡ Refused n → made ≡ No n)
+pub by_check : (m : List ℕ) (w : ℕ) (o o' : List ℕ) {r written written' : ℕ} (made : Making) → ((n : ℕ) → check_of m w ≡ Err n → made ≡ No n)
     → (CheckOr14 14 → Refuses CheckOr14 (map_checked (check_of m w)) → Refuses CheckOr14 (bytes_written (answer_of (within (length o) made))))
     → Writes made o o' r (written ∷ []) (written' ∷ []) → ByCheck m w o o' r written written'
 unfolding bytes_written
 by_check m w o o' made unmade numbers h = record {
   numbers = numbered CheckOr14 _ (numbers (inr refl) (map-numbers CheckOr14 (λ n k. inl (reason-number n k)) m w (inl number_1))) h.hands;
-  refused = λ n e. refused_as _ (ap (λ (x : Result). bytes_written (answer_of (within (length o) x))) (unmade n e)) h.hands;
+  refused = λ n e. refused_as _ (ap (λ (x : Making). bytes_written (answer_of (within (length o) x))) (unmade n e)) h.hands;
   past = λ z. (wrote made h z).past;
   untouched = left_alone made h;
 }
@@ -239,7 +239,7 @@ unpacks m w o o' {r} {written} {written'} h =
       untouched = b.untouched;
     }
 
-no_whole : (rs : List ℕ) → length rs % 16 ≢ 0 → pack_of rs ≡ No 16
+no_whole : (rs : List ℕ) → length rs % 16 ≢ 0 → pack_of rs ≡ No refusal.Record
 unfolding pack_of pack_bits refuse
 no_whole rs n = rw (ne_eqb (length rs % 16) 0 n)
 
@@ -250,7 +250,7 @@ pub packs : (rs o o' : List ℕ) {r written written' : ℕ} → Writes (pack_of 
 unfolding bytes_written
 packs rs o o' w = record {
   numbers = numbered PackNumber _ (pack-numbers PackNumber (inl refl) (inr (inr (inl refl))) (inr (inr (inr refl))) (length o) rs (inr (inl refl))) w.hands;
-  no_records = λ n. refused_as _ (ap (λ (x : Result). bytes_written (answer_of (within (length o) x))) (no_whole rs n)) w.hands;
+  no_records = λ n. refused_as _ (ap (λ (x : Making). bytes_written (answer_of (within (length o) x))) (no_whole rs n)) w.hands;
   past = λ z. (wrote (pack_of rs) w z).past;
   untouched = left_alone (pack_of rs) w;
 }

@@ -10,8 +10,6 @@ use borrow.Author.Tests.{eq-eqb, ne_eqb, lt-ltb, le-ltb}
 use lib.ListN.{length, take, drop}
 use Rattle.asmap_check.specs.Check.{check_of}
 use Rattle.asmap_walk_bits.specs.Walk.{walk_of}
-use Rattle.peer_lists.specs.declared.Refusal.{Refusal}
-use Rattle.peer_lists.specs.declared.Refusal.TheVariants.{None, Number}
 use Rattle.peer_lists.specs.Refusal.{or_else, list_refusal}
 use Rattle.peer_lists.specs.Candidates.{candidates_of, all_valid}
 use Rattle.peer_lists.proofs.Lists.{candidate_at_lem, length_candidates}
@@ -20,8 +18,7 @@ use Rattle.netgroup.specs.Refusal.{limit_refusal, check_refusal}
 use Rattle.netgroup.specs.Ended.{Finished}
 use Rattle.pick_passes.specs.Ranked.{groups_of}
 use Rattle.pick_passes.proofs.Lists.{length-groups}
-use Rattle.asmap_records.specs.declared.Answer.TheVariants.{Wrote}
-use Rattle.asmap_records.specs.Output.{Result, Made, No, within, answer_of}
+use Rattle.asmap_records.specs.Output.{Making, Made, No, within, answer_of}
 use Rattle.asmap_records.proofs.OutputLaws.{made_same}
 use Rattle.group_shares.specs.Spread.{spread}
 use Rattle.group_shares.proofs.ShareLaws.{spread_most}
@@ -46,24 +43,27 @@ use Rattle.demand_statements.proofs.MapAnswers.{number_1}
 use Rattle.demand_statements.proofs.PickAnswers.{refusal, Of, of_call, of_old, PickNumber, LoadedPick}
 use Rattle.demand_statements.proofs.PrintLaws.{printed_page}
 use Rattle.demand_statements.proofs.TripLaws as trip
+use Rattle.refusals.specs.declared.Refusal.{Refusal}
+use Rattle.std.specs.Prelude.{Ok, Option, Some, None}
+use Rattle.refusals.specs.declared.Refusal.TheVariants as refusal
 
 -- ---- what is made
 
-made_page : (why : Refusal) (n : Numbering) (all : List (List ℕ)) (bs : List ℕ) → page_unless why n all ≡ Made bs → bs ≡ page_of (groups_of n all)
+made_page : (why : Option Refusal) (n : Numbering) (all : List (List ℕ)) (bs : List ℕ) → page_unless why n all ≡ Made bs → bs ≡ page_of (groups_of n all)
 made_page None n all bs e = made_same e
-made_page (Number k) n all bs e = let z : ◌≡◌ {A = ℕ} 0 1 = cc in absurd (omega arith)
+made_page (Some k) n all bs e = let z : ◌≡◌ {A = ℕ} 0 1 = cc in absurd (omega arith)
 
 -- the bytes written, where the answer is 0
-printed : (of_map : Refusal) (n : Numbering) (bytes : List ℕ) {o o' : List ℕ} {r written written' : ℕ} → Writes (page_call of_map n bytes) o o' r (written ∷ []) (written' ∷ [])
+printed : (of_map : Option Refusal) (n : Numbering) (bytes : List ℕ) {o o' : List ℕ} {r written written' : ℕ} → Writes (page_call of_map n bytes) o o' r (written ∷ []) (written' ∷ [])
     → AllTell (length (groups_of n (candidates_of bytes))) (spread (groups_of n (candidates_of bytes))) → r ≡ 0 → Printed (groups_of n (candidates_of bytes)) (take written' o')
 printed of_map n bytes w t z =
     let u = trip.wrote (page_call of_map n bytes) w z in
     let e = u.there ∙ made_page (or_else (list_refusal bytes []) of_map) n (candidates_of bytes) u.bytes u.these in
     subst (Printed (groups_of n (candidates_of bytes))) (sym e) (printed_page (groups_of n (candidates_of bytes)) t)
 
-module _ (of_map : Refusal) (m bytes : List ℕ) {o o' : List ℕ} {r written written' : ℕ} where
-  printed_by-map : Writes (page_call of_map (by_map m) bytes) o o' r (written ∷ []) (written' ∷ []) → (r ≡ 0 → Told (by_map m) bytes (Wrote written'))
-      → (r ≡ 0 → Unaborted (by_map m) bytes (Wrote written')) → r ≡ 0 → PrintedByMap m bytes (take written' o')
+module _ (of_map : Option Refusal) (m bytes : List ℕ) {o o' : List ℕ} {r written written' : ℕ} where
+  printed_by-map : Writes (page_call of_map (by_map m) bytes) o o' r (written ∷ []) (written' ∷ []) → (r ≡ 0 → Told (by_map m) bytes (Ok written'))
+      → (r ≡ 0 → Unaborted (by_map m) bytes (Ok written')) → r ≡ 0 → PrintedByMap m bytes (take written' o')
   unfolding Told Unaborted
   printed_by-map w t u z =
       let k = length bytes / 20 in
@@ -76,13 +76,13 @@ module _ (of_map : Refusal) (m bytes : List ℕ) {o o' : List ℕ} {r written wr
 
   -- n: of which numbering
   printed_by-prefix : (n : Numbering) (prefix : ℕ → ℕ) → ((i : ℕ) → group_of n (take 20 (drop (20 * i) bytes)) ≡ prefix i)
-      → Writes (page_call of_map n bytes) o o' r (written ∷ []) (written' ∷ []) → (r ≡ 0 → Told n bytes (Wrote written')) → r ≡ 0 → Printed (each (length bytes / 20) prefix) (take written' o')
+      → Writes (page_call of_map n bytes) o o' r (written ∷ []) (written' ∷ []) → (r ≡ 0 → Told n bytes (Ok written')) → r ≡ 0 → Printed (each (length bytes / 20) prefix) (take written' o')
   unfolding Told
   printed_by-prefix n prefix at w t z =
       subst (λ (gs : List ℕ). Printed gs (take written' o')) (each_candidate (group_of n) prefix (length bytes / 20) bytes at) (printed of_map n bytes w (t z) z)
 
   paged_as : (has : ℕ) → Writes (page_call of_map (numbering (grouping_of has) m) bytes) o o' r (written ∷ []) (written' ∷ [])
-      → (r ≡ 0 → Told (numbering (grouping_of has) m) bytes (Wrote written')) → (r ≡ 0 → Unaborted (numbering (grouping_of has) m) bytes (Wrote written'))
+      → (r ≡ 0 → Told (numbering (grouping_of has) m) bytes (Ok written')) → (r ≡ 0 → Unaborted (numbering (grouping_of has) m) bytes (Ok written'))
       → r ≡ 0 → Paged has m bytes (take written' o')
   unfolding grouping_of
   paged_as zero w t u z = record { by_map = λ n. absurd (n refl); by_prefix = λ y. printed_by-prefix by_prefixes (prefix_at bytes) (prefix_at_lem bytes) w t z }
@@ -90,11 +90,11 @@ module _ (of_map : Refusal) (m bytes : List ℕ) {o o' : List ℕ} {r written wr
 
 -- ---- the paper's order
 
-module _ (of_map : Refusal) (n : Numbering) (bytes : List ℕ) where
-  thirteen : length bytes % 20 ≢ 0 → page_call of_map n bytes ≡ No 13
+module _ (of_map : Option Refusal) (n : Numbering) (bytes : List ℕ) where
+  thirteen : length bytes % 20 ≢ 0 → page_call of_map n bytes ≡ No refusal.Candidate
   thirteen e = rw (ne_eqb (length bytes % 20) 0 e)
 
-  twelve : length bytes % 20 ≡ 0 → 4096 < length bytes / 20 → page_call of_map n bytes ≡ No 12
+  twelve : length bytes % 20 ≡ 0 → 4096 < length bytes / 20 → page_call of_map n bytes ≡ No refusal.TooMany
   twelve e l = rw (eq-eqb (length bytes % 20) 0 e, lt-ltb 4096 (length bytes / 20) l)
 
   passes : length bytes % 20 ≡ 0 → length bytes / 20 ≤ 4096 → all_valid (candidates_of bytes) ≡ true → list_refusal bytes [] ≡ None
@@ -106,9 +106,9 @@ module _ (of_map : Refusal) (n : Numbering) (bytes : List ℕ) where
       let gs = groups_of n (candidates_of bytes) in
       omega (arith, length-lines (length gs) (spread gs), spread_most gs, length-groups n (candidates_of bytes), length_candidates bytes)
 
-refused_with : (made : Result) {o o' : List ℕ} {r k written written' : ℕ} → made ≡ No k → Writes made o o' r (written ∷ []) (written' ∷ []) → r ≡ k
+refused_with : (made : Making) {o o' : List ℕ} {r k written written' : ℕ} → made ≡ No k → Writes made o o' r (written ∷ []) (written' ∷ []) → r ≡ k
 unfolding bytes_written
-refused_with made {o} e w = refused_as _ (ap (λ (x : Result). bytes_written (answer_of (within (length o) x))) e) w.hands
+refused_with made {o} e w = refused_as _ (ap (λ (x : Making). bytes_written (answer_of (within (length o) x))) e) w.hands
 
 pages : (has : ℕ) (m bytes o o' : List ℕ) (n : Numbering) → Of has m n → {r written written' : ℕ} → Writes (page_call (check_refusal n) n bytes) o o' r (written ∷ []) (written' ∷ [])
     → Pages has m bytes o o' r written written'
@@ -142,7 +142,7 @@ loaded_pages m bytes o o' w =
 
 module _ (m bytes o o' : List ℕ) {r written written' : ℕ} where
   pub page_concluded : (has : ℕ) → Writes (spread_page (numbering (grouping_of has) m) bytes) o o' r (written ∷ []) (written' ∷ [])
-      → (r ≡ 0 → Told (numbering (grouping_of has) m) bytes (Wrote written')) → (r ≡ 0 → Unaborted (numbering (grouping_of has) m) bytes (Wrote written'))
+      → (r ≡ 0 → Told (numbering (grouping_of has) m) bytes (Ok written')) → (r ≡ 0 → Unaborted (numbering (grouping_of has) m) bytes (Ok written'))
       → (r ≡ 0 → Paged has m bytes (take written' o')) × Pages has m bytes o o' r written written'
   unfolding spread_page
   page_concluded has w t u =
@@ -152,14 +152,14 @@ module _ (m bytes o o' : List ℕ) {r written written' : ℕ} where
   -- the check answered q, 0
   pub loaded_page_concluded : {q k d : ℕ} {lent : List ℕ} → Hands (map_checked (check_of m 128)) q lent (k ∷ d ∷ []) → q ≡ 0
       → Writes (spread_unchecked (numbering (grouping_of 1) m) bytes) o o' r (written ∷ []) (written' ∷ [])
-      → (r ≡ 0 → Told (numbering (grouping_of 1) m) bytes (Wrote written'))
-      → (check_refusal (numbering (grouping_of 1) m) ≡ None → r ≡ 0 → Unaborted (numbering (grouping_of 1) m) bytes (Wrote written'))
+      → (r ≡ 0 → Told (numbering (grouping_of 1) m) bytes (Ok written'))
+      → (check_refusal (numbering (grouping_of 1) m) ≡ None → r ≡ 0 → Unaborted (numbering (grouping_of 1) m) bytes (Ok written'))
       → (r ≡ 0 → PrintedByMap m bytes (take written' o')) × LoadedPages o o' r written written'
   unfolding spread_unchecked grouping_of
   loaded_page_concluded v z w t u = (printed_by-map (limit_refusal (by_map m)) m bytes w t (u (unrefused m v z)), loaded_pages m bytes o o' w)
 
 -- in the old numbering
-pub old_page_concluded : (bytes o o' : List ℕ) {r written written' : ℕ} → Writes (old_prefix_page bytes) o o' r (written ∷ []) (written' ∷ []) → (r ≡ 0 → Told by_old_prefixes bytes (Wrote written'))
+pub old_page_concluded : (bytes o o' : List ℕ) {r written written' : ℕ} → Writes (old_prefix_page bytes) o o' r (written ∷ []) (written' ∷ []) → (r ≡ 0 → Told by_old_prefixes bytes (Ok written'))
     → (r ≡ 0 → Printed (each (length bytes / 20) (old_prefix_at bytes)) (take written' o')) × Pages 0 [] bytes o o' r written written'
 unfolding old_prefix_page
 old_page_concluded bytes o o' w t =

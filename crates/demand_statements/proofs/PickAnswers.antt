@@ -10,18 +10,14 @@ use borrow.Author.Tests.{eq-eqb, ne_eqb, lt-ltb, le-ltb}
 use lib.Dec.{ltb}
 use lib.ListN.{length}
 use Rattle.asmap_check.specs.Check.{check_of}
-use Rattle.peer_lists.specs.declared.Refusal.{Refusal}
-use Rattle.peer_lists.specs.declared.Refusal.TheVariants.{None, Number}
 use Rattle.candidate_bytes.specs.Candidate.{valid}
 use Rattle.netgroup.specs.Group.{Numbering, by_map, by_old_prefixes, numbering}
 use Rattle.netgroup.specs.Refusal.{verdict_refusal, limit_refusal, check_refusal}
 use Rattle.peer_lists.specs.Refusal.{or_else, refuse_if, candidate_refusal, list_refusal}
-use Rattle.netgroup.specs.declared.GroupAnswer.TheVariants as group
 use Rattle.netgroup.specs.Netgroup.{group_unless, prefix_group_call, netgroup_of, netgroup_unchecked, Whole}
 use Rattle.peer_lists.proofs.Refusals.{none_first, none-later, none_more}
 use Rattle.peer_lists.specs.Candidates.{candidates_of, all_valid}
 use Rattle.netgroup_pick.specs.PickRefusal.{room_refusal, pick_refusal}
-use Rattle.netgroup_pick.specs.declared.PickAnswer.TheVariants as pick
 use Rattle.netgroup_pick.specs.Demand.{Demand3, Unaborted}
 use Rattle.netgroup_pick.specs.Pick.{pick_unless, select_diverse, select_unchecked, old_prefix_pick}
 use Rattle.answer_outcome.specs.Outcome.{handed, IsDone, Hands}
@@ -35,6 +31,9 @@ use Rattle.demand_statements.proofs.AnswerLaws.{kept, numbered, refused_as, done
 use Rattle.demand_statements.proofs.CandidateLaws.{candidate_passes, candidates-valid}
 use Rattle.demand_statements.proofs.MapAnswers.{reason-number, number_1, check-number}
 use Rattle.demand_statements.proofs.PickLaws.{unrefused, grouped, grouped_old, grouped_loaded, picked_as, picked_old, picked_loaded}
+use Rattle.refusals.specs.declared.Refusal.{Refusal}
+use Rattle.std.specs.Prelude.{Ok, Option, Some, None}
+use Rattle.refusals.specs.declared.Refusal.TheVariants as refusal
 
 pub refusal : (m : List ℕ) {r : ℕ} {entry exit : List ℕ} → Hands (map_checked (check_of m 128)) r entry exit → (r ≡ 0 → ⊥) → CheckNumber r
 refusal m {r} h n = some (check-number m 128 h)
@@ -71,7 +70,7 @@ of_old = record { numbers = λ P h. tt; passes = λ u. refl }
 abbrev GroupNumber : ℕ → ℕ → Type 0
 GroupNumber has n = (n ≡ 13) ⊎ ((has ≢ 0) × CheckNumber n)
 
-none_there : (c : List ℕ) → length c ≢ 20 → candidate_refusal c ≡ Number 13
+none_there : (c : List ℕ) → length c ≢ 20 → candidate_refusal c ≡ Some 13
 unfolding valid
 none_there c n = rw (ne_eqb (length c) 20 n)
 
@@ -80,14 +79,14 @@ unfolding group_found
 groups has m c n o h =
     record {
       numbers = numbered (GroupNumber has) _ (group-numbers (GroupNumber has) (check_refusal n) n c (inl refl) (o.numbers (GroupNumber has) (λ w k t. inr (w, t)))) h;
-      no_candidate = λ e. refused_as _ (ap (λ (w : Refusal). group_found (group_unless (or_else w (check_refusal n)) n c)) (none_there c e)) h;
-      answered = λ l k u. done_as _ (ap₂ (λ (v w : Refusal). group_found (group_unless (or_else v w) n c)) (candidate_passes c l k) (o.passes u)) h;
+      no_candidate = λ e. refused_as _ (ap (λ (w : Option Refusal). group_found (group_unless (or_else w (check_refusal n)) n c)) (none_there c e)) h;
+      answered = λ l k u. done_as _ (ap₂ (λ (v w : Option Refusal). group_found (group_unless (or_else v w) n c)) (candidate_passes c l k) (o.passes u)) h;
       untouched = kept _ h;
     }
 
 -- what the caller of a group call concludes
 pub group_concluded : (has : ℕ) (m c : List ℕ) {r g g' : ℕ} → Hands (group_found (netgroup_of (numbering (grouping_of has) m) c)) r (g ∷ []) (g' ∷ [])
-    → (r ≡ 0 → Whole (numbering (grouping_of has) m) c (group.Group g')) → (r ≡ 0 → Grouped has m c g') × Groups has m c r (g ∷ []) (g' ∷ [])
+    → (r ≡ 0 → Whole (numbering (grouping_of has) m) c (Ok g')) → (r ≡ 0 → Grouped has m c g') × Groups has m c r (g ∷ []) (g' ∷ [])
 group_concluded has m c h w =
     (grouped has (check_refusal (numbering (grouping_of has) m)) m c h w, groups has m c (numbering (grouping_of has) m) (of_call has m) h)
 
@@ -115,7 +114,7 @@ loaded_groups m c h =
 -- the check answered q, 0
 pub loaded_concluded : (m c : List ℕ) {q k d r g g' : ℕ} {lent : List ℕ} → Hands (map_checked (check_of m 128)) q lent (k ∷ d ∷ []) → q ≡ 0
     → Hands (group_found (netgroup_unchecked (numbering (grouping_of 1) m) c)) r (g ∷ []) (g' ∷ [])
-    → (check_refusal (numbering (grouping_of 1) m) ≡ None → r ≡ 0 → Whole (numbering (grouping_of 1) m) c (group.Group g'))
+    → (check_refusal (numbering (grouping_of 1) m) ≡ None → r ≡ 0 → Whole (numbering (grouping_of 1) m) c (Ok g'))
     → (r ≡ 0 → Grouped 1 m c g') × LoadedGroups r (g ∷ []) (g' ∷ [])
 loaded_concluded m c v z h w = (grouped_loaded (limit_refusal (numbering (grouping_of 1) m)) m c (unrefused m v z) h w, loaded_groups m c h)
 
@@ -129,38 +128,38 @@ LoadedPick n = (n ≡ 12) ⊎ ((n ≡ 13) ⊎ ((n ≡ 14) ⊎ CheckNumber n))
 
 module _ (n : Numbering) (bytes occupied : List ℕ) (max : ℕ) (picks groups : List ℕ) where
   -- what a refusal leaves, by the reason
-  left_alone : (why : Refusal) {r : ℕ} {lent left picks' groups' : List ℕ}
+  left_alone : (why : Option Refusal) {r : ℕ} {lent left picks' groups' : List ℕ}
       → call.Picks (pick_unless why n (candidates_of bytes) occupied max picks groups) r lent left picks' groups' → (r ≡ 0 → ⊥) → (picks' ≡ picks) × (groups' ≡ groups)
   unfolding handed pick_made
   left_alone None {r} p k = let e = p.hands.numbers in let z : r ≡ 0 = cc in absurd (k z)
-  left_alone (Number j) p k = (p.picks_left, p.groups_left)
+  left_alone (Some j) p k = (p.picks_left, p.groups_left)
 
   -- 0 says that there is no reason
-  no_reason : (why : Refusal) {r : ℕ} {lent left : List ℕ}
+  no_reason : (why : Option Refusal) {r : ℕ} {lent left : List ℕ}
       → Hands (pick_made (pick_unless why n (candidates_of bytes) occupied max picks groups).answer) r lent left → r ≡ 0 → why ≡ None
   unfolding IsDone pick_made
   no_reason None h z = refl
-  no_reason (Number j) h z = absurd (h.zero_is_done z)
+  no_reason (Some j) h z = absurd (h.zero_is_done z)
 
-  reason : (why : Refusal) {k r : ℕ} {lent left : List ℕ} → why ≡ Number k
+  reason : (why : Option Refusal) {k r : ℕ} {lent left : List ℕ} → why ≡ Some k
       → Hands (pick_made (pick_unless why n (candidates_of bytes) occupied max picks groups).answer) r lent left → r ≡ k
   unfolding pick_made
-  reason why e h = refused_as _ (ap (λ (w : Refusal). pick_made (pick_unless w n (candidates_of bytes) occupied max picks groups).answer) e) h
+  reason why e h = refused_as _ (ap (λ (w : Option Refusal). pick_made (pick_unless w n (candidates_of bytes) occupied max picks groups).answer) e) h
 
-  done_by : (why : Refusal) {r : ℕ} {lent left : List ℕ} → why ≡ None
+  done_by : (why : Option Refusal) {r : ℕ} {lent left : List ℕ} → why ≡ None
       → Hands (pick_made (pick_unless why n (candidates_of bytes) occupied max picks groups).answer) r lent left → r ≡ 0
   unfolding pick_made
-  done_by why e h = done_as _ (ap (λ (w : Refusal). pick_made (pick_unless w n (candidates_of bytes) occupied max picks groups).answer) e) h
+  done_by why e h = done_as _ (ap (λ (w : Option Refusal). pick_made (pick_unless w n (candidates_of bytes) occupied max picks groups).answer) e) h
 
 -- the paper's order: 13 for the length, 12, 12
-module _ (of_map : Refusal) (bytes occupied : List ℕ) (max : ℕ) (picks groups : List ℕ) where
-  thirteen : length bytes % 20 ≢ 0 → pick_refusal of_map bytes occupied max picks groups ≡ Number 13
+module _ (of_map : Option Refusal) (bytes occupied : List ℕ) (max : ℕ) (picks groups : List ℕ) where
+  thirteen : length bytes % 20 ≢ 0 → pick_refusal of_map bytes occupied max picks groups ≡ Some 13
   thirteen e = rw (ne_eqb (length bytes % 20) 0 e)
 
-  twelve : length bytes % 20 ≡ 0 → 4096 < length bytes / 20 → pick_refusal of_map bytes occupied max picks groups ≡ Number 12
+  twelve : length bytes % 20 ≡ 0 → 4096 < length bytes / 20 → pick_refusal of_map bytes occupied max picks groups ≡ Some 12
   twelve e l = rw (eq-eqb (length bytes % 20) 0 e, lt-ltb 4096 (length bytes / 20) l)
 
-  twelve_occupied : length bytes % 20 ≡ 0 → length bytes / 20 ≤ 4096 → 4096 < length occupied → pick_refusal of_map bytes occupied max picks groups ≡ Number 12
+  twelve_occupied : length bytes % 20 ≡ 0 → length bytes / 20 ≤ 4096 → 4096 < length occupied → pick_refusal of_map bytes occupied max picks groups ≡ Some 12
   twelve_occupied e k l = rw (eq-eqb (length bytes % 20) 0 e, le-ltb 4096 (length bytes / 20) k, lt-ltb 4096 (length occupied) l)
 
   passes : length bytes % 20 ≡ 0 → length bytes / 20 ≤ 4096 → length occupied ≤ 4096 → all_valid (candidates_of bytes) ≡ true → of_map ≡ None
@@ -174,8 +173,8 @@ module _ (of_map : Refusal) (bytes occupied : List ℕ) (max : ℕ) (picks group
   roomy e =
       let most = min max (length bytes / 20) in
       let r = none-later of_map (room_refusal (length bytes / 20) max picks groups) (none-later (list_refusal bytes occupied) _ e) in (
-        none_more (length picks) most 14 (none_first (refuse_if (ltb (length picks) most) 14) _ r),
-        none_more (length groups) most 14 (none-later (refuse_if (ltb (length picks) most) 14) _ r),
+        none_more (length picks) most 14 (none_first (refuse_if (ltb (length picks) most) refusal.OutputTooShort) _ r),
+        none_more (length groups) most 14 (none-later (refuse_if (ltb (length picks) most) refusal.OutputTooShort) _ r),
       )
 
 picks : (has : ℕ) (m bytes occupied : List ℕ) (max : ℕ) (ps gs : List ℕ) (n : Numbering) → Of has m n → {r : ℕ} {entry exit ps' gs' : List ℕ}
@@ -215,8 +214,8 @@ loaded_picks m bytes occupied max ps gs p =
 module _ (m bytes occupied : List ℕ) (max : ℕ) (ps gs : List ℕ) {r total taken examined instructions : ℕ} {entry ps' gs' : List ℕ} where
   pub pick_concluded : (has : ℕ)
       → call.Picks (select_diverse (numbering (grouping_of has) m) bytes occupied max ps gs) r entry (total ∷ taken ∷ examined ∷ instructions ∷ []) ps' gs'
-      → (r ≡ 0 → Demand3 (numbering (grouping_of has) m) (candidates_of bytes) occupied max (pick.Picked (totals_of total taken examined instructions)) ps' gs')
-      → (r ≡ 0 → Unaborted (numbering (grouping_of has) m) (candidates_of bytes) (pick.Picked (totals_of total taken examined instructions)))
+      → (r ≡ 0 → Demand3 (numbering (grouping_of has) m) (candidates_of bytes) occupied max (Ok (totals_of total taken examined instructions)) ps' gs')
+      → (r ≡ 0 → Unaborted (numbering (grouping_of has) m) (candidates_of bytes) (Ok (totals_of total taken examined instructions)))
       → (r ≡ 0 → Picked m bytes occupied max ps' gs' taken examined instructions has)
       × Picks has m bytes occupied max r entry (total ∷ taken ∷ examined ∷ instructions ∷ []) ps ps' gs gs'
   pick_concluded has p d u =
@@ -226,8 +225,8 @@ module _ (m bytes occupied : List ℕ) (max : ℕ) (ps gs : List ℕ) {r total t
   -- the check answered q, 0
   pub loaded_pick_concluded : {q k d : ℕ} {lent : List ℕ} → Hands (map_checked (check_of m 128)) q lent (k ∷ d ∷ []) → q ≡ 0
       → call.Picks (select_unchecked (numbering (grouping_of 1) m) bytes occupied max ps gs) r entry (total ∷ taken ∷ examined ∷ instructions ∷ []) ps' gs'
-      → (r ≡ 0 → Demand3 (numbering (grouping_of 1) m) (candidates_of bytes) occupied max (pick.Picked (totals_of total taken examined instructions)) ps' gs')
-      → (check_refusal (numbering (grouping_of 1) m) ≡ None → r ≡ 0 → Unaborted (numbering (grouping_of 1) m) (candidates_of bytes) (pick.Picked (totals_of total taken examined instructions)))
+      → (r ≡ 0 → Demand3 (numbering (grouping_of 1) m) (candidates_of bytes) occupied max (Ok (totals_of total taken examined instructions)) ps' gs')
+      → (check_refusal (numbering (grouping_of 1) m) ≡ None → r ≡ 0 → Unaborted (numbering (grouping_of 1) m) (candidates_of bytes) (Ok (totals_of total taken examined instructions)))
       → (r ≡ 0 → ByMap m bytes occupied max ps' gs' taken examined instructions)
       × LoadedPicks r entry (total ∷ taken ∷ examined ∷ instructions ∷ []) ps ps' gs gs'
   loaded_pick_concluded v z p d u =
@@ -236,7 +235,7 @@ module _ (m bytes occupied : List ℕ) (max : ℕ) (ps gs : List ℕ) {r total t
 -- in the old numbering
 pub old_pick_concluded : (bytes occupied : List ℕ) (max : ℕ) (ps gs : List ℕ) {r total taken examined instructions : ℕ} {entry ps' gs' : List ℕ}
     → call.Picks (old_prefix_pick bytes occupied max ps gs) r entry (total ∷ taken ∷ examined ∷ instructions ∷ []) ps' gs'
-    → (r ≡ 0 → Demand3 by_old_prefixes (candidates_of bytes) occupied max (pick.Picked (totals_of total taken examined instructions)) ps' gs')
+    → (r ≡ 0 → Demand3 by_old_prefixes (candidates_of bytes) occupied max (Ok (totals_of total taken examined instructions)) ps' gs')
     → (r ≡ 0 → ByPrefixes (old_prefix_at bytes) bytes occupied max ps' gs' taken examined instructions)
     × Picks 0 [] bytes occupied max r entry (total ∷ taken ∷ examined ∷ instructions ∷ []) ps ps' gs gs'
 old_pick_concluded bytes occupied max ps gs p d = (picked_old None [] bytes occupied max ps gs p d, picks 0 [] bytes occupied max ps gs by_old_prefixes of_old p)

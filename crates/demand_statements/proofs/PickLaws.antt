@@ -8,16 +8,11 @@ use lib.ListN.{length, take, drop}
 use lib.Seq.{take-nil}
 use Rattle.asmap_check.specs.Check.{check_of}
 use Rattle.asmap_walk_bits.specs.Walk.{walk_of}
-use Rattle.peer_lists.specs.declared.Refusal.{Refusal}
-use Rattle.peer_lists.specs.declared.Refusal.TheVariants.{None, Number}
-use Rattle.netgroup.specs.declared.GroupAnswer.TheVariants as group
 use Rattle.netgroup.specs.Group.{Numbering, by_map, by_prefixes, by_old_prefixes, numbering, group_of, walk_for}
 use Rattle.netgroup.specs.Refusal.{verdict_refusal, check_refusal}
 use Rattle.peer_lists.specs.Refusal.{or_else, candidate_refusal}
 use Rattle.netgroup.specs.Netgroup.{group_unless, group_call, prefix_group_call, Whole}
 use Rattle.netgroup.specs.Ended.{Finished}
-use Rattle.netgroup_pick.specs.declared.PickAnswer.{PickAnswer}
-use Rattle.netgroup_pick.specs.declared.PickAnswer.TheVariants as pick
 use Rattle.peer_lists.specs.Candidates.{candidates_of}
 use Rattle.pick_passes.specs.First.{begin, first_pass}
 use Rattle.netgroup_pick.specs.Pick.{pick_unless, pick_call}
@@ -33,6 +28,9 @@ use Rattle.answers.proofs.Promised.{found, picked}
 use Rattle.demand_statements.specs.Picked.{walk_at, prefix_at, old_prefix_at, Ends, Grouped, Passed, ByMap, ByPrefixes, Picked}
 use Rattle.demand_statements.proofs.AnswerLaws.{accepted}
 use Rattle.demand_statements.proofs.CandidateLaws.{address_at_lem, prefix_of, prefix_at_lem, old-prefix_of, old-prefix_at, each_candidate, pass_examined}
+use Rattle.netgroup_pick.specs.declared.Totals.{Totals}
+use Rattle.refusals.specs.declared.Refusal.{Refusal}
+use Rattle.std.specs.Prelude.{Result, Ok, Err, Option, Some, None}
 
 -- ---- the walk behind a group
 
@@ -50,14 +48,14 @@ unrefused m h z = ap verdict_refusal (accepted (check_of m 128) h z)
 
 -- ---- a group
 
-same_group : (why : Refusal) (n : Numbering) (c : List ℕ) (g : ℕ) → group_unless why n c ≡ group.Group g → g ≡ group_of n c
+same_group : (why : Option Refusal) (n : Numbering) (c : List ℕ) (g : ℕ) → group_unless why n c ≡ Ok g → g ≡ group_of n c
 same_group None n c g e = cc
-same_group (Number k) n c g e = let z : ◌≡◌ {A = ℕ} 0 1 = cc in absurd (omega arith)
+same_group (Some k) n c g e = let z : ◌≡◌ {A = ℕ} 0 1 = cc in absurd (omega arith)
 
 -- of_map: what is wrong with the map; has: whether there is one
-pub grouped : (has : ℕ) (of_map : Refusal) (m c : List ℕ) {r g : ℕ} {lent : List ℕ}
+pub grouped : (has : ℕ) (of_map : Option Refusal) (m c : List ℕ) {r g : ℕ} {lent : List ℕ}
     → Hands (group_found (group_call of_map (numbering (grouping_of has) m) c)) r lent (g ∷ [])
-    → (r ≡ 0 → Whole (numbering (grouping_of has) m) c (group.Group g)) → r ≡ 0 → Grouped has m c g
+    → (r ≡ 0 → Whole (numbering (grouping_of has) m) c (Ok g)) → r ≡ 0 → Grouped has m c g
 unfolding grouping_of
 grouped zero of_map m c {r} {g} h w z =
     let e = same_group (or_else (candidate_refusal c) of_map) by_prefixes c g (found (group_call of_map by_prefixes c) h z) in
@@ -71,29 +69,29 @@ pub grouped_old : (c : List ℕ) {r g : ℕ} {lent : List ℕ} → Hands (group_
 grouped_old c {r} {g} h z = same_group (or_else (candidate_refusal c) None) by_old_prefixes c g (found (prefix_group_call c) h z) ∙ old-prefix_of c
 
 -- by a map that was checked before
-pub grouped_loaded : (of_map : Refusal) (m c : List ℕ) {r g : ℕ} {lent : List ℕ} → check_refusal (by_map m) ≡ None
+pub grouped_loaded : (of_map : Option Refusal) (m c : List ℕ) {r g : ℕ} {lent : List ℕ} → check_refusal (by_map m) ≡ None
     → Hands (group_found (group_call of_map (numbering (grouping_of 1) m) c)) r lent (g ∷ [])
-    → (check_refusal (numbering (grouping_of 1) m) ≡ None → r ≡ 0 → Whole (numbering (grouping_of 1) m) c (group.Group g)) → r ≡ 0 → Grouped 1 m c g
+    → (check_refusal (numbering (grouping_of 1) m) ≡ None → r ≡ 0 → Whole (numbering (grouping_of 1) m) c (Ok g)) → r ≡ 0 → Grouped 1 m c g
 unfolding grouping_of
 grouped_loaded of_map m c q h w z = grouped 1 of_map m c h (w q) z
 
 -- ---- a pick
 
 -- how many the first pass picked
-abbrev taken_of : PickAnswer → ℕ
-taken_of (pick.Picked t) = t.first
-taken_of (pick.Refused k) = 0
+abbrev taken_of : Result Totals Refusal → ℕ
+taken_of (Ok t) = t.first
+taken_of (Err k) = 0
 
-taken_by : (why : Refusal) (n : Numbering) (bytes occupied : List ℕ) (max : ℕ) (picks₀ groups₀ : List ℕ) (total taken examined instructions : ℕ)
-    → (pick_unless why n (candidates_of bytes) occupied max picks₀ groups₀).answer ≡ pick.Picked (totals_of total taken examined instructions)
+taken_by : (why : Option Refusal) (n : Numbering) (bytes occupied : List ℕ) (max : ℕ) (picks₀ groups₀ : List ℕ) (total taken examined instructions : ℕ)
+    → (pick_unless why n (candidates_of bytes) occupied max picks₀ groups₀).answer ≡ Ok (totals_of total taken examined instructions)
     → taken ≡ length (first n (candidates_of bytes) occupied max).places
 taken_by None n bytes occupied max picks₀ groups₀ total taken examined instructions e = sym (ap taken_of e)
-taken_by (Number k) n bytes occupied max picks₀ groups₀ total taken examined instructions e = let z : ◌≡◌ {A = ℕ} 0 1 = cc in absurd (omega arith)
+taken_by (Some k) n bytes occupied max picks₀ groups₀ total taken examined instructions e = let z : ◌≡◌ {A = ℕ} 0 1 = cc in absurd (omega arith)
 
-module _ (of_map : Refusal) (m bytes occupied : List ℕ) (max : ℕ) (picks₀ groups₀ : List ℕ)
+module _ (of_map : Option Refusal) (m bytes occupied : List ℕ) (max : ℕ) (picks₀ groups₀ : List ℕ)
     {r total taken examined instructions : ℕ} {lent picks groups : List ℕ} where
   module _ (n : Numbering) (p : Picks (pick_call of_map n bytes occupied max picks₀ groups₀) r lent (total ∷ taken ∷ examined ∷ instructions ∷ []) picks groups)
-      (d : r ≡ 0 → Demand3 n (candidates_of bytes) occupied max (pick.Picked (totals_of total taken examined instructions)) picks groups) (z : r ≡ 0) where
+      (d : r ≡ 0 → Demand3 n (candidates_of bytes) occupied max (Ok (totals_of total taken examined instructions)) picks groups) (z : r ≡ 0) where
     -- gs: the groups of all candidates
     passed : (gs : List ℕ) → groups_of n (candidates_of bytes) ≡ gs → Passed (first_pass occupied max gs) picks groups taken examined
     passed gs e =
@@ -108,8 +106,8 @@ module _ (of_map : Refusal) (m bytes occupied : List ℕ) (max : ℕ) (picks₀ 
         omega (arith, (d z).examined, pass_examined occupied max begin (groups_of n (candidates_of bytes)), length-groups n (candidates_of bytes), length_candidates bytes)
 
   picked_by-map : Picks (pick_call of_map (by_map m) bytes occupied max picks₀ groups₀) r lent (total ∷ taken ∷ examined ∷ instructions ∷ []) picks groups
-      → (r ≡ 0 → Demand3 (by_map m) (candidates_of bytes) occupied max (pick.Picked (totals_of total taken examined instructions)) picks groups)
-      → (r ≡ 0 → Unaborted (by_map m) (candidates_of bytes) (pick.Picked (totals_of total taken examined instructions)))
+      → (r ≡ 0 → Demand3 (by_map m) (candidates_of bytes) occupied max (Ok (totals_of total taken examined instructions)) picks groups)
+      → (r ≡ 0 → Unaborted (by_map m) (candidates_of bytes) (Ok (totals_of total taken examined instructions)))
       → r ≡ 0 → ByMap m bytes occupied max picks groups taken examined instructions
   picked_by-map p d u z =
       let k = length bytes / 20 in
@@ -124,7 +122,7 @@ module _ (of_map : Refusal) (m bytes occupied : List ℕ) (max : ℕ) (picks₀ 
   -- n: of which numbering
   picked_by-prefix : (n : Numbering) (prefix : ℕ → ℕ) → walk_counts n (candidates_of bytes) ≡ [] → ((i : ℕ) → group_of n (take 20 (drop (20 * i) bytes)) ≡ prefix i)
       → Picks (pick_call of_map n bytes occupied max picks₀ groups₀) r lent (total ∷ taken ∷ examined ∷ instructions ∷ []) picks groups
-      → (r ≡ 0 → Demand3 n (candidates_of bytes) occupied max (pick.Picked (totals_of total taken examined instructions)) picks groups)
+      → (r ≡ 0 → Demand3 n (candidates_of bytes) occupied max (Ok (totals_of total taken examined instructions)) picks groups)
       → r ≡ 0 → ByPrefixes prefix bytes occupied max picks groups taken examined instructions
   picked_by-prefix n prefix none at p d z =
       record {
@@ -133,14 +131,14 @@ module _ (of_map : Refusal) (m bytes occupied : List ℕ) (max : ℕ) (picks₀ 
       }
 
   pub picked_old : Picks (pick_call of_map by_old_prefixes bytes occupied max picks₀ groups₀) r lent (total ∷ taken ∷ examined ∷ instructions ∷ []) picks groups
-      → (r ≡ 0 → Demand3 by_old_prefixes (candidates_of bytes) occupied max (pick.Picked (totals_of total taken examined instructions)) picks groups)
+      → (r ≡ 0 → Demand3 by_old_prefixes (candidates_of bytes) occupied max (Ok (totals_of total taken examined instructions)) picks groups)
       → r ≡ 0 → ByPrefixes (old_prefix_at bytes) bytes occupied max picks groups taken examined instructions
   picked_old = picked_by-prefix by_old_prefixes (old_prefix_at bytes) refl (old-prefix_at bytes)
 
   pub picked_as : (has : ℕ)
       → Picks (pick_call of_map (numbering (grouping_of has) m) bytes occupied max picks₀ groups₀) r lent (total ∷ taken ∷ examined ∷ instructions ∷ []) picks groups
-      → (r ≡ 0 → Demand3 (numbering (grouping_of has) m) (candidates_of bytes) occupied max (pick.Picked (totals_of total taken examined instructions)) picks groups)
-      → (r ≡ 0 → Unaborted (numbering (grouping_of has) m) (candidates_of bytes) (pick.Picked (totals_of total taken examined instructions)))
+      → (r ≡ 0 → Demand3 (numbering (grouping_of has) m) (candidates_of bytes) occupied max (Ok (totals_of total taken examined instructions)) picks groups)
+      → (r ≡ 0 → Unaborted (numbering (grouping_of has) m) (candidates_of bytes) (Ok (totals_of total taken examined instructions)))
       → r ≡ 0 → Picked m bytes occupied max picks groups taken examined instructions has
   unfolding grouping_of
   picked_as zero p d u z = record { by_map = λ n. absurd (n refl); by_prefix = λ y. picked_by-prefix by_prefixes (prefix_at bytes) refl (prefix_at_lem bytes) p d z }
@@ -149,8 +147,8 @@ module _ (of_map : Refusal) (m bytes occupied : List ℕ) (max : ℕ) (picks₀ 
   -- by a map that was checked before
   pub picked_loaded : check_refusal (by_map m) ≡ None
       → Picks (pick_call of_map (numbering (grouping_of 1) m) bytes occupied max picks₀ groups₀) r lent (total ∷ taken ∷ examined ∷ instructions ∷ []) picks groups
-      → (r ≡ 0 → Demand3 (numbering (grouping_of 1) m) (candidates_of bytes) occupied max (pick.Picked (totals_of total taken examined instructions)) picks groups)
-      → (check_refusal (numbering (grouping_of 1) m) ≡ None → r ≡ 0 → Unaborted (numbering (grouping_of 1) m) (candidates_of bytes) (pick.Picked (totals_of total taken examined instructions)))
+      → (r ≡ 0 → Demand3 (numbering (grouping_of 1) m) (candidates_of bytes) occupied max (Ok (totals_of total taken examined instructions)) picks groups)
+      → (check_refusal (numbering (grouping_of 1) m) ≡ None → r ≡ 0 → Unaborted (numbering (grouping_of 1) m) (candidates_of bytes) (Ok (totals_of total taken examined instructions)))
       → r ≡ 0 → ByMap m bytes occupied max picks groups taken examined instructions
   unfolding grouping_of
   picked_loaded q p d u z = picked_by-map p d (u q) z

@@ -11,14 +11,12 @@ use lib.Dec.{eqb}
 use lib.ListN.{length}
 use Rattle.asmap_program.specs.declared.Kind.{Kind}
 use Rattle.asmap_program.specs.declared.Kind.TheVariants.{Returned, Differed, OpcodeCut, OperandCut, TooFewBits}
-use Rattle.asmap_program.specs.declared.Verdict.TheVariants.{Accepted}
 use Rattle.asmap_program.specs.Walk as Program
 use Rattle.asmap_program.specs.Demand.{EndsWith}
 use Rattle.asmap_program.specs.Core.{core_interpret, Number}
 use Rattle.asmap_program.specs.Map.{address_bit}
 use Rattle.asmap_codes.specs.Core.{file_of}
 use Rattle.asmap_check.specs.Check.{check_of}
-use Rattle.asmap_walk.specs.declared.Interpreted.{Interpreted}
 use Rattle.asmap_walk_bits.specs.Walk.{walk_of}
 use Rattle.asmap_walk.specs.Interpret.{refused_if, interpret_over}
 use Rattle.answer_outcome.specs.Outcome.{IsDone, Hands}
@@ -26,6 +24,10 @@ use Rattle.answer_maps.specs.Maps.{map_checked, kind_number, walk_made}
 use Rattle.answers.specs.Promise.{Finished, Demand3, CoreNumber}
 use Rattle.demand_statements.specs.Walked.{EndsAt, Walked, AcceptedWalk}
 use Rattle.demand_statements.proofs.AnswerLaws.{accepted, answered}
+use Rattle.asmap_program.specs.Verdict.{Accepted}
+use Rattle.asmap_walk_bits.specs.declared.Ending.{Ending}
+use Rattle.refusals.specs.declared.Refusal.{Refusal}
+use Rattle.std.specs.Prelude.{Result}
 
 -- the kind that a number tells
 returned : (k : Kind) (n : ℕ) → n ≡ kind_number k → n ≡ 1 → k ≡ Returned
@@ -76,7 +78,7 @@ walked m a w r kind number count bits f =
     }
 
 -- a walk that was made had an address of w bits
-enough : (b : Bool) (x : Interpreted) {r : ℕ} {lent left : List ℕ} → Hands (walk_made (refused_if (not b) 11 x)) r lent left → r ≡ 0 → b ≡ true
+enough : (b : Bool) (x : Result Ending Refusal) {r : ℕ} {lent left : List ℕ} → Hands (walk_made (refused_if (not b) 11 x)) r lent left → r ≡ 0 → b ≡ true
 unfolding IsDone walk_made
 enough true x h z = refl
 enough false x h z = absurd (h.zero_is_done z)

@@ -6,14 +6,11 @@ use mathlib.Core.Logic.{◌⊎◌}
 use mathlib.Core.List.{List, [], ◌∷◌}
 use native.Mathlib.Omega.{arith}
 use lib.ListN.{take}
-use Rattle.asmap_program.specs.declared.Verdict.TheVariants as verdict
 use Rattle.asmap_program.proofs.Widths.{a_width, narrow, whole-bytes}
-use Rattle.asmap_check.specs.declared.Stopped.TheVariants as stopped
 use Rattle.asmap_check.specs.Check.{check_of, check_at, stopped_of, stopped_at}
 use Rattle.asmap_check.proofs.Limit.{accepted_at_more}
-use Rattle.asmap_walk.specs.declared.Interpreted.TheVariants as walk
 use Rattle.asmap_walk.specs.Interpret.{interpret_over, interpret_at}
-use Rattle.asmap_records.specs.Output.{Result, No}
+use Rattle.asmap_records.specs.Output.{Making, No}
 use Rattle.asmap_records.specs.Unpack.{unpack_of, unpack_at}
 use Rattle.asmap_records.specs.Pack.{pack_of}
 use Rattle.byte_numbers.proofs.NumberLaws.{AllBytes}
@@ -39,6 +36,7 @@ use Rattle.demand_statements.proofs.RecordAnswers.{walk_listed}
 use Rattle.demand_statements.proofs.TripLaws.{not_unpacked, packed_again, unpacked_again}
 use Rattle.demand_statements.proofs.ListAnswers.{lists, needs, unlisted, with_room, walk_in_list_lem}
 use Rattle.demand_statements.proofs.CompareAnswers.{changed, found, agreed}
+use Rattle.std.specs.Prelude.{Err}
 
 -- the only lent number
 same_head : {a b : ℕ} → a ∷ [] ≡ b ∷ [] → a ≡ b
@@ -52,25 +50,25 @@ both p = (p.0, same_head p.1)
 module _ (m : List ℕ) (w : ℕ) {r : ℕ} {lent left : List ℕ} where
   pub check_over_lem : Hands (map_checked (check_at m w)) r lent left → ByWidth w r (Hands (map_checked (check_of m w)) r lent left) (left ≡ lent)
   unfolding map_checked
-  check_over_lem h = hands_by map_checked verdict.Refused (check_of m w) w refl h
+  check_over_lem h = hands_by map_checked Err (check_of m w) w refl h
 
   stop_over_lem : Hands (check_stopped (stopped_at m w)) r lent left → ByWidth w r (Hands (check_stopped (stopped_of m w)) r lent left) (left ≡ lent)
   unfolding check_stopped
-  stop_over_lem h = hands_by check_stopped stopped.Refused (stopped_of m w) w refl h
+  stop_over_lem h = hands_by check_stopped Err (stopped_of m w) w refl h
 
   needs_over : Hands (bytes_needed (needed_at m w)) r lent left → ByWidth w r (Hands (bytes_needed (needed_of m w)) r lent left) (left ≡ lent)
   unfolding bytes_needed
-  needs_over h = hands_by (λ (x : Result). bytes_needed (bytes_of x)) No (list_of m w) w refl h
+  needs_over h = hands_by (λ (x : Making). bytes_needed (bytes_of x)) No (list_of m w) w refl h
 
   unpack_over_lem : {o o' : List ℕ} → Writes (unpack_at m w) o o' r lent left → ByWidth w r (Writes (unpack_of m w) o o' r lent left) ((o' ≡ o) × (left ≡ lent))
-  unpack_over_lem h = writes_by (λ (x : Result). x) No (unpack_of m w) w refl h
+  unpack_over_lem h = writes_by (λ (x : Making). x) No (unpack_of m w) w refl h
 
   list_over : {o o' : List ℕ} → Writes (list_at m w) o o' r lent left → ByWidth w r (Writes (list_of m w) o o' r lent left) ((o' ≡ o) × (left ≡ lent))
-  list_over h = writes_by (λ (x : Result). x) No (list_of m w) w refl h
+  list_over h = writes_by (λ (x : Making). x) No (list_of m w) w refl h
 
   walk_over_lem : (a : List ℕ) → Hands (walk_made (interpret_at m a w)) r lent left → ByWidth w r (Hands (walk_made (interpret_over m a w)) r lent left) (left ≡ lent)
   unfolding walk_made
-  walk_over_lem a h = hands_by walk_made walk.Refused (interpret_over m a w) w refl h
+  walk_over_lem a h = hands_by walk_made Err (interpret_over m a w) w refl h
 
   compare_over_lem : (n : List ℕ) {o o' : List ℕ} → Writes (compare_at m n w) o o' r lent left → ByWidth w r (Writes (compare_of m n w) o o' r lent left) ((o' ≡ o) × (left ≡ lent))
   compare_over_lem n h = writes_by records_made Refuses (comparison m n w) w refl h

@@ -9,13 +9,14 @@ use native.Mathlib.Omega.{arith}
 use lib.ListN.{length}
 use Rattle.asmap_program.specs.Widths.{is_width, at_width}
 use Rattle.asmap_program.proofs.Widths.{at_width_lem, no_width, a_width, neither_width}
-use Rattle.asmap_records.specs.Output.{Result, within, leaves, answer_of}
+use Rattle.asmap_records.specs.Output.{Making, within, leaves, answer_of}
 use Rattle.asmap_records.specs.Output as output
 use Rattle.asmap_compare.specs.Compare.{Comparison, Refuses, first_made, needed_with}
 use Rattle.answer_outcome.specs.Outcome.{Outcome, No, Hands}
 use Rattle.answer_bytes.specs.Bytes.{bytes_written, bytes_needed, Writes, Finds}
 use Rattle.demand_statements.specs.AnyInput.{AtWidth}
 use Rattle.demand_statements.proofs.AnswerLaws.{kept, refused_as}
+use Rattle.refusals.specs.declared.Refusal.TheVariants as refusal
 
 -- what is known of a call at a width, by whether it is one
 pub record ByWidth (w r : ℕ) (Over Left : Type 0) : Type 0 where
@@ -39,7 +40,7 @@ answered_at w r b z = go (is_width w) refl
     go false e = let k = (b.other e).0 in absurd (omega arith)
 
 -- an answer in numbers. out: the numbers that are handed out of what the crate below answers
-pub hands_by : {A : Type 0} (out : A → Outcome) (refused : ℕ → A) (x : A) (w : ℕ) {r : ℕ} {lent left : List ℕ} → out (refused 18) ≡ No 18
+pub hands_by : {A : Type 0} (out : A → Outcome) (refused : ℕ → A) (x : A) (w : ℕ) {r : ℕ} {lent left : List ℕ} → out (refused 18) ≡ No refusal.Width
     → Hands (out (at_width w refused x)) r lent left → ByWidth w r (Hands (out x) r lent left) (left ≡ lent)
 hands_by {A} out refused x w {r} {lent} {left} e h = record {
   over = λ t. subst (λ (y : A). Hands (out y) r lent left) (at_width_lem w refused x t) h;
@@ -49,15 +50,15 @@ hands_by {A} out refused x w {r} {lent} {left} e h = record {
 }
 
 -- and bytes written. make: the bytes that are made of it
-pub writes_by : {A : Type 0} (make : A → Result) (refused : ℕ → A) (x : A) (w : ℕ) {o o' : List ℕ} {r : ℕ} {lent left : List ℕ} → make (refused 18) ≡ output.No 18
+pub writes_by : {A : Type 0} (make : A → Making) (refused : ℕ → A) (x : A) (w : ℕ) {o o' : List ℕ} {r : ℕ} {lent left : List ℕ} → make (refused 18) ≡ output.No 18
     → Writes (make (at_width w refused x)) o o' r lent left → ByWidth w r (Writes (make x) o o' r lent left) ((o' ≡ o) × (left ≡ lent))
 unfolding bytes_written
 writes_by {A} make refused x w {o} {o'} {r} {lent} {left} e h = record {
   over = λ t. subst (λ (y : A). Writes (make y) o o' r lent left) (at_width_lem w refused x t) h;
   other = λ t.
       let n = ap make (no_width w refused x t) ∙ e in
-      let b = (hands_by (λ (y : A). bytes_written (answer_of (within (length o) (make y)))) refused x w (ap (λ (m : Result). bytes_written (answer_of (within (length o) m))) e) h.hands).other t in
-      (b.0, (h.output ∙ ap (λ (m : Result). leaves (within (length o) m) o) n, b.1));
+      let b = (hands_by (λ (y : A). bytes_written (answer_of (within (length o) (make y)))) refused x w (ap (λ (m : Making). bytes_written (answer_of (within (length o) m))) e) h.hands).other t in
+      (b.0, (h.output ∙ ap (λ (m : Making). leaves (within (length o) m) o) n, b.1));
 }
 
 -- what a comparison needs

@@ -4,12 +4,12 @@
 -- Assumes nothing.
 use Rattle.std.specs.Prelude.{ℕ, ◌+◌, ◌-◌, ◌*◌, ◌/◌, ◌%◌, ◌^◌, ◌≤◌, ◌<◌, ◌≡◌, ◌⊎◌, ◌≢◌, List, length, drop, get_or}
 use Rattle.asmap_program.specs.declared.Kind.TheVariants.{Returned}
-use Rattle.asmap_program.specs.declared.Verdict.TheVariants.{Accepted}
 use Rattle.asmap_check.specs.Check.{check_of}
 use Rattle.asmap_walk_bits.specs.Walk.{walk_of}
 use Rattle.asmap_records.specs.Output.{Made}
 use Rattle.asmap_build.specs.Build.{build_at}
 use Rattle.demand_statements.specs.Listed.{address, first, prefix, past, number}
+use Rattle.asmap_program.specs.Verdict.{Accepted}
 
 -- A number from 1 to 33,521,664.
 abbrev pub InRange : ℕ → Type 0

@@ -2,9 +2,9 @@
 -- one carries the walk's number".
 -- Assumes nothing.
 use Rattle.std.specs.Prelude.{ℕ, ◌+◌, ◌-◌, ◌*◌, ◌%◌, ◌^◌, ◌≤◌, ◌<◌, ◌≡◌, List, length, get_or}
-use Rattle.asmap_program.specs.declared.Verdict.TheVariants.{Accepted}
 use Rattle.asmap_check.specs.Check.{check_of}
 use Rattle.demand_statements.specs.Walked.{little}
+use Rattle.asmap_program.specs.Verdict.{Accepted}
 
 -- the eight bytes from byte k on, the highest first
 abbrev pub eight : List ℕ → ℕ → ℕ

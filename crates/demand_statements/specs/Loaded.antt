@@ -3,7 +3,6 @@
 -- Assumes nothing.
 use Rattle.std.specs.Prelude.{ℕ, ◌+◌, ◌*◌, ◌/◌, ◌%◌, ◌≤◌, ◌<◌, ◌≡◌, ◌⊎◌, ◌≢◌, List, length, drop, get_or}
 use Rattle.asmap_program.specs.declared.Kind.TheVariants.{Returned}
-use Rattle.asmap_program.specs.declared.Verdict.TheVariants.{Accepted}
 use Rattle.asmap_program.specs.Map.{address_bit}
 use Rattle.asmap_program.specs.Walk.{Walked}
 use Rattle.asmap_check.specs.Check.{check_of}
@@ -11,6 +10,7 @@ use Rattle.asmap_walk_bits.specs.Walk.{walk_of}
 use Rattle.asmap_records.specs.Output.{Made}
 use Rattle.load_draws.specs.Draw.{next, draw}
 use Rattle.asmap_load.specs.Load.{load_of}
+use Rattle.asmap_program.specs.Verdict.{Accepted}
 
 -- ---- draws
 

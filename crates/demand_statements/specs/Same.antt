@@ -1,10 +1,10 @@
 -- Demand 2 as a caller reads it: codes, the check and the walk against Core's, and unpack and pack, one after the other.
 -- Assumes nothing.
 use Rattle.std.specs.Prelude.{ℕ, ◌*◌, ◌≤◌, ◌<◌, ◌≡◌, true, ◌≢◌, List, length, take}
-use Rattle.asmap_program.specs.declared.Verdict.TheVariants.{Accepted}
 use Rattle.asmap_program.specs.Core.{Read, core_check}
 use Rattle.asmap_codes.specs.Core.{file_of}
 use Rattle.asmap_check.specs.Check.{check_of}
+use Rattle.asmap_program.specs.Verdict.{Accepted}
 
 -- Of a map m of at most 16,777,216 bytes: the check answers 0 exactly where Core's SanityCheckASMap(m, w) says true.
 pub record CoreAccepts (m : List ℕ) (w r : ℕ) : Type 0 where

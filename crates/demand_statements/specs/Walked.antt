@@ -4,11 +4,11 @@ use Rattle.std.specs.Prelude.{ℕ, ◌+◌, ◌*◌, ◌/◌, ◌≤◌, ◌≡�
 use mathlib.Core.List.{List, [], ◌∷◌, ◌++◌, Memᴰ}
 use Rattle.asmap_program.specs.declared.Instruction.{Instruction}
 use Rattle.asmap_program.specs.declared.Kind.TheVariants.{Returned, Differed}
-use Rattle.asmap_program.specs.declared.Verdict.TheVariants.{Accepted}
 use Rattle.asmap_program.specs.Check.{unpacked}
 use Rattle.asmap_codes.specs.Instruction.{map_of}
 use Rattle.asmap_check.specs.Check.{check_of}
 use Rattle.asmap_walk_bits.specs.Walk.{walk_of}
+use Rattle.asmap_program.specs.Verdict.{Accepted}
 
 -- The last instruction read is a RETURN, 0, whose operand is the number, where the kind is 1; it is a MATCH, 2, where the kind is 2.
 pub record EndsAt (read : List Instruction) (kind number : ℕ) : Type 0 where

@@ -10,13 +10,15 @@ use native.Mathlib.Numerals.{add-one}
 use borrow.Author.Tests.{lt-ltb, le-ltb}
 use lib.ListN.{length, take, drop, get_or, take-append-drop, length-append}
 use lib.Seq.{length-take-le}
-use Rattle.group_lists.specs.declared.Scan.TheVariants.{Hit, Missed, Refused}
 use Rattle.group_lists.specs.Groups.{has}
 use Rattle.group_lists.specs.Scan.{in_front, scanned, scan_of}
 use Rattle.group_lists.proofs.Scans.{front-first, front-next, front_most, front_here, front_on, has_front}
+use Rattle.group_lists.specs.Scanned.{Hit, Missed}
+use Rattle.refusals.specs.declared.Refusal.TheVariants as refusal
+use Rattle.std.specs.Prelude.{Err}
 
 module _ (g : ℕ) (gs : List ℕ) where
-  pub scan_refused : 4096 < length gs → scan_of g gs ≡ Refused 12
+  pub scan_refused : 4096 < length gs → scan_of g gs ≡ Err refusal.TooMany
   scan_refused h = rw (lt-ltb 4096 (length gs) h)
 
   pub scan-taken : length gs ≤ 4096 → scan_of g gs ≡ scanned g gs
@@ -38,7 +40,7 @@ module _ (x y z : ℕ) where
   if_missed true n e = let q : ◌≡◌ {A = ℕ} 0 1 = cc in absurd (omega arith)
   if_missed false n e = refl
 
-  never_refused : (b : Bool) (n : ℕ) → cond b (Hit x y) (Missed z) ≡ Refused n → ⊥
+  never_refused : (b : Bool) (n : ℕ) → cond b (Hit x y) (Missed z) ≡ Err n → ⊥
   never_refused true n e = let q : ◌≡◌ {A = ℕ} 0 1 = cc in omega arith
   never_refused false n e = let q : ◌≡◌ {A = ℕ} 0 1 = cc in omega arith
 
@@ -49,7 +51,7 @@ module _ (g : ℕ) (gs : List ℕ) (few : length gs ≤ 4096) where
   pub missed_has : (n : ℕ) → scan_of g gs ≡ Missed n → has g gs ≡ false
   missed_has n e = if_missed (in_front g gs) (in_front g gs + 1) (length gs) (has g gs) n (sym (scan-taken g gs few) ∙ e)
 
-  pub not_refused : (n : ℕ) → scan_of g gs ≡ Refused n → ⊥
+  pub not_refused : (n : ℕ) → scan_of g gs ≡ Err n → ⊥
   not_refused n e = never_refused (in_front g gs) (in_front g gs + 1) (length gs) (has g gs) n (sym (scan-taken g gs few) ∙ e)
 
 -- the group stands where the hit is

@@ -12,40 +12,40 @@ use borrow.Author.Tests.{eq-eqb, ne_eqb}
 use lib.Bits.{bit_xor, xor_add_and, and_le_l, and_le_r, xor_lt}
 use Rattle.load_draws.specs.Draw.{up, down, next, draw, seeded_by, drawn_after}
 use Rattle.load_draws.specs.declared.Generator.{Generator}
-use Rattle.load_draws.specs.declared.Seeded.TheVariants.{Start, Refused}
-use Rattle.load_draws.specs.declared.Drawn.TheVariants as drawn
+use Rattle.refusals.specs.declared.Refusal.TheVariants as refusal
+use Rattle.std.specs.Prelude.{Ok, Err}
 
 -- ---- the seeded start
 
-pub seeded-zero : (s : ℕ) → s ≡ 0 → seeded_by s ≡ Refused 20
+pub seeded-zero : (s : ℕ) → s ≡ 0 → seeded_by s ≡ Err refusal.Load
 unfolding seeded_by
 seeded-zero s h = rw (eq-eqb s 0 h)
 
-pub seeded-some : (s : ℕ) → s ≢ 0 → seeded_by s ≡ Start (record { state = s })
+pub seeded-some : (s : ℕ) → s ≢ 0 → seeded_by s ≡ Ok (record { state = s })
 unfolding seeded_by
 seeded-some s h = rw (ne_eqb s 0 h)
 
 -- what a start says of its seed, and what a refusal does
-pub started : (s : ℕ) (g : Generator) → seeded_by s ≡ Start g → (s ≢ 0) × (g.state ≡ s)
+pub started : (s : ℕ) (g : Generator) → seeded_by s ≡ Ok g → (s ≢ 0) × (g.state ≡ s)
 started s g e = go (ℕ_discrete s 0)
   where
     go : Dec (s ≡ 0) → (s ≢ 0) × (g.state ≡ s)
-    go (yes z) = let q : Refused 20 ≡ Start g = sym (seeded-zero s z) ∙ e in let y : ◌≡◌ {A = ℕ} 0 1 = cc in absurd (omega arith)
-    go (no z) = let q : Start (record { state = s }) ≡ Start g = sym (seeded-some s z) ∙ e in (z, cc)
+    go (yes z) = let q : Err refusal.Load ≡ Ok g = sym (seeded-zero s z) ∙ e in let y : ◌≡◌ {A = ℕ} 0 1 = cc in absurd (omega arith)
+    go (no z) = let q : Ok (record { state = s }) ≡ Ok g = sym (seeded-some s z) ∙ e in (z, cc)
 
-pub not_started : (s n : ℕ) → seeded_by s ≡ Refused n → (s ≡ 0) × (n ≡ 20)
+pub not_started : (s n : ℕ) → seeded_by s ≡ Err n → (s ≡ 0) × (n ≡ 20)
 not_started s n e = go (ℕ_discrete s 0)
   where
     go : Dec (s ≡ 0) → (s ≡ 0) × (n ≡ 20)
-    go (yes z) = let q : Refused 20 ≡ Refused n = sym (seeded-zero s z) ∙ e in (z, cc)
-    go (no z) = let q : Start (record { state = s }) ≡ Refused n = sym (seeded-some s z) ∙ e in let y : ◌≡◌ {A = ℕ} 0 1 = cc in absurd (omega arith)
+    go (yes z) = let q : Err refusal.Load ≡ Err n = sym (seeded-zero s z) ∙ e in (z, cc)
+    go (no z) = let q : Ok (record { state = s }) ≡ Err n = sym (seeded-some s z) ∙ e in let y : ◌≡◌ {A = ℕ} 0 1 = cc in absurd (omega arith)
 
 -- a draw from a plain number
-pub drawn-zero : (s : ℕ) → s ≡ 0 → drawn_after s ≡ drawn.Refused 20
+pub drawn-zero : (s : ℕ) → s ≡ 0 → drawn_after s ≡ Err refusal.Load
 unfolding drawn_after
 drawn-zero s h = rw (eq-eqb s 0 h)
 
-pub drawn-some : (s : ℕ) → s ≢ 0 → drawn_after s ≡ drawn.Number (next s)
+pub drawn-some : (s : ℕ) → s ≢ 0 → drawn_after s ≡ Ok (next s)
 unfolding drawn_after
 drawn-some s h = rw (ne_eqb s 0 h)
 

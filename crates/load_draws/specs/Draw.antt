@@ -1,10 +1,8 @@
 -- The generator of loads (document 02, CR 6). Assumes nothing.
-use Rattle.std.specs.Prelude.{ℕ, zero, suc, ◌*◌, ◌/◌, ◌%◌, ◌^◌, cond, eqb}
+use Rattle.std.specs.Prelude.{ℕ, zero, suc, ◌*◌, ◌/◌, ◌%◌, ◌^◌, cond, eqb, Result, Ok, Err}
 use Rattle.std.specs.Int.Bits.{bit_xor}
-use Rattle.load_draws.specs.declared.Seeded.{Seeded}
-use Rattle.load_draws.specs.declared.Seeded.TheVariants.{Start, Refused}
-use Rattle.load_draws.specs.declared.Drawn.{Drawn}
-use Rattle.load_draws.specs.declared.Drawn.TheVariants as drawn
+use Rattle.load_draws.specs.declared.Generator.{Generator}
+use Rattle.refusals.specs.declared.Refusal.{Refusal}
 
 -- "a DEFAULT_SEED of 1"
 abbrev pub default_seed : ℕ
@@ -32,9 +30,9 @@ draw zero s = s
 draw (suc i) s = draw i (next s)
 
 -- The seeded start: "20 for seed 0".
-unfoldable pub seeded_by : ℕ → Seeded
-seeded_by s = cond (eqb s 0) (Refused no_load) (Start (record { state = s }))
+unfoldable pub seeded_by : ℕ → Result Generator Refusal
+seeded_by s = cond (eqb s 0) (Err no_load) (Ok (record { state = s }))
 
 -- A draw from a plain number, which is a seeded start and the next draw.
-unfoldable pub drawn_after : ℕ → Drawn
-drawn_after s = cond (eqb s 0) (drawn.Refused no_load) (drawn.Number (next s))
+unfoldable pub drawn_after : ℕ → Result ℕ Refusal
+drawn_after s = cond (eqb s 0) (Err no_load) (Ok (next s))

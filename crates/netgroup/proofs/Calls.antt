@@ -4,19 +4,19 @@ use mathlib.Core.Path.{◌≡◌}
 use mathlib.Core.List.{List}
 use mathlib.Core.Bool.{true, false}
 use Prim.Native.Nat.{ℕ}
-use Rattle.peer_lists.specs.declared.Refusal.{Refusal}
-use Rattle.peer_lists.specs.declared.Refusal.TheVariants.{None, Number}
 use Rattle.candidate_bytes.specs.Candidate.{valid}
-use Rattle.netgroup.specs.declared.GroupAnswer.TheVariants.{Group, Refused}
 use Rattle.netgroup.specs.Group.{Numbering, group_of}
 use Rattle.netgroup.specs.Netgroup.{group_call}
+use Rattle.refusals.specs.declared.Refusal.{Refusal}
+use Rattle.refusals.specs.declared.Refusal.TheVariants as refusal
+use Rattle.std.specs.Prelude.{Ok, Err, Option, Some, None}
 
-module _ (of_map : Refusal) (n : Numbering) (c : List ℕ) where
-  pub call-invalid : valid c ≡ false → Refused 13 ≡ group_call of_map n c
+module _ (of_map : Option Refusal) (n : Numbering) (c : List ℕ) where
+  pub call-invalid : valid c ≡ false → Err refusal.Candidate ≡ group_call of_map n c
   call-invalid h = rw h
 
-  pub call_refused : (k : ℕ) → valid c ≡ true → of_map ≡ Number k → Refused k ≡ group_call of_map n c
+  pub call_refused : (k : ℕ) → valid c ≡ true → of_map ≡ Some k → Err k ≡ group_call of_map n c
   call_refused k h e = rw (h, e)
 
-  pub call_group : valid c ≡ true → of_map ≡ None → Group (group_of n c) ≡ group_call of_map n c
+  pub call_group : valid c ≡ true → of_map ≡ None → Ok (group_of n c) ≡ group_call of_map n c
   call_group h e = rw (h, e)

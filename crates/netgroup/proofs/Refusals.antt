@@ -6,16 +6,15 @@ use Prim.Native.Nat.{ℕ, ◌≤◌}
 use native.Mathlib.Omega.{arith}
 use borrow.Author.Tests.{le-ltb}
 use lib.ListN.{length}
-use Rattle.asmap_program.specs.declared.Verdict.{Verdict}
-use Rattle.asmap_program.specs.declared.Verdict.TheVariants.{Accepted, Refused}
 use Rattle.asmap_check.specs.Check.{check_of}
 use Rattle.asmap_check.proofs.Limit.{accepted_within}
-use Rattle.peer_lists.specs.declared.Refusal.TheVariants.{None}
 use Rattle.peer_lists.proofs.Refusals.{number_not_none, none_more}
 use Rattle.netgroup.specs.declared.Grouping.{Grouping}
 use Rattle.netgroup.specs.declared.Grouping.TheVariants.{Prefixes, OldPrefixes, Map}
 use Rattle.netgroup.specs.Group.{Numbering, by_map, by_prefixes, by_old_prefixes, numbering}
 use Rattle.netgroup.specs.Refusal.{verdict_refusal, limit_refusal, check_refusal}
+use Rattle.asmap_program.specs.Verdict.{Accepted, Verdict}
+use Rattle.std.specs.Prelude.{Err, None, Ok}
 
 -- a map that is not refused for its length
 pub none-limit : (g : Grouping) (m : List ℕ) → g ≡ Map → limit_refusal (numbering g m) ≡ None → length m ≤ 16777216
@@ -33,8 +32,8 @@ pub none_check : (m : List ℕ) → check_refusal (by_map m) ≡ None → Passes
 none_check m h = go (check_of m 128) refl h
   where
     go : (v : Verdict) → check_of m 128 ≡ v → verdict_refusal v ≡ None → Passes m
-    go (Accepted c d) e q = record { count = c; depth = d; accepted = e }
-    go (Refused n) e q = number_not_none n q
+    go (Ok got) e q = record { count = got.count; depth = got.depth; accepted = e }
+    go (Err n) e q = number_not_none n q
 
 -- so what the check passes is not refused as it is
 pub check_limit : (n : Numbering) → check_refusal n ≡ None → limit_refusal n ≡ None

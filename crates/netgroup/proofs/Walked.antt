@@ -6,19 +6,18 @@ use mathlib.Core.List.{List}
 use Prim.Native.Nat.{ℕ, ◌≤◌}
 use borrow.Author.Tests.{eq-eqb, le-ltb}
 use lib.ListN.{length}
-use Rattle.peer_lists.specs.declared.Refusal.TheVariants.{None}
 use Rattle.candidate_bytes.specs.Candidate.{address}
 use Rattle.asmap_walk_bits.specs.Walk.{walk_of, summary}
 use Rattle.asmap_walk.specs.Interpret.{interpret_of}
-use Rattle.asmap_walk.specs.declared.Interpreted.TheVariants.{Ended as Walks}
 use Rattle.asmap_walk.proofs.Promised.{kept}
 use Rattle.netgroup.specs.Group.{Numbering, by_map, by_prefixes, by_old_prefixes}
 use Rattle.netgroup.specs.Refusal.{check_refusal}
 use Rattle.netgroup.specs.Ended.{Finished, Ended}
 use Rattle.netgroup.proofs.Refusals.{Passes, none_check}
+use Rattle.std.specs.Prelude.{Ok, None}
 
 -- an address of 16 bytes and a map within the limit are not refused
-pub walk_ends : (m a : List ℕ) → length a ≡ 16 → length m ≤ 16777216 → interpret_of m a ≡ Walks (summary (walk_of m a 128))
+pub walk_ends : (m a : List ℕ) → length a ≡ 16 → length m ≤ 16777216 → interpret_of m a ≡ Ok (summary (walk_of m a 128))
 walk_ends m a h k = rw (eq-eqb (length a) 16 h, le-ltb 16777216 (length m) k)
 
 -- over a map that the check accepts

@@ -6,13 +6,13 @@ use mathlib.Core.Bool.{Bool, true, false, cond, not, ◌&&◌, ◌||◌, or-fals
 use Prim.Native.Nat.{ℕ, ◌+◌}
 use native.Mathlib.Omega.{arith}
 use lib.Dec.{eqb}
-use Rattle.peer_lists.specs.declared.Refusal.TheVariants.{None}
 use Rattle.candidate_bytes.specs.Candidate.{family, mapped}
 use Rattle.netgroup.specs.declared.Grouping.{Grouping}
 use Rattle.netgroup.specs.declared.Grouping.TheVariants.{Prefixes, OldPrefixes, Map}
 use Rattle.netgroup.specs.Group.{numbering, prefix4, prefix6, old_prefix_group, ipv4, prefix_group, grouped_of}
 use Rattle.netgroup.specs.Refusal.{limit_refusal, check_refusal}
 use Rattle.netgroup.specs.models.Which.{is_map, is_old, by_numbers}
+use Rattle.std.specs.Prelude.{None}
 
 pub is_the-map : (g : Grouping) → is_map g ≡ true → g ≡ Map
 is_the-map Prefixes e = let z : ◌≡◌ {A = ℕ} 0 1 = cc in absurd (omega arith)

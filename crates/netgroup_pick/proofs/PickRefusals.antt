@@ -5,21 +5,22 @@ use mathlib.Core.List.{List}
 use Prim.Native.Nat.{ℕ, ◌/◌, min}
 use lib.Dec.{ltb}
 use lib.ListN.{length}
-use Rattle.peer_lists.specs.declared.Refusal.{Refusal}
-use Rattle.peer_lists.specs.declared.Refusal.TheVariants.{None, Number}
 use Rattle.peer_lists.specs.Refusal.{refuse_if, list_refusal}
 use Rattle.peer_lists.proofs.Refusals.{none_first, none-later, none_more, none_listed, none_occupied}
 use Rattle.netgroup.specs.Group.{Numbering}
 use Rattle.netgroup.specs.Refusal.{limit_refusal}
 use Rattle.netgroup_pick.specs.PickRefusal.{room_refusal, pick_refusal}
 use Rattle.pick_passes.specs.models.Ready.{Ready}
+use Rattle.refusals.specs.declared.Refusal.{Refusal}
+use Rattle.std.specs.Prelude.{Option, Some, None}
+use Rattle.refusals.specs.declared.Refusal.TheVariants as refusal
 
 -- the first refusal that there is
-module _ (of_map : Refusal) (bytes occupied : List ℕ) (max : ℕ) (picks groups : List ℕ) where
-  pub first_list : (k : ℕ) → list_refusal bytes occupied ≡ Number k → pick_refusal of_map bytes occupied max picks groups ≡ Number k
+module _ (of_map : Option Refusal) (bytes occupied : List ℕ) (max : ℕ) (picks groups : List ℕ) where
+  pub first_list : (k : ℕ) → list_refusal bytes occupied ≡ Some k → pick_refusal of_map bytes occupied max picks groups ≡ Some k
   first_list k e = rw e
 
-  pub then_map : (k : ℕ) → list_refusal bytes occupied ≡ None → of_map ≡ Number k → pick_refusal of_map bytes occupied max picks groups ≡ Number k
+  pub then_map : (k : ℕ) → list_refusal bytes occupied ≡ None → of_map ≡ Some k → pick_refusal of_map bytes occupied max picks groups ≡ Some k
   then_map k e h = rw (e, h)
 
   pub then_room : list_refusal bytes occupied ≡ None → of_map ≡ None
@@ -32,7 +33,7 @@ none_ready n bytes occupied max picks groups h =
     let later = none-later (list_refusal bytes occupied) _ h in
     let room = none-later (limit_refusal n) _ later in
     let need = min max (length bytes / 20) in
-    let p = refuse_if (ltb (length picks) need) 14 in
+    let p = refuse_if (ltb (length picks) need) refusal.OutputTooShort in
     record {
       few = none_listed bytes occupied (none_first (list_refusal bytes occupied) _ h);
       few_occupied = none_occupied bytes occupied (none_first (list_refusal bytes occupied) _ h);

@@ -6,12 +6,9 @@ use Prim.Native.Nat.{ℕ, zero, suc, ◌/◌, ◌≤◌}
 use native.Mathlib.Omega.{arith}
 use lib.ListN.{length, take, drop, length-append}
 use lib.Seq.{take-append-le}
-use Rattle.peer_lists.specs.declared.Refusal.{Refusal}
-use Rattle.peer_lists.specs.declared.Refusal.TheVariants.{None, Number}
 use Rattle.netgroup.specs.Group.{Numbering, by_map, by_prefixes, by_old_prefixes, count_of}
 use Rattle.netgroup.specs.Refusal.{limit_refusal, check_refusal}
 use Rattle.netgroup.proofs.Refusals.{check_limit}
-use Rattle.netgroup_pick.specs.declared.PickAnswer.TheVariants.{Picked, Refused}
 use Rattle.pick_passes.specs.declared.First.{First}
 use Rattle.netgroup_pick.specs.declared.Totals.{Totals}
 use Rattle.peer_lists.specs.Candidates.{candidates_of}
@@ -31,12 +28,14 @@ use Rattle.pick_passes.proofs.Passes.{first_places, first_even}
 use Rattle.pick_passes.proofs.Fills.{fill_begins}
 use Rattle.pick_passes.proofs.Beginnings.{Begins, begins_length, begins_take}
 use Rattle.netgroup_pick.proofs.PickRefusals.{then_room}
+use Rattle.refusals.specs.declared.Refusal.{Refusal}
+use Rattle.std.specs.Prelude.{Ok, Err, Option, Some, None}
 
 -- a refusal: its number, and both outputs as they were
-pub refused : (of_map : Refusal) (n : Numbering) (bytes occupied : List ℕ) (max : ℕ) (picks groups : List ℕ) (k : ℕ)
-    → pick_refusal of_map bytes occupied max picks groups ≡ Number k → handed (Refused k) picks groups ≡ pick_call of_map n bytes occupied max picks groups
+pub refused : (of_map : Option Refusal) (n : Numbering) (bytes occupied : List ℕ) (max : ℕ) (picks groups : List ℕ) (k : ℕ)
+    → pick_refusal of_map bytes occupied max picks groups ≡ Some k → handed (Err k) picks groups ≡ pick_call of_map n bytes occupied max picks groups
 refused of_map n bytes occupied max picks groups k e =
-    sym (ap (λ (x : Refusal). pick_unless x n (candidates_of bytes) occupied max picks groups) e)
+    sym (ap (λ (x : Option Refusal). pick_unless x n (candidates_of bytes) occupied max picks groups) e)
 
 -- the instructions are those of the defined walks
 sum_none : (n : Numbering) → ((c : List ℕ) → count_of n c ≡ 0) → (k : ℕ) (cs : List (List ℕ)) → sum (take k (counts_of n cs)) ≡ 0
@@ -58,7 +57,7 @@ module _ (n : Numbering) (bytes occupied : List ℕ) (max : ℕ) (picks groups :
   pub checked_is_unchecked : list_refusal bytes occupied ≡ None → check_refusal n ≡ None
       → select_unchecked n bytes occupied max picks groups ≡ select_diverse n bytes occupied max picks groups
   checked_is_unchecked e h =
-      ap (λ (x : Refusal). pick_unless x n (candidates_of bytes) occupied max picks groups)
+      ap (λ (x : Option Refusal). pick_unless x n (candidates_of bytes) occupied max picks groups)
       (then_room (limit_refusal n) bytes occupied max picks groups e (check_limit n h) ∙ sym (then_room (check_refusal n) bytes occupied max picks groups e h))
 
 -- the two passes make the pick
@@ -97,8 +96,8 @@ module _ (n : Numbering) (bytes occupied : List ℕ) (max : ℕ) (picks groups :
     abbrev pub made : Totals
     made = record { total = total; first = f.taken; examined = f.examined; instructions = f.instructions }
 
-    pub picked-whole : (of_map : Refusal) → pick_refusal of_map bytes occupied max picks groups ≡ None
-        → handed (Picked made) picks₂ groups₁ ≡ pick_call of_map n bytes occupied max picks groups
+    pub picked-whole : (of_map : Option Refusal) → pick_refusal of_map bytes occupied max picks groups ≡ None
+        → handed (Ok made) picks₂ groups₁ ≡ pick_call of_map n bytes occupied max picks groups
     picked-whole of_map z = rw (z, q.total, all_places, p.taken, p.examined, p.instructions, picks_out, p.groups)
 
     front : take (length (first n (candidates_of bytes) occupied max).places) (written (places n (candidates_of bytes) occupied max) picks) ≡ (first n (candidates_of bytes) occupied max).places

@@ -12,24 +12,26 @@ use lib.ListN.{length, get_or}
 use borrow.Author.Tests.{eqb-true, eq-eqb, leb-true}
 use Rattle.prefix_records.specs.Tiling.{first_of, past_of}
 use Rattle.prefix_records.proofs.TilingLaws.{some}
-use Rattle.prefix_lists.specs.declared.Judged.{Judged}
-use Rattle.prefix_lists.specs.declared.Judged.TheVariants.{Listed, Refused}
 use Rattle.prefix_lists.specs.List.{count_of, piece_at, fits, is_number, need, judge_from, judge}
 use Rattle.prefix_lists.specs.models.Listed.{Number, Rising}
 use Rattle.prefix_lists.proofs.FitLaws.{Bytes, Fitting, fitting, and-true, clean-first, clean_inside}
+use Rattle.prefix_lists.specs.Judged.{Listed}
+use Rattle.refusals.specs.declared.Refusal.{Refusal}
+use Rattle.std.specs.Prelude.{Result, Err}
+use Rattle.refusals.specs.declared.Refusal.TheVariants as refusal
 
 -- ---- a list that is not refused
 
 -- a refusal is not "listed"
-refused : (n : ℕ) → Refused n ≡ Listed → ⊥
+refused : (n : ℕ) → Err n ≡ Listed → ⊥
 refused n e = subst told e tt
   where
-    told : Judged → Type 0
+    told : Result (Unit {0}) Refusal → Type 0
     told Listed = ⊥
-    told (Refused n) = Unit {0}
+    told (Err n) = Unit {0}
 
 -- a test that a listed one passed, and what was said later
-needed : (b : Bool) (n : ℕ) (later : Judged) → need b n later ≡ Listed → (b ≡ true) × (later ≡ Listed)
+needed : (b : Bool) (n : ℕ) (later : Result (Unit {0}) Refusal) → need b n later ≡ Listed → (b ≡ true) × (later ≡ Listed)
 unfolding need
 needed true n later h = (refl, h)
 needed false n later h = absurd (refused n h)
@@ -50,7 +52,7 @@ front w l n i g more zero d = subst (Passes w l) (omega arith) g
 front w l n i g more (suc k) d = subst (Passes w l) (omega arith) (more k (omega (arith, d)))
 
 -- each of n records from record i on, and what was said later
-judged_from : (w : ℕ) (l : List ℕ) (n i : ℕ) (later : Judged) → judge_from w l n i later ≡ Listed
+judged_from : (w : ℕ) (l : List ℕ) (n i : ℕ) (later : Result (Unit {0}) Refusal) → judge_from w l n i later ≡ Listed
     → ((k : ℕ) → k < n → Passes w l (i + k)) × (later ≡ Listed)
 unfolding judge_from
 judged_from w l zero i later h = (λ k d. absurd (omega (arith, d)), h)
@@ -78,7 +80,7 @@ judged w l given e =
     }
 
 -- and a list of which all of it is so is not refused
-passed_from : (w : ℕ) (l : List ℕ) (n i : ℕ) (later : Judged) → ((k : ℕ) → k < n → Passes w l (i + k)) → judge_from w l n i later ≡ later
+passed_from : (w : ℕ) (l : List ℕ) (n i : ℕ) (later : Result (Unit {0}) Refusal) → ((k : ℕ) → k < n → Passes w l (i + k)) → judge_from w l n i later ≡ later
 unfolding judge_from need
 passed_from w l zero i later h = refl
 passed_from w l (suc n) i later h =
@@ -88,7 +90,7 @@ passed_from w l (suc n) i later h =
 pub all_passed : (w : ℕ) (l : List ℕ) (given : ℕ) → Judgement w l given → judge w l given ≡ Listed
 unfolding judge need
 all_passed w l given j =
-    rw (eq-eqb (length l % 24) 0 j.whole) (passed_from w l (count_of l) 0 (need (is_number given) 22 Listed) (λ k d. subst (Passes w l) (omega arith) (j.each k d)) ∙ rw j.last)
+    rw (eq-eqb (length l % 24) 0 j.whole) (passed_from w l (count_of l) 0 (need (is_number given) refusal.Number Listed) (λ k d. subst (Passes w l) (omega arith) (j.each k d)) ∙ rw j.last)
 
 -- ---- rising
 
@@ -141,25 +143,25 @@ judged_rising w l given bytes e = let j = judged w l given e in (rise w l bytes 
 -- ---- a list that is refused
 
 -- listed, or refused with 21 or 22
-abbrev Told : Judged → Type 0
+abbrev Told : Result (Unit {0}) Refusal → Type 0
 Told Listed = Unit {0}
-Told (Refused n) = (21 ≤ n) × (n ≤ 22)
+Told (Err n) = (21 ≤ n) × (n ≤ 22)
 
 -- a test that refuses with 21 or 22
-need_told : (b : Bool) (n : ℕ) (later : Judged) → (21 ≤ n) × (n ≤ 22) → Told later → Told (need b n later)
+need_told : (b : Bool) (n : ℕ) (later : Result (Unit {0}) Refusal) → (21 ≤ n) × (n ≤ 22) → Told later → Told (need b n later)
 unfolding need
 need_told true n later h t = t
 need_told false n later h t = h
 
 -- the tests of the records
-from_told : (w : ℕ) (l : List ℕ) (n i : ℕ) (later : Judged) → Told later → Told (judge_from w l n i later)
+from_told : (w : ℕ) (l : List ℕ) (n i : ℕ) (later : Result (Unit {0}) Refusal) → Told later → Told (judge_from w l n i later)
 unfolding judge_from
 from_told w l zero i later t = t
 from_told w l (suc n) i later t =
     need_told _ 21 _ (omega arith, omega arith) (need_told _ 22 _ (omega arith, omega arith) (from_told w l n (suc i) later t))
 
 -- a refusal is 21 or 22
-pub judged_refused : (w : ℕ) (l : List ℕ) (given n : ℕ) → judge w l given ≡ Refused n → (21 ≤ n) × (n ≤ 22)
+pub judged_refused : (w : ℕ) (l : List ℕ) (given n : ℕ) → judge w l given ≡ Err n → (21 ≤ n) × (n ≤ 22)
 unfolding judge
 judged_refused w l given n e =
     subst Told e

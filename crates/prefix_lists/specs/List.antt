@@ -1,11 +1,12 @@
 -- Lists of prefixes as records of 24 bytes, read (document 02, CR 8: "Input is CR 1's records, not overlapping, rising by address, and a number
 -- for all other addresses"): the prefixes, the number of each address, and what is wrong with a list.
 -- Assumes nothing.
-use Rattle.std.specs.Prelude.{ℕ, zero, suc, ◌+◌, ◌-◌, ◌*◌, ◌/◌, ◌%◌, ◌^◌, Bool, true, false, cond, ◌&&◌, List, eqb, leb, length, get_or}
+use Rattle.std.specs.Prelude.{ℕ, zero, suc, ◌+◌, ◌-◌, ◌*◌, ◌/◌, ◌%◌, ◌^◌, Bool, true, false, cond, ◌&&◌, List, eqb, leb, length, get_or, Result, Err}
 use Rattle.byte_numbers.specs.Numbers.{number4}
 use Rattle.prefix_records.specs.Tiling.{Piece, past_of, holds}
-use Rattle.prefix_lists.specs.declared.Judged.{Judged}
-use Rattle.prefix_lists.specs.declared.Judged.TheVariants.{Listed, Refused}
+use Rattle.prefix_lists.specs.Judged.{Listed}
+use Rattle.refusals.specs.declared.Refusal.{Refusal}
+use Rattle.refusals.specs.declared.Refusal.TheVariants as refusal
 
 -- ---- the records
 
@@ -58,16 +59,16 @@ abbrev pub is_number : ℕ → Bool
 is_number n = leb 1 n && leb n 33521664
 
 -- Refused with n where the test does not hold, else what is said later.
-unfoldable pub need : Bool → ℕ → Judged → Judged
+unfoldable pub need : Bool → ℕ → Result (Unit {0}) Refusal → Result (Unit {0}) Refusal
 need true n later = later
-need false n later = Refused n
+need false n later = Err n
 
 -- n records from record i on, "21 before 22 in each record"; the first wrong one is refused.
-unfoldable pub judge_from : ℕ → List ℕ → ℕ → ℕ → Judged → Judged
+unfoldable pub judge_from : ℕ → List ℕ → ℕ → ℕ → Result (Unit {0}) Refusal → Result (Unit {0}) Refusal
 judge_from w l zero i later = later
-judge_from w l (suc n) i later = need (fits w l i) 21 (need (is_number (piece_at l i).number) 22 (judge_from w l n (suc i) later))
+judge_from w l (suc n) i later = need (fits w l i) refusal.Prefix (need (is_number (piece_at l i).number) refusal.Number (judge_from w l n (suc i) later))
 
 -- A list at the width w, with the given number: "21 for record bytes no multiple of 24", "the length first", then the records, "the given number
 -- after the records".
-unfoldable pub judge : ℕ → List ℕ → ℕ → Judged
-judge w l given = need (eqb (length l % 24) 0) 21 (judge_from w l (count_of l) 0 (need (is_number given) 22 Listed))
+unfoldable pub judge : ℕ → List ℕ → ℕ → Result (Unit {0}) Refusal
+judge w l given = need (eqb (length l % 24) 0) refusal.Prefix (judge_from w l (count_of l) 0 (need (is_number given) refusal.Number Listed))

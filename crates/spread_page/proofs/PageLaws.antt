@@ -7,8 +7,6 @@ use native.Mathlib.Numerals.{add-one}
 use native.Mathlib.Omega.{arith}
 use lib.ListN.{length, take, get_or, set}
 use lib.Seq.{take-suc, take-suc-set}
-use Rattle.peer_lists.specs.declared.Refusal.{Refusal}
-use Rattle.peer_lists.specs.declared.Refusal.TheVariants.{None, Number}
 use Rattle.peer_lists.specs.Candidates.{candidates_of}
 use Rattle.peer_lists.specs.Refusal.{list_refusal}
 use Rattle.peer_lists.proofs.Lists.{length_candidates}
@@ -17,9 +15,7 @@ use Rattle.netgroup.specs.Refusal.{check_refusal}
 use Rattle.netgroup.proofs.Walked.{ended}
 use Rattle.pick_passes.specs.Ranked.{groups_of}
 use Rattle.pick_passes.proofs.Lists.{length-groups}
-use Rattle.asmap_records.specs.declared.Answer.{Answer}
-use Rattle.asmap_records.specs.declared.Answer.TheVariants.{Wrote, Refused}
-use Rattle.asmap_records.specs.Output.{Result, Made, No, Hands}
+use Rattle.asmap_records.specs.Output.{Making, Made, No, Hands}
 use Rattle.group_shares.specs.models.Runs.{runs}
 use Rattle.group_shares.specs.models.Sorted.{Arranged}
 use Rattle.group_shares.proofs.RunLaws.{arranged-spread}
@@ -29,6 +25,8 @@ use Rattle.spread_page.specs.Page.{page_call}
 use Rattle.spread_page.specs.Promise.{Told, Unaborted}
 use Rattle.netgroup.proofs.PrefixLaws.{Bytes}
 use Rattle.spread_page.proofs.FitLaws.{groups-below}
+use Rattle.refusals.specs.declared.Refusal.{Refusal}
+use Rattle.std.specs.Prelude.{Result, Ok, Err, Option, Some, None}
 
 -- ---- the groups, one more
 
@@ -44,16 +42,16 @@ pub sorted_page : (gs ys : List ℕ) → Arranged gs ys → length ys ≡ length
 sorted_page gs ys a e = ap (λ (n : ℕ). lines n (runs ys)) e ∙ ap (lines (length gs)) (arranged-spread gs ys a)
 
 -- what is handed back of bytes, of the same bytes
-pub hands_same : {made other : Result} {o o' : List ℕ} {r : Answer} → made ≡ other → Hands made o o' r → Hands other o o' r
-hands_same {made} {other} {o} {o'} {r} e h = subst (λ (m : Result). Hands m o o' r) e h
+pub hands_same : {made other : Making} {o o' : List ℕ} {r : Result ℕ Refusal} → made ≡ other → Hands made o o' r → Hands other o o' r
+hands_same {made} {other} {o} {o'} {r} e h = subst (λ (m : Making). Hands m o o' r) e h
 
 -- ---- the ways out of a call
 
-module _ (of_map : Refusal) (n : Numbering) (bytes : List ℕ) where
-  pub list_refused : (k : ℕ) → list_refusal bytes [] ≡ Number k → page_call of_map n bytes ≡ No k
+module _ (of_map : Option Refusal) (n : Numbering) (bytes : List ℕ) where
+  pub list_refused : (k : ℕ) → list_refusal bytes [] ≡ Some k → page_call of_map n bytes ≡ No k
   list_refused k e = rw e
 
-  pub map_refused : (k : ℕ) → list_refusal bytes [] ≡ None → of_map ≡ Number k → page_call of_map n bytes ≡ No k
+  pub map_refused : (k : ℕ) → list_refusal bytes [] ≡ None → of_map ≡ Some k → page_call of_map n bytes ≡ No k
   map_refused k e f = rw (e, f)
 
   pub page_made : list_refusal bytes [] ≡ None → of_map ≡ None → page_call of_map n bytes ≡ Made (page_of (groups_of n (candidates_of bytes)))
@@ -61,14 +59,14 @@ module _ (of_map : Refusal) (n : Numbering) (bytes : List ℕ) where
 
 -- ---- what is promised of either answer
 
-pub told_either : (n : Numbering) (bytes : List ℕ) (r : Answer) → length bytes / 20 ≤ 4096 → Bytes bytes → Told n bytes r
+pub told_either : (n : Numbering) (bytes : List ℕ) (r : Result ℕ Refusal) → length bytes / 20 ≤ 4096 → Bytes bytes → Told n bytes r
 unfolding Told
-told_either n bytes (Wrote k) few b =
+told_either n bytes (Ok k) few b =
     let all = candidates_of bytes in
     page_tells (groups_of n all) (omega (arith, length-groups n all, length_candidates bytes)) (groups-below n bytes b)
-told_either n bytes (Refused k) few b = tt
+told_either n bytes (Err k) few b = tt
 
-pub unaborted_either : (n : Numbering) (bytes : List ℕ) (r : Answer) → check_refusal n ≡ None → Unaborted n bytes r
+pub unaborted_either : (n : Numbering) (bytes : List ℕ) (r : Result ℕ Refusal) → check_refusal n ≡ None → Unaborted n bytes r
 unfolding Unaborted
-unaborted_either n bytes (Wrote k) h = λ i l. ended n (get_or (candidates_of bytes) i []) h
-unaborted_either n bytes (Refused k) h = tt
+unaborted_either n bytes (Ok k) h = λ i l. ended n (get_or (candidates_of bytes) i []) h
+unaborted_either n bytes (Err k) h = tt

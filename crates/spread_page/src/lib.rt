@@ -10,7 +10,7 @@ ghost use Rattle.peer_lists.specs.Refusal.{list_refusal};
 ghost use Rattle.netgroup.specs.Group.{by_old_prefixes, numbering};
 ghost use Rattle.netgroup.specs.Refusal.{limit_refusal, check_refusal};
 ghost use Rattle.pick_passes.specs.Ranked.{groups_of};
-ghost use Rattle.asmap_records.specs.Output.{Hands, Result};
+ghost use Rattle.asmap_records.specs.Output.{Hands, Making};
 ghost use Rattle.group_shares.specs.models.Runs.{runs};
 ghost use Rattle.page_lines.specs.Line.{lines, page_of};
 ghost use Rattle.spread_page.specs.Page.{spread_page, spread_unchecked, old_prefix_page};
@@ -53,7 +53,7 @@ fn find_groups(candidates: &[u8], grouping: Grouping, map: &[u8], groups: &mut [
 // The page of groups that are sorted. Refusal 14.
 fn put_page(groups: &[u64], out: &mut [u8]) -> Answer
     requires { length groups.now ≤ 4096 }
-    ensures { Hands (Result.Made (lines (length groups.now) (runs groups.now))) out.old out.new result }
+    ensures { Hands (Making.Made (lines (length groups.now) (runs groups.now))) out.old out.new result }
 {
     let count = group_shares::count_runs(groups);
     if out.len() / LINE_BYTES < count {
@@ -66,7 +66,7 @@ fn put_page(groups: &[u64], out: &mut [u8]) -> Answer
 // The page of groups in any order, which are sorted for it, over a spare room for as many. Refusal 14.
 fn sort_page(groups: &mut [u64], spare: &mut [u64], out: &mut [u8]) -> Answer
     requires { (length groups.old ≤ 4096) × (length groups.old ≤ length spare.old) }
-    ensures { Hands (Result.Made (page_of groups.old)) out.old out.new result }
+    ensures { Hands (Making.Made (page_of groups.old)) out.old out.new result }
 {
     group_shares::sort_groups(groups, spare);
     put_page(groups, out)
@@ -75,7 +75,7 @@ fn sort_page(groups: &mut [u64], spare: &mut [u64], out: &mut [u8]) -> Answer
 // The page of candidates that are not refused, with a map that is within the limit. Refusal 14.
 fn make_page(candidates: &[u8], grouping: Grouping, map: &[u8], out: &mut [u8]) -> Answer
     requires { (length candidates.now / 20 ≤ 4096) × (limit_refusal (numbering grouping map.now) ≡ Refusal.None) }
-    ensures { Hands (Result.Made (page_of (groups_of (numbering grouping map.now) (candidates_of candidates.now)))) out.old out.new result }
+    ensures { Hands (Making.Made (page_of (groups_of (numbering grouping map.now) (candidates_of candidates.now)))) out.old out.new result }
 {
     let mut groups = no_groups();
     let mut spare = no_groups();

@@ -3,7 +3,6 @@
 use Prim.Native.Nat.{ℕ}
 use mathlib.Core.Path.{◌≡◌, refl}
 use mathlib.Core.List.{List, map}
-use Rattle.asmap_program.specs.declared.Verdict.{Verdict}
 use Rattle.asmap_program.specs.Map.{length_in, length_of}
 use Rattle.asmap_program.specs.Check.{stop_of}
 use Rattle.asmap_program.specs.Walk.{compared, enough, walk_from, walk}
@@ -13,6 +12,7 @@ use Rattle.asmap_check.specs.Examples.{examples}
 use Rattle.asmap_check.proofs.Examples.{examples_hold}
 use Rattle.asmap_walk_bits.specs.Walk.{walk_of}
 use Rattle.walk_examples.specs.Walks.{pairs, walks, computed, expected}
+use Rattle.asmap_program.specs.Verdict.{Verdict}
 
 all-walks : map computed walks ≡ map expected walks
 unfolding walk_of walk walk_from compared enough map_of fetch_at length_of length_in pairs

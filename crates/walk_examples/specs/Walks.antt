@@ -1,13 +1,13 @@
 -- Document 01's examples of the walk, as one list ("Examples to hold to"). `8b` and `fb` are of document 02, CR 5: the one is cut in an
 -- opcode, behind a MATCH, the other in its operand.
 -- Assumes nothing.
-use Rattle.std.specs.Prelude.{ℕ, zero, suc, List, [], ◌∷◌}
+use Rattle.std.specs.Prelude.{ℕ, zero, suc, List, [], ◌∷◌, Result, Ok}
 use Rattle.asmap_program.specs.declared.Kind.{Kind}
 use Rattle.asmap_program.specs.declared.Kind.TheVariants.{Returned, Differed, OpcodeCut, OperandCut}
 use Rattle.asmap_program.specs.Map.{ipv4_mapped}
 use Rattle.asmap_walk.specs.Interpret.{interpret_of}
-use Rattle.asmap_walk.specs.declared.Interpreted.{Interpreted}
-use Rattle.asmap_walk.specs.declared.Interpreted.TheVariants.{Ended}
+use Rattle.asmap_walk_bits.specs.declared.Ending.{Ending}
+use Rattle.refusals.specs.declared.Refusal.{Refusal}
 
 -- a map's bytes, an address's, and what the call hands back of the walk
 pub record Example : Type 0 where
@@ -42,8 +42,8 @@ walks =
     ∷ []
 
 -- what the definition hands back, and what the list says
-abbrev pub computed : Example → Interpreted
+abbrev pub computed : Example → Result Ending Refusal
 computed x = interpret_of x.bytes x.address
 
-abbrev pub expected : Example → Interpreted
-expected x = Ended (record { kind = x.kind; number = x.number; count = x.count; bits = x.bits })
+abbrev pub expected : Example → Result Ending Refusal
+expected x = Ok (record { kind = x.kind; number = x.number; count = x.count; bits = x.bits })

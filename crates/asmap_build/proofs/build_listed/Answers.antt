@@ -1,16 +1,16 @@
 -- A pass counts, then the room decides, and a pass writes.
-use Rattle.std.proofs.Common.{◌∙◌, ℕ, ◌+◌, ◌/◌, List, length, false, sym, ap, subst, refl, arith}
+use Rattle.std.proofs.Common.{◌∙◌, ℕ, ◌+◌, ◌/◌, List, length, false, sym, ap, subst, refl, arith, Result}
 use Rattle.std.proofs.lemmas.List.Edits.{sets}
 use Rattle.asmap_bit_writer.specs.Bytes.{bytes_of}
 use Rattle.asmap_records.specs.Output.{Hands}
-use Rattle.asmap_records.specs.declared.Answer.{Answer}
 use Rattle.asmap_build.specs.Build.{tree_bits}
 use Rattle.asmap_build.specs.models.Size.{Filled}
 use Rattle.asmap_build.proofs.CallLaws.{made, hands_over, hands_no_room, hands-bits}
 use Rattle.asmap_build.proofs.build_listed.Goals as goal
+use Rattle.refusals.specs.declared.Refusal.{Refusal}
 
 -- a pass that only counts leaves the output as it was
-unwritten : {bits o o' : List ℕ} {r : Answer} → Filled false bits o o' → Hands (made bits o) o o r → Hands (made bits o) o o' r
+unwritten : {bits o o' : List ℕ} {r : Result ℕ Refusal} → Filled false bits o o' → Hands (made bits o) o o r → Hands (made bits o) o o' r
 unwritten {bits} {o} {o'} {r} f h = subst (λ (x : List ℕ). Hands (made bits o) o x r) (sym (f.idle refl)) h
 
 pub returns-in_default : goal.returns-in_default

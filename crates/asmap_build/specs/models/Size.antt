@@ -1,13 +1,11 @@
 -- What a pass answers and leaves. Assumes nothing.
-use Rattle.std.specs.Prelude.{ℕ, ◌+◌, ◌/◌, ◌≤◌, ◌<◌, Bool, true, false, ◌≡◌, List, length}
+use Rattle.std.specs.Prelude.{ℕ, ◌+◌, ◌/◌, ◌≤◌, ◌<◌, Bool, true, false, ◌≡◌, List, length, Option, Some, None}
 use Rattle.std.proofs.lemmas.List.Edits.{sets}
 use Rattle.asmap_bit_writer.specs.Bytes.{bytes_of}
-use Rattle.asmap_build.specs.declared.Size.{Size}
-use Rattle.asmap_build.specs.declared.Size.TheVariants.{Ends, Over}
 
-abbrev pub Sized : List ℕ → Size → Type 0
-Sized bs (Ends n) = (n ≡ length bs) × (length bs ≤ 134217728)
-Sized bs Over = 134217728 < length bs
+abbrev pub Sized : List ℕ → Option ℕ → Type 0
+Sized bs (Some n) = (n ≡ length bs) × (length bs ≤ 134217728)
+Sized bs None = 134217728 < length bs
 
 -- A pass that writes knows the bits' count, and the output has room.
 pub record WriteReady (writes : Bool) (total : ℕ) (bs o : List ℕ) : Type 0 where

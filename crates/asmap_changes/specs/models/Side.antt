@@ -1,7 +1,7 @@
 -- A comparison as code has it: the foremost piece of each listing, what was found so far, and what noting a pair does to that. The addresses have
 -- 128 bits.
 -- Assumes nothing.
-use Rattle.std.specs.Prelude.{ℕ, zero, suc, ◌+◌, ◌*◌, ◌^◌, ◌≤◌, ◌<◌, Bool, true, false, ◌≡◌, List, [], ◌∷◌, ◌++◌, ltb, eqb, length}
+use Rattle.std.specs.Prelude.{ℕ, zero, suc, ◌+◌, ◌*◌, ◌^◌, ◌≤◌, ◌<◌, Bool, true, false, ◌≡◌, List, [], ◌∷◌, ◌++◌, ltb, eqb, length, Option, Some, None}
 use Rattle.std.proofs.lemmas.List.Edits.{sets}
 use Rattle.byte_numbers.specs.Numbers.{big8, bytes4}
 use Rattle.asmap_program.specs.Map.{limit}
@@ -17,8 +17,6 @@ use Rattle.asmap_listing.specs.models.Scan.{leaves, scan_start, scanned}
 use Rattle.asmap_list_step.specs.declared.Spot.{Spot}
 use Rattle.asmap_list_step.specs.models.Step.{rest, weight, Sane}
 use Rattle.asmap_changes.specs.declared.Front.{Front}
-use Rattle.asmap_changes.specs.declared.Ahead.{Ahead}
-use Rattle.asmap_changes.specs.declared.Ahead.TheVariants.{At, Over}
 use Rattle.asmap_changes.specs.declared.Found.{Found}
 use Rattle.asmap_changes.specs.declared.Place.{Place}
 
@@ -71,9 +69,9 @@ pub record Split (map : List ℕ) (s : Spot) (ps : List Piece) (bits numbers : L
   pub fore : Fore map f bits numbers piece behind
   pub less : weight map f.spot < weight map s
 
-abbrev pub Fronted : List ℕ → Spot → List Piece → List ℕ → List ℕ → Ahead → Type 0
-Fronted map s ps bits numbers (At f) = Split map s ps bits numbers f
-Fronted map s ps bits numbers Over = ps ≡ []
+abbrev pub Fronted : List ℕ → Spot → List Piece → List ℕ → List ℕ → Option Front → Type 0
+Fronted map s ps bits numbers (Some f) = Split map s ps bits numbers f
+Fronted map s ps bits numbers None = ps ≡ []
 
 -- the foremost of all pieces of a list
 pub record First (map : List ℕ) (ps : List Piece) (bits numbers : List ℕ) (f : Front) : Type 0 where

@@ -1,5 +1,5 @@
 -- Each opcode has its arm.
-use Rattle.std.proofs.Common.{◌≡◌, ◌∙◌, ◌≢◌, ℕ, ◌*◌, ◌≤◌, ◌<◌, ◌^◌, Bool, false, List, length, drop, sym, lit<, arith}
+use Rattle.std.proofs.Common.{◌≡◌, ◌∙◌, ◌≢◌, ℕ, ◌*◌, ◌≤◌, ◌<◌, ◌^◌, Bool, false, List, length, drop, sym, lit<, arith, Option}
 use mathlib.Core.Path.{subst}
 use lib.Dec.{lit≤}
 use Rattle.asmap_program.specs.Map.{limit}
@@ -7,17 +7,16 @@ use Rattle.asmap_program.specs.declared.Previous.{Previous}
 use Rattle.asmap_codes.specs.Bits.{map_bits}
 use Rattle.asmap_codes.specs.Row.{type_row, operand_row}
 use Rattle.asmap_codes.specs.Code.{code_at}
-use Rattle.asmap_codes.specs.declared.Code.{Code}
-use Rattle.asmap_codes.specs.declared.Code.TheVariants.{Value}
 use Rattle.asmap_codes.proofs.Inside.{value_at}
 use Rattle.asmap_window.specs.models.Window.{Window}
 use Rattle.asmap_row_decoder.specs.models.InWindow.{Holds, row_in}
 use Rattle.asmap_row_decoder.proofs.WindowLaws.{row-window, window-holds}
 use Rattle.asmap_check_act.specs.models.Act.{past_top, refusing, on_operand, acts}
 use Rattle.asmap_check_act.proofs.sanity_act.Goals as goal
+use Rattle.asmap_codes.specs.Reading.{Code, Value}
 
 -- what was read is the opcode of the map
-typed : (m : List ℕ) (at w : ℕ) (r g : Code) → Window 57 w (drop at (map_bits m)) → r ≡ row_in type_row at (8 * length m) w → r ≡ g → code_at m at type_row ≡ g
+typed : (m : List ℕ) (at w : ℕ) (r g : Option Code) → Window 57 w (drop at (map_bits m)) → r ≡ row_in type_row at (8 * length m) w → r ≡ g → code_at m at type_row ≡ g
 typed m at w r g h e q = sym (e ∙ row-window m at w type_row (lit< tt) (window-holds m at w type_row (lit≤ tt) h)) ∙ q
 
 -- the operand of an opcode o starts inside the map, or at its end, and stands in the window

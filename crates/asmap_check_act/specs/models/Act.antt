@@ -1,17 +1,16 @@
 -- What the check does at an instruction, on numbers: the model that the arms of the code equal. Nothing of it has to be believed:
 -- `asmap_check/proofs/ActLaws.antt` shows that it is the step of asmap_program's check.
 -- Assumes nothing.
-use Rattle.std.specs.Prelude.{ℕ, zero, suc, ◌+◌, Bool, true, false, not, cond, ◌&&◌, List, leb, ltb, eqb}
+use Rattle.std.specs.Prelude.{ℕ, zero, suc, ◌+◌, Bool, true, false, not, cond, ◌&&◌, List, leb, ltb, eqb, Option}
 use Rattle.asmap_program.specs.declared.Previous.{Previous}
 use Rattle.asmap_program.specs.Map.{Opcode, Operand, cut_reason, length_of}
 use Rattle.asmap_program.specs.Check.{is_default, is_short}
-use Rattle.asmap_codes.specs.declared.Code.{Code}
-use Rattle.asmap_codes.specs.declared.Code.TheVariants.{Value, Cut}
 use Rattle.asmap_codes.specs.Row.{type_row, operand_row}
 use Rattle.asmap_codes.specs.Code.{code_at}
 use Rattle.asmap_codes.specs.Instruction.{padded_from}
 use Rattle.asmap_check_act.specs.declared.Act.{Act}
 use Rattle.asmap_check_act.specs.declared.Act.TheVariants.{Opens, Closes, Uses, Keeps, Accepts, Refuses}
+use Rattle.asmap_codes.specs.Reading.{Code, Cut, Value}
 
 -- p lies at or past the innermost open target t; d: the depth
 abbrev pub past_top : ℕ → ℕ → ℕ → Bool
@@ -26,37 +25,37 @@ refusing false n a = a
 -- value v and the place n after it.
 
 -- RETURN and DEFAULT, unless straight after a DEFAULT
-abbrev pub returned : List ℕ → ℕ → ℕ → Code → Act
+abbrev pub returned : List ℕ → ℕ → ℕ → Option Code → Act
 returned m d t Cut = Refuses (cut_reason Operand)
 returned m d t (Value v n) = cond (eqb d 0) (refusing (not (padded_from m n)) 6 Accepts) (refusing (not (eqb n t)) 7 (Closes n))
 
-abbrev pub kept : Code → Act
+abbrev pub kept : Option Code → Act
 kept Cut = Refuses (cut_reason Operand)
 kept (Value v n) = Keeps n
 
-abbrev pub on_return : List ℕ → Previous → ℕ → ℕ → Code → Act
+abbrev pub on_return : List ℕ → Previous → ℕ → ℕ → Option Code → Act
 on_return m p d t c = refusing (is_default p) 5 (returned m d t c)
 
-abbrev pub on_default : Previous → Code → Act
+abbrev pub on_default : Previous → Option Code → Act
 on_default p c = refusing (is_default p) 5 (kept c)
 
-abbrev pub on_jump : ℕ → ℕ → ℕ → Code → Act
+abbrev pub on_jump : ℕ → ℕ → ℕ → Option Code → Act
 on_jump bits d t Cut = Refuses (cut_reason Operand)
 on_jump bits d t (Value v n) = refusing (eqb bits 0) 8 (refusing (past_top d t (n + v)) 9 (Opens n (n + v)))
 
-abbrev pub on_match : Previous → ℕ → Code → Act
+abbrev pub on_match : Previous → ℕ → Option Code → Act
 on_match p bits Cut = Refuses (cut_reason Operand)
 on_match p bits (Value v n) = refusing (ltb (length_of v) 8 && is_short p) 10 (refusing (ltb bits (length_of v)) 8 (Uses n (length_of v)))
 
 -- an operand, by its opcode
-abbrev pub on_operand : List ℕ → Previous → ℕ → ℕ → ℕ → ℕ → Code → Act
+abbrev pub on_operand : List ℕ → Previous → ℕ → ℕ → ℕ → ℕ → Option Code → Act
 on_operand m p bits d t zero c = on_return m p d t c
 on_operand m p bits d t (suc zero) c = on_jump bits d t c
 on_operand m p bits d t (suc (suc zero)) c = on_match p bits c
 on_operand m p bits d t (suc (suc (suc n))) c = on_default p c
 
 -- an opcode as it was read
-abbrev pub on_opcode : List ℕ → Previous → ℕ → ℕ → ℕ → Code → Act
+abbrev pub on_opcode : List ℕ → Previous → ℕ → ℕ → ℕ → Option Code → Act
 on_opcode m p bits d t Cut = Refuses (cut_reason Opcode)
 on_opcode m p bits d t (Value op n) = on_operand m p bits d t op (code_at m n (operand_row op))
 

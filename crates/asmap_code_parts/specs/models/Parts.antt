@@ -1,12 +1,11 @@
 -- The parts of a code, as they are found of a value. Assumes nothing.
-use Rattle.std.specs.Prelude.{ℕ, zero, suc, ◌+◌, ◌-◌, ◌^◌, ◌≤◌, ◌<◌, ◌≡◌, true, false, List, ◌∷◌, length}
+use Rattle.std.specs.Prelude.{ℕ, zero, suc, ◌+◌, ◌-◌, ◌^◌, ◌≤◌, ◌<◌, ◌≡◌, true, false, List, ◌∷◌, length, Option}
 use Rattle.asmap_codes.specs.Bits.{high}
 use Rattle.asmap_codes.specs.Row.{Row, in_range}
 use Rattle.asmap_codes.specs.models.Grown.{stops}
 use Rattle.asmap_codes.specs.Encode.{encode}
 use Rattle.asmap_code_parts.specs.declared.Parts.{Parts}
-use Rattle.asmap_code_parts.specs.declared.Coded.{Coded}
-use Rattle.asmap_code_parts.specs.declared.Coded.TheVariants.{In, Out}
+use Rattle.asmap_code_parts.specs.models.Coded.{In, Out}
 
 -- So many ones, then bits.
 abbrev pub ones_then : ℕ → List ℕ → List ℕ
@@ -40,6 +39,6 @@ pub record InRow (row : Row) (v pre : ℕ) (p : Parts) : Type 0 where
   pub few : length row.sizes ≤ 26
 
 -- What was found of a value in a row.
-abbrev pub CodedAs : Row → ℕ → Coded → Type 0
+abbrev pub CodedAs : Row → ℕ → Option (ℕ × Parts) → Type 0
 CodedAs row v (In pre p) = InRow row v pre p
 CodedAs row v Out = in_range row v ≡ false

@@ -1,22 +1,22 @@
 -- The limit, the end, then the two codes, each by its two cases.
-use Rattle.std.proofs.Common.{◌≡◌, ◌∙◌, ℕ, ◌*◌, List, length, drop, sym, lit<, arith}
+use Rattle.std.proofs.Common.{◌≡◌, ◌∙◌, ℕ, ◌*◌, List, length, drop, sym, lit<, arith, Option}
 use lib.Dec.{lit≤}
 use Rattle.asmap_codes.specs.Bits.{map_bits}
 use Rattle.asmap_codes.specs.Row.{type_row, operand_row}
 use Rattle.asmap_codes.specs.Code.{code_at}
-use Rattle.asmap_codes.specs.declared.Code.{Code}
 use Rattle.asmap_codes.proofs.Inside.{value_at, past_end, long_operand}
 use Rattle.asmap_codes.proofs.MapLaws.{laws, fetch-cut, fetch_operand, instruction_long, instruction_at_lem}
 use Rattle.asmap_window.specs.models.Window.{Window}
 use Rattle.asmap_row_decoder.specs.models.InWindow.{Holds, row_in}
 use Rattle.asmap_row_decoder.proofs.WindowLaws.{row-window, window-holds}
 use Rattle.asmap_decode.proofs.decode_instruction.Goals as goal
+use Rattle.asmap_codes.specs.Reading.{Code}
 
 -- the opcode and the operand that were read are those of the map
-opcode : (m : List ℕ) (at w : ℕ) (r g : Code) → Window 57 w (drop at (map_bits m)) → r ≡ row_in type_row at (8 * length m) w → r ≡ g → code_at m at type_row ≡ g
+opcode : (m : List ℕ) (at w : ℕ) (r g : Option Code) → Window 57 w (drop at (map_bits m)) → r ≡ row_in type_row at (8 * length m) w → r ≡ g → code_at m at type_row ≡ g
 opcode m at w r g h e q = sym (e ∙ row-window m at w type_row (lit< tt) (window-holds m at w type_row (lit≤ tt) h)) ∙ q
 
-operand : (m : List ℕ) (o at w : ℕ) (r g : Code) → Holds (operand_row o) m at w → r ≡ row_in (operand_row o) at (8 * length m) w → r ≡ g → code_at m at (operand_row o) ≡ g
+operand : (m : List ℕ) (o at w : ℕ) (r g : Option Code) → Holds (operand_row o) m at w → r ≡ row_in (operand_row o) at (8 * length m) w → r ≡ g → code_at m at (operand_row o) ≡ g
 operand m o at w r g h e q = sym (e ∙ row-window m at w (operand_row o) (long_operand o) h) ∙ q
 
 pub returns-then-map-gt-MAX_MAP_BYTES : goal.returns-then-map-gt-MAX_MAP_BYTES

@@ -1,12 +1,11 @@
 -- What the code of the writer speaks of on its way: a code's parts in a word. Assumes nothing.
-use Rattle.std.specs.Prelude.{ℕ, ◌+◌, ◌-◌, ◌*◌, ◌^◌, ◌≤◌, ◌<◌}
+use Rattle.std.specs.Prelude.{ℕ, ◌+◌, ◌-◌, ◌*◌, ◌^◌, ◌≤◌, ◌<◌, Result, Ok, Err, Option}
 use Rattle.asmap_codes.specs.Bits.{high, word}
 use Rattle.asmap_code_parts.specs.declared.Parts.{Parts}
-use Rattle.asmap_code_parts.specs.declared.Coded.{Coded}
-use Rattle.asmap_code_parts.specs.declared.Coded.TheVariants.{In, Out}
 use Rattle.asmap_encode.specs.declared.Word.{Word}
-use Rattle.asmap_encode.specs.declared.Written.{Written}
-use Rattle.asmap_encode.specs.declared.Written.TheVariants.{Bits, Refused}
+use Rattle.asmap_code_parts.specs.models.Coded.{In, Out}
+use Rattle.refusals.specs.declared.Refusal.{Refusal}
+use Rattle.refusals.specs.declared.Refusal.TheVariants as refusal
 
 -- A code's parts fit a word after an opcode's bits: pre is how many bits stand before the size's own.
 pub record Short (pre : ℕ) (p : Parts) : Type 0 where
@@ -15,7 +14,7 @@ pub record Short (pre : ℕ) (p : Parts) : Type 0 where
   pub size : p.size ≤ 31
   pub small : p.rest < 2 ^ p.size
 
-abbrev pub Shortened : Coded → Type 0
+abbrev pub Shortened : Option (ℕ × Parts) → Type 0
 Shortened (In pre p) = Short pre p
 Shortened Out = Unit {0}
 
@@ -27,11 +26,11 @@ number_of pre p = 2 ^ p.ones - 1 + word (high p.size p.rest) * 2 ^ pre
 abbrev pub after : Word → ℕ → Parts → Word
 after w pre p = record { bits = w.bits + number_of pre p * 2 ^ w.len; len = w.len + pre + p.size }
 
-abbrev pub written_as : Word → Coded → Written
-written_as w (In pre p) = Bits (after w pre p)
-written_as w Out = Refused 15
+abbrev pub written_as : Word → Option (ℕ × Parts) → Result Word Refusal
+written_as w (In pre p) = Ok (after w pre p)
+written_as w Out = Err refusal.OutOfRange
 
 -- How many bits were written, none where it was refused.
-abbrev pub length_written : Written → ℕ
-length_written (Bits w) = w.len
-length_written (Refused n) = 0
+abbrev pub length_written : Result Word Refusal → ℕ
+length_written (Ok w) = w.len
+length_written (Err n) = 0

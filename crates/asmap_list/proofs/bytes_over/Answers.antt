@@ -1,6 +1,5 @@
 -- 24 bytes for each piece that the check counted.
-use Rattle.std.proofs.Common.{◌∙◌, sym, ap}
-use Rattle.asmap_list.specs.declared.Needed.TheVariants.{Bytes}
+use Rattle.std.proofs.Common.{◌∙◌, sym, ap, Ok}
 use Rattle.asmap_list.specs.List.{bytes_of}
 use Rattle.asmap_list.proofs.CallLaws.{counts, refuses}
 use Rattle.asmap_list.proofs.bytes_over.Goals as goal
@@ -10,4 +9,4 @@ returns-in-Refused c = sym (ap bytes_of (refuses c.args.map.now c.args.bits c.re
 
 pub returns-in-Pieces : goal.returns-in-Pieces
 returns-in-Pieces c =
-    let k = counts c.args.map.now c.args.bits c.requires _ c.in-Pieces.ensures.0 in ap Bytes (sym k.long) ∙ sym (ap bytes_of k.made)
+    let k = counts c.args.map.now c.args.bits c.requires _ c.in-Pieces.ensures.0 in ap Ok (sym k.long) ∙ sym (ap bytes_of k.made)

@@ -1,12 +1,12 @@
 -- Each opcode has its arm: an opcode is read here, and the window holds its operand.
 use Rattle.std.proofs.Common.{ℕ, ◌≡◌, refl, ◌∙◌, ap, subst, arith}
 use Rattle.asmap_codes.specs.Row.{operand_row}
-use Rattle.asmap_codes.specs.declared.Code.TheVariants.{Value}
 use Rattle.asmap_row_decoder.specs.models.InWindow.{Holds}
 use Rattle.asmap_list_step.specs.models.Step.{Reads}
 use Rattle.asmap_list_step.proofs.StepLaws.{opcode_cut, opcode_read, opcode_small}
 use Rattle.asmap_list_step.proofs.step_at.Goals as goal
 use Rattle.asmap_list_step.proofs.step_at.Goals.{After-operand_window-rest}
+use Rattle.asmap_codes.specs.Reading.{Value}
 
 reads : (k : After-operand_window-rest) (o : ℕ) → k.in-Value.opcode ≡ o → Reads k.args.map.now k.args.s o k.in-Value.from
 reads k o e =

@@ -1,18 +1,17 @@
 -- The listing's step as code has it: the stack in two arrays, what is still to come from a state, and what a step does to that. The arrays
 -- have 128 places, one for each bit of the longest address; nothing else here depends on a width.
 -- Assumes nothing.
-use Rattle.std.specs.Prelude.{ℕ, zero, suc, ◌+◌, ◌-◌, ◌*◌, ◌≤◌, ◌<◌, Bool, true, false, ◌≡◌, List, [], ◌∷◌, ltb, length, get_or}
+use Rattle.std.specs.Prelude.{ℕ, zero, suc, ◌+◌, ◌-◌, ◌*◌, ◌≤◌, ◌<◌, Bool, true, false, ◌≡◌, List, [], ◌∷◌, ltb, length, get_or, Option, None}
 use Rattle.asmap_program.specs.Map.{Map}
 use Rattle.asmap_codes.specs.Row.{type_row}
 use Rattle.asmap_codes.specs.Code.{code_at}
-use Rattle.asmap_codes.specs.declared.Code.TheVariants.{Value}
 use Rattle.asmap_codes.specs.Instruction.{map_of}
 use Rattle.asmap_listing.specs.models.Scan.{Leaf, leaf, Entry, Side, Half, Scan, popped, bitwise, scanned, Rising}
 use Rattle.asmap_list_step.specs.declared.Spot.{Spot}
 use Rattle.asmap_list_step.specs.declared.Turn.{Turn}
 use Rattle.asmap_list_step.specs.declared.Turn.TheVariants.{Gives, Goes, Ends}
-use Rattle.asmap_list_step.specs.declared.Next.{Next}
-use Rattle.asmap_list_step.specs.declared.Next.TheVariants.{Piece, Over}
+use Rattle.asmap_codes.specs.Reading.{Value}
+use Rattle.asmap_list_step.specs.models.Next.{Piece}
 
 -- An entry of the arrays: a JUMP's second half is kept as its bit, a side that differs as its bit and 128 more.
 unfoldable pub entry_if : Bool → ℕ → ℕ → Entry
@@ -63,9 +62,9 @@ Stepped map s bs ns bs' ns' (Goes s') = Onward map s s' bs' ns' (rest map s bs n
 Stepped map s bs ns bs' ns' Ends = rest map s bs ns ≡ []
 
 -- Steps from s up to a piece.
-abbrev pub Passed : List ℕ → Spot → List ℕ → List ℕ → List ℕ → List ℕ → Next → Type 0
+abbrev pub Passed : List ℕ → Spot → List ℕ → List ℕ → List ℕ → List ℕ → Option (ℕ × ℕ × Spot) → Type 0
 Passed map s bs ns bs' ns' (Piece l n s') = Onward map s s' bs' ns' (rest map s bs ns) (leaf l n ∷ rest map s' bs' ns')
-Passed map s bs ns bs' ns' Over = rest map s bs ns ≡ []
+Passed map s bs ns bs' ns' None = rest map s bs ns ≡ []
 
 -- At s the opcode op is read, and its operand starts at `from`.
 abbrev pub Reads : List ℕ → Spot → ℕ → ℕ → Type 0

@@ -4,7 +4,7 @@ use Rattle.std.proofs.lemmas.List.Edits.{sets}
 use Rattle.asmap_bit_writer.specs.Bytes.{bytes_of}
 use Rattle.asmap_bit_writer.proofs.ByteLaws.{length-bytes_of}
 use Rattle.asmap_records.specs.Pack.{pack_of}
-use Rattle.asmap_records.specs.Output.{Result, Made, No}
+use Rattle.asmap_records.specs.Output.{Making, Made, No}
 use Rattle.asmap_records.proofs.OutputLaws.{hands_no, hands_short, hands_made}
 use Rattle.asmap_records.proofs.PackLaws.{records_bound, pack_ragged, pack_whole}
 use Rattle.asmap_pack.specs.models.Size.{bits_in}
@@ -45,4 +45,4 @@ returns-else-out-bytes c =
     hands_made (pack_of a.records.now) a.out.now (bytes_of k.0) _ _ (pack_whole a.records.now (Made k.0) c.if-records-ne0.false k.1)
     (omega (arith, k.2, length-bytes_of k.0))
     (omega (arith, k.2, length-bytes_of k.0))
-    (c.write_records.ensures ∙ ap (λ (y : Result). sets a.out.now 0 (bytes_of (bits_in y))) k.1)
+    (c.write_records.ensures ∙ ap (λ (y : Making). sets a.out.now 0 (bytes_of (bits_in y))) k.1)

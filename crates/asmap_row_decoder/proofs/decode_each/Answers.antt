@@ -1,9 +1,9 @@
 -- The prefix, then the bits of one size.
 use Rattle.std.proofs.Common.{◌∙◌, ℕ, ◌+◌, leb, sym, ap, arith}
 use Rattle.asmap_codes.specs.Code.{pick}
-use Rattle.asmap_codes.specs.declared.Code.TheVariants.{Value, Cut}
 use Rattle.asmap_codes.proofs.BitLaws.{size_of_pow, number-low_lt}
 use Rattle.asmap_row_decoder.proofs.decode_each.Goals as goal
+use Rattle.asmap_codes.specs.Reading.{Cut, Value}
 
 pub first_bits-requires : goal.first_bits-requires
 first_bits-requires c = size_of_pow _ (omega (arith, c.read_prefix-stop.ensures.small))

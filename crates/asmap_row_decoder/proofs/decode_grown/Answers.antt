@@ -4,12 +4,12 @@ use mathlib.Core.Path.{ap₂}
 use Rattle.asmap_codes.specs.Code.{pick}
 use Rattle.asmap_codes.specs.Row.{span}
 use Rattle.asmap_codes.specs.models.Grown.{grown, stops}
-use Rattle.asmap_codes.specs.declared.Code.TheVariants.{Value, Cut}
 use Rattle.asmap_codes.proofs.GrownLaws.{stops_fit}
 use Rattle.asmap_codes.proofs.ReverseLaws.{rev_lt, number-rev}
 use Rattle.asmap_row_decoder.specs.models.InWindow.{code_in, tail_in, ones_of}
 use Rattle.asmap_row_decoder.proofs.GrownCode.{ones_le, code_grown, Fits, grown_fits}
 use Rattle.asmap_row_decoder.proofs.decode_grown.Goals as goal
+use Rattle.asmap_codes.specs.Reading.{Cut, Value}
 
 -- the ones are fewer than the sizes
 few : (n w k : ℕ) → 0 < n → k ≡ ones_of (n - 1) w → k < n

@@ -3,13 +3,13 @@
 use Rattle.std.proofs.Common.{◌≡◌, ◌∙◌, sym, ap, arith, ℕ, ◌+◌, ◌-◌, ◌*◌, List, []}
 use Rattle.std.proofs.lemmas.List.Edits.{sets}
 use Rattle.asmap_program.specs.declared.Instruction.{Instruction}
-use Rattle.asmap_program.specs.declared.Verdict.TheVariants.{Accepted}
 use Rattle.asmap_program.specs.Check.{check, unpacked}
 use Rattle.asmap_program.proofs.Loop.{list_from, unpacked_list}
 use Rattle.asmap_codes.specs.Instruction.{map_of}
 use Rattle.asmap_records.specs.Record.{record_of, records_of}
 use Rattle.asmap_unpack.proofs.ListLaws.{read_none, list_more, list_none, list-zero, turn_of}
 use Rattle.asmap_unpack.proofs.put_list.Goals as goal
+use Rattle.asmap_program.specs.Verdict.{Accepted}
 
 -- nothing is left to be written: then what was written is the check's list, where it accepts
 over : (m o₀ o : List ℕ) (count k : ℕ) (l : List Instruction) → sets o₀ 0 (records_of (list_from (map_of m) count 0)) ≡ sets o k (records_of l) → l ≡ []

@@ -1,6 +1,5 @@
 -- The check's verdict decides, and what is listed is the check's own list.
-use Rattle.std.proofs.Common.{sym, arith}
-use Rattle.asmap_program.specs.declared.Verdict.TheVariants.{Refused}
+use Rattle.std.proofs.Common.{sym, arith, Err}
 use Rattle.asmap_program.specs.Check.{unpacked}
 use Rattle.asmap_codes.specs.Instruction.{map_of}
 use Rattle.asmap_check.proofs.Limit.{accepted_within}
@@ -22,7 +21,7 @@ pub returns-in-Refused : goal.returns-in-Refused
 returns-in-Refused c =
     let a = c.args in
     let n = c.in-Refused.reason in
-    hands_no (unpack_of a.map.now a.bits) a.out.now n (unpack_as_lem a.map.now a.bits (Refused n) c.in-Refused.ensures.value)
+    hands_no (unpack_of a.map.now a.bits) a.out.now n (unpack_as_lem a.map.now a.bits (Err n) c.in-Refused.ensures.value)
 
 pub returns-else-out-records : goal.returns-else-out-records
 returns-else-out-records c =

@@ -1,28 +1,27 @@
 -- Each turn is a turn of the defined walk (`Walking`), and the bits of a MATCH are compared as it compares them (`Comparing`).
-use Rattle.std.proofs.Common.{◌≡◌, ◌∙◌, ℕ, ◌+◌, ◌-◌, ◌*◌, true, false, List, length, drop, refl, sym, lit<, arith}
+use Rattle.std.proofs.Common.{◌≡◌, ◌∙◌, ℕ, ◌+◌, ◌-◌, ◌*◌, true, false, List, length, drop, refl, sym, lit<, arith, Option}
 use lib.Dec.{lit≤}
 use borrow.Author.Tests.{eq-eqb, ne_eqb}
 use Rattle.asmap_codes.specs.Bits.{map_bits}
 use Rattle.asmap_codes.specs.Row.{type_row, operand_row}
 use Rattle.asmap_codes.specs.Code.{code_at}
-use Rattle.asmap_codes.specs.declared.Code.{Code}
-use Rattle.asmap_codes.specs.declared.Code.TheVariants.{Value}
 use Rattle.asmap_codes.proofs.Inside.{long_operand}
 use Rattle.asmap_window.specs.models.Window.{Window}
 use Rattle.asmap_row_decoder.specs.models.InWindow.{Holds, row_in}
 use Rattle.asmap_row_decoder.proofs.WindowLaws.{row-window, window-holds}
 use Rattle.asmap_walk_bits.proofs.Walking.{Walking, Taken, Comparing, walking_start, opcode_read_lem, cut_opcode, cut_operand, read, returns_ends, jump_ends, jump_onward, jump_goes, jump_past, match_some, match_most, match_ends, match_differs, match_goes, default_goes, comparing_start, equal_goes, different_ends, all_equal, comparing_from, front_goes}
 use Rattle.asmap_walk_bits.proofs.walk_bits.Goals as goal
+use Rattle.asmap_codes.specs.Reading.{Code, Value}
 
 -- the opcode and the operand that were read are those of the map
-typed : (m : List ℕ) (p w : ℕ) (r g : Code) → Window 57 w (drop p (map_bits m)) → r ≡ row_in type_row p (8 * length m) w → r ≡ g → code_at m p type_row ≡ g
+typed : (m : List ℕ) (p w : ℕ) (r g : Option Code) → Window 57 w (drop p (map_bits m)) → r ≡ row_in type_row p (8 * length m) w → r ≡ g → code_at m p type_row ≡ g
 typed m p w r g h e q = sym (e ∙ row-window m p w type_row (lit< tt) (window-holds m p w type_row (lit≤ tt) h)) ∙ q
 
-operand : (m : List ℕ) (o p w : ℕ) (r g : Code) → Holds (operand_row o) m p w → r ≡ row_in (operand_row o) p (8 * length m) w → r ≡ g → code_at m p (operand_row o) ≡ g
+operand : (m : List ℕ) (o p w : ℕ) (r g : Option Code) → Holds (operand_row o) m p w → r ≡ row_in (operand_row o) p (8 * length m) w → r ≡ g → code_at m p (operand_row o) ≡ g
 operand m o p w r g h e q = sym (e ∙ row-window m p w (operand_row o) (long_operand o) h) ∙ q
 
 -- what is known where an instruction was read whole, said once
-taken : {m a : List ℕ} {w pos used default count : ℕ} → Walking m a w pos used default count → (word rest op at x n : ℕ) (f s : Code)
+taken : {m a : List ℕ} {w pos used default count : ℕ} → Walking m a w pos used default count → (word rest op at x n : ℕ) (f s : Option Code)
     → Window 57 word (drop pos (map_bits m)) → f ≡ row_in type_row pos (8 * length m) word → f ≡ Value op at
     → Holds (operand_row op) m at rest → s ≡ row_in (operand_row op) at (8 * length m) rest → s ≡ Value x n
     → Taken m a w pos used default count op at x n

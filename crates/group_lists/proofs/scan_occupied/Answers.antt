@@ -1,10 +1,10 @@
 -- `scan_occupied` is `scan_of`, by the place of the first hit; and the groups up to the hit decide.
 use Rattle.std.proofs.Common.{◌≡◌, ◌∙◌, ◌<◌, sym, ap, arith, length}
-use Rattle.group_lists.specs.declared.Scan.TheVariants.{Missed}
 use Rattle.group_lists.specs.Scan.{in_front, Unread}
 use Rattle.group_lists.proofs.Scans.{front_most}
 use Rattle.group_lists.proofs.ScanLaws.{scan-taken, scanned_hit, scanned_missed, hit-unread}
 use Rattle.group_lists.proofs.scan_occupied.Goals as goal
+use Rattle.group_lists.specs.Scanned.{Missed}
 
 pub returns-then-place-occupied-clause-value : goal.returns-then-place-occupied-clause-value
 returns-then-place-occupied-clause-value c =

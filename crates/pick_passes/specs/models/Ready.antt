@@ -1,7 +1,6 @@
 -- What the passes can rely on where a pick is not refused.
 -- Assumes nothing.
-use Rattle.std.specs.Prelude.{ℕ, ◌/◌, ◌≤◌, min, ◌≡◌, List, length}
-use Rattle.peer_lists.specs.declared.Refusal.TheVariants.{None}
+use Rattle.std.specs.Prelude.{ℕ, ◌/◌, ◌≤◌, min, ◌≡◌, List, length, None}
 use Rattle.netgroup.specs.Group.{Numbering}
 use Rattle.netgroup.specs.Refusal.{limit_refusal}
 
