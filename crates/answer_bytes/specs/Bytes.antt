@@ -6,16 +6,17 @@ use Rattle.asmap_records.specs.Output.{Making, within, answer_of, leaves}
 use Rattle.asmap_compare.specs.Compare.{Comparison, first_made, needed_with}
 use Rattle.answer_outcome.specs.Outcome.{Outcome, Done, No, Hands}
 use Rattle.refusals.specs.declared.Refusal.{Refusal}
+use Rattle.refusals.specs.Numbers.{refusal_number}
 
 -- An output that was written: how many bytes.
 unfoldable pub bytes_written : Result ℕ Refusal → Outcome
 bytes_written (Ok n) = Done (n ∷ [])
-bytes_written (Err n) = No n
+bytes_written (Err e) = No (refusal_number e)
 
 -- A listing or a comparison whose length was asked for: how many bytes it needs.
 unfoldable pub bytes_needed : Result ℕ Refusal → Outcome
 bytes_needed (Ok n) = Done (n ∷ [])
-bytes_needed (Err n) = No n
+bytes_needed (Err e) = No (refusal_number e)
 
 -- A call that writes bytes to a lent output, which holds o at entry and o' at exit. made: what the call makes, before it is known
 -- whether the output has room for it.

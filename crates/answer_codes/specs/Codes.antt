@@ -7,18 +7,19 @@ use Rattle.asmap_program.specs.declared.Instruction.{Instruction}
 use Rattle.asmap_encode.specs.declared.Word.{Word}
 use Rattle.refusals.specs.declared.Fault.{Fault}
 use Rattle.refusals.specs.declared.Refusal.{Refusal}
+use Rattle.refusals.specs.Numbers.{fault_number, refusal_number}
 
 -- A code that was read: its value, and the bit after it.
 unfoldable pub code_read : Result Code Fault → Outcome
 code_read (Found value next) = Done (value ∷ next ∷ [])
-code_read (Err n) = No n
+code_read (Err f) = No (fault_number f)
 
 -- An instruction that was read: its opcode, its operand, and its length in bits.
 unfoldable pub instruction_read : Result Instruction Fault → Outcome
 instruction_read (Ok i) = Done (i.opcode ∷ i.operand ∷ i.size ∷ [])
-instruction_read (Err n) = No n
+instruction_read (Err f) = No (fault_number f)
 
 -- Bits that were written: in a word, the first bit lowest, and how many they are.
 unfoldable pub bits_written : Result Word Refusal → Outcome
 bits_written (Ok w) = Done (w.bits ∷ w.len ∷ [])
-bits_written (Err n) = No n
+bits_written (Err e) = No (refusal_number e)

@@ -3,7 +3,8 @@
 use Rattle.std.specs.Prelude.{◌∷◌, [], Result, Ok, Err}
 use Rattle.answer_outcome.specs.Outcome.{Outcome, Done, No}
 use Rattle.refusals.specs.declared.Refusal.{Refusal}
+use Rattle.refusals.specs.Numbers.{refusal_number}
 
 unfoldable pub number_drawn : Result ℕ Refusal → Outcome
 number_drawn (Ok n) = Done (n ∷ [])
-number_drawn (Err n) = No n
+number_drawn (Err e) = No (refusal_number e)

@@ -28,6 +28,7 @@ use Rattle.answers.proofs.Handing.{Counted, Refuses, counted, counted_at}
 use Rattle.asmap_program.specs.Verdict.{Accepted, Verdict}
 use Rattle.asmap_check.specs.Stop.{At}
 use Rattle.std.specs.Prelude.{Ok, Err}
+use Rattle.refusals.specs.Numbers.{of_map}
 
 -- ---- the check. P: what is shown of its number
 
@@ -42,11 +43,11 @@ module _ (P : ℕ → Type 0) (reason : (n : ℕ) → Reason n → P n) where
   check-numbers m w = judged (check m w) (check-judged P reason m w)
 
   -- any map: 1 too
-  pub map-numbers : (m : List ℕ) (w : ℕ) → P 1 → Refuses P (map_checked (check_of m w))
+  pub map-numbers : (m : List ℕ) (w : ℕ) → P 1 → Refuses P (map_checked (of_map (check_of m w)))
   map-numbers m w one = judged (check_of m w) (map-judged P reason m w one)
 
-pub map_checked_lem : (m : List ℕ) (w : ℕ) → Counted (map_checked (check_of m w))
-map_checked_lem m w = counted (map_checked (check_of m w)) (map-numbers (λ n. 0 < n) reason-some m w (omega arith))
+pub map_checked_lem : (m : List ℕ) (w : ℕ) → Counted (map_checked (of_map (check_of m w)))
+map_checked_lem m w = counted (map_checked (of_map (check_of m w))) (map-numbers (λ n. 0 < n) reason-some m w (omega arith))
 
 -- where it stops: 1 alone
 counted_stop : (long : Bool) (reason place : ℕ) → Counted (check_stopped (stops_unless_long long (At reason place)))
@@ -54,7 +55,7 @@ unfolding Counted check_stopped
 counted_stop true reason place = omega arith
 counted_stop false reason place = tt
 
-pub check_stopped_lem : (m : List ℕ) (w : ℕ) → Counted (check_stopped (stopped_of m w))
+pub check_stopped_lem : (m : List ℕ) (w : ℕ) → Counted (check_stopped (of_map (stopped_of m w)))
 check_stopped_lem m w = counted_stop (ltb limit (length m)) (reason_of (check (map_of m) w)) (stop_of (map_of m) w)
 
 -- ---- the walk
@@ -107,11 +108,11 @@ module _ (P : ℕ → Type 0) where
   numbered-length (No n) h = h
 
   -- the check's; where it is written, then 14
-  pub list-numbers : (k : ℕ) (m : List ℕ) (w : ℕ) → P 14 → Refuses P (map_checked (check_of m w)) → Refuses P (bytes_written (answer_of (within k (list_of m w))))
+  pub list-numbers : (k : ℕ) (m : List ℕ) (w : ℕ) → P 14 → Refuses P (map_checked (of_map (check_of m w))) → Refuses P (bytes_written (answer_of (within k (list_of m w))))
   unfolding list_of
   list-numbers k m w short h = bytes-numbers k (list_of m w) short (by-verdict (list_as m) (λ c d. tt) (λ n p. p) (check_of m w) h)
 
-  pub length-numbers : (m : List ℕ) (w : ℕ) → Refuses P (map_checked (check_of m w)) → Refuses P (bytes_needed (needed_of m w))
+  pub length-numbers : (m : List ℕ) (w : ℕ) → Refuses P (map_checked (of_map (check_of m w))) → Refuses P (bytes_needed (needed_of m w))
   unfolding list_of
   length-numbers m w h = numbered-length (list_of m w) (by-verdict (list_as m) (λ c d. tt) (λ n p. p) (check_of m w) h)
 
@@ -128,7 +129,7 @@ module _ (P : ℕ → Type 0) where
   numbered-need c (Made l) h k = k
   numbered-need c (No n) h k = h
 
-  module _ (old new : List ℕ) (w : ℕ) (h : Refuses P (map_checked (check_of old w))) (k : Refuses (λ n. P (100 + n)) (map_checked (check_of new w))) where
+  module _ (old new : List ℕ) (w : ℕ) (h : Refuses P (map_checked (of_map (check_of old w)))) (k : Refuses (λ n. P (100 + n)) (map_checked (of_map (check_of new w)))) where
     records_make_of : Makes (compare_of old new w)
     unfolding comparison
     records_make_of = named records_made (λ cs. tt) (λ n p. p) (changes_of old new w) (check_of old w) (check_of new w) h k
@@ -148,7 +149,7 @@ module _ (P : ℕ → Type 0) where
         (numbered-length (compare_of old new w) records_make_of)
 
   -- the check's, then 14
-  pub unpack-numbers : (k : ℕ) (m : List ℕ) (w : ℕ) → P 14 → Refuses P (map_checked (check_of m w)) → Refuses P (bytes_written (answer_of (within k (unpack_of m w))))
+  pub unpack-numbers : (k : ℕ) (m : List ℕ) (w : ℕ) → P 14 → Refuses P (map_checked (of_map (check_of m w))) → Refuses P (bytes_written (answer_of (within k (unpack_of m w))))
   unfolding unpack_of
   unpack-numbers k m w short h = bytes-numbers k (unpack_of m w) short (by-verdict (unpack_as m w) (λ c d. tt) (λ n p. p) (check_of m w) h)
 
@@ -183,10 +184,10 @@ pub pack_written : (k : ℕ) (rs : List ℕ) → Counted (bytes_written (answer_
 pack_written k rs = counted _ (pack-numbers (λ n. 0 < n) (omega arith) (omega arith) (omega arith) k rs (omega arith))
 
 -- no number of either map is 0, and none with 100 more
-never_0 : (m : List ℕ) (w : ℕ) → Refuses (λ n. 0 < n) (map_checked (check_of m w))
+never_0 : (m : List ℕ) (w : ℕ) → Refuses (λ n. 0 < n) (map_checked (of_map (check_of m w)))
 never_0 m w = map-numbers (λ n. 0 < n) reason-some m w (omega arith)
 
-never_100 : (m : List ℕ) (w : ℕ) → Refuses (λ n. 0 < 100 + n) (map_checked (check_of m w))
+never_100 : (m : List ℕ) (w : ℕ) → Refuses (λ n. 0 < 100 + n) (map_checked (of_map (check_of m w)))
 never_100 m w = map-numbers (λ n. 0 < 100 + n) (λ n h. omega arith) m w (omega arith)
 
 pub compare_written : (k : ℕ) (old new : List ℕ) (w : ℕ) → Counted (bytes_written (answer_of (within k (compare_of old new w))))

@@ -1,6 +1,9 @@
 -- What the check answers for a list of bytes (document 01, Check and "What a call hands back").
 -- Assumes nothing.
 use Rattle.std.specs.Prelude.{ℕ, ◌≤◌, Bool, true, false, ◌≡◌, ◌⊎◌, List, ltb, length, Result, Err, Ok}
+use Rattle.refusals.specs.declared.Refusal.{Refusal}
+use Rattle.refusals.specs.Numbers.{of_map}
+use Rattle.asmap_program.specs.declared.Accepted as struct
 use Rattle.asmap_program.specs.Map.{limit}
 use Rattle.asmap_program.specs.Widths.{is_width, at_width}
 use Rattle.asmap_program.specs.Check.{accepted, check, stop_of}
@@ -23,37 +26,37 @@ unless_long false v = v
 abbrev pub check_of : List ℕ → ℕ → Verdict
 check_of m w = unless_long (ltb limit (length m)) (check (map_of m) w)
 
--- The numbers with which the check refuses a map within the limit: document 01's 2 to 10, and 19 for a cut operand (document 02, CR 5).
+-- The numbers of what the check finds wrong with a map within the limit: document 01's 2 to 10, and 19 for a cut operand (document 02, CR 5).
 abbrev pub Reason : ℕ → Type 0
 Reason n = ((2 ≤ n) × (n ≤ 10)) ⊎ (n ≡ 19)
 
 -- The check at a width (document 02, CR 3): 18, first of all, for a width that is neither 32 nor 128.
-abbrev pub check_at : List ℕ → ℕ → Verdict
-check_at m w = at_width w Err (check_of m w)
+abbrev pub check_at : List ℕ → ℕ → Result struct.Accepted Refusal
+check_at m w = at_width w Err (of_map (check_of m w))
 
 -- Core's SanityCheckASMap (the paper core-asmap.md) over w address bits accepts a map within the limit exactly where r does. The limit is
 -- document 01's; Core has none.
-abbrev pub LikeCore : List ℕ → ℕ → Verdict → Type 0
+abbrev pub LikeCore : {E : Type 0} → List ℕ → ℕ → Result struct.Accepted E → Type 0
 LikeCore m w r = length m ≤ limit → core_check (file_of m) w ≡ accepted r
 
 -- the same at 32 and at 128
-abbrev pub LikeCoreAt : List ℕ → ℕ → Verdict → Type 0
+abbrev pub LikeCoreAt : List ℕ → ℕ → Result struct.Accepted Refusal → Type 0
 LikeCoreAt m w r = is_width w ≡ true → LikeCore m w r
 
--- The reason in a verdict: 0 where it accepts.
-abbrev pub reason_of : Verdict → ℕ
-reason_of (Ok got) = 0
-reason_of (Err n) = n
+-- What a verdict finds wrong: nothing where it accepts.
+abbrev pub wrong_of : Verdict → Option Fault
+wrong_of (Ok got) = None
+wrong_of (Err f) = Some f
 
 -- refused 1 where the test holds
 abbrev pub stops_unless_long : Bool → Result Stop Fault → Result Stop Fault
 stops_unless_long true s = Err fault.MapTooLong
 stops_unless_long false s = s
 
--- Where the check of a map's bytes over w address bits stops: with which reason, and at which place. A map over the limit is 1.
+-- Where the check of a map's bytes over w address bits stops: with what is wrong, and at which place. A map over the limit is 1.
 abbrev pub stopped_of : List ℕ → ℕ → Result Stop Fault
-stopped_of m w = stops_unless_long (ltb limit (length m)) (At (reason_of (check (map_of m) w)) (stop_of (map_of m) w))
+stopped_of m w = stops_unless_long (ltb limit (length m)) (At (wrong_of (check (map_of m) w)) (stop_of (map_of m) w))
 
 -- the same at a width: 18 where it is none
-abbrev pub stopped_at : List ℕ → ℕ → Result Stop Fault
-stopped_at m w = at_width w Err (stopped_of m w)
+abbrev pub stopped_at : List ℕ → ℕ → Result Stop Refusal
+stopped_at m w = at_width w Err (of_map (stopped_of m w))

@@ -1,3 +1,4 @@
+pub mod Stop
 pub mod Check
 pub mod Examples
 pub mod models

@@ -23,11 +23,12 @@ use Rattle.asmap_check_run.specs.models.State.{opens_of, top}
 use Rattle.asmap_check_act.specs.models.Act.{past_top}
 use Rattle.asmap_check_act.specs.models.Act.{refusing, returned, kept, on_operand, on_opcode, acts}
 use Rattle.asmap_check_act.specs.declared.Act.{Act}
-use Rattle.asmap_check_act.specs.declared.Act.TheVariants.{Opens, Closes, Uses, Keeps, Accepts, Refuses}
+use Rattle.asmap_check_act.specs.models.Acts.{Opens, Closes, Uses, Keeps, Accepts, Refuses}
 use Rattle.asmap_check_run.proofs.StateLaws.{past_top_lem}
 use Rattle.asmap_codes.specs.Reading.{Code, Cut, Value}
-use Rattle.std.specs.Prelude.{Option}
+use Rattle.std.specs.Prelude.{Option, Result}
 use Rattle.refusals.specs.declared.Fault.TheVariants as fault
+use Rattle.refusals.specs.declared.Fault.{Fault}
 
 -- the instruction at a place, by what was read of it; where a code is cut, no outcome names it
 abbrev instruction : ℕ → ℕ → Option Code → Instruction
@@ -47,7 +48,7 @@ closed s i n [] = Refuse 0
 closed s i n (o ∷ os) =
     Next i (record { at = n; left = o.saved; before = Other; opens = os; count = suc s.count; deepest = s.deepest })
 
-abbrev pub applied : State → Instruction → Act → Outcome
+abbrev pub applied : State → Instruction → Result Act Fault → Outcome
 applied s i (Opens n t) =
     Next i (record {
       at = n;
@@ -65,7 +66,7 @@ applied s i (Keeps n) =
 applied s i Accepts = Done i (suc s.count) s.deepest
 applied s i (Refuses n) = Refuse n
 
-guarded : (s : State) (i : Instruction) (b : Bool) (n : ℕ) (o : Outcome) (a : Act) → o ≡ applied s i a → guard b n o ≡ applied s i (refusing b n a)
+guarded : (s : State) (i : Instruction) (b : Bool) (n : ℕ) (o : Outcome) (a : Result Act Fault) → o ≡ applied s i a → guard b n o ≡ applied s i (refusing b n a)
 unfolding guard refusing
 guarded s i true n o a e = refl
 guarded s i false n o a e = e
@@ -102,12 +103,12 @@ module _ (m ts ss : List ℕ) (left at : ℕ) (before : Previous) (count deepest
   whole_is d v n h zero = guarded (s d) (instruction at 0 (Value v n)) (is_default before) 5 _ (returned m d (top ts d) (Value v n)) (closes_is d 0 v n h)
   whole_is d v n h (suc zero) =
       let e : at + (n - at) ≡ n = omega arith in
-      guarded (s d) (instruction at 1 (Value v n)) (eqb left 0) 8 _ (refusing (past_top d (top ts d) (n + v)) 9 (Opens n (n + v)))
+      guarded (s d) (instruction at 1 (Value v n)) (eqb left 0) 8 _ (refusing (past_top d (top ts d) (n + v)) fault.TargetsCross (Opens n (n + v)))
       (rw (e, past_top_lem ts ss d (n + v)) (guarded (s d) (instruction at 1 (Value v n)) (past_top d (top ts d) (n + v)) 9 _ (Opens n (n + v)) refl))
   whole_is d v n h (suc (suc zero)) =
       let e : at + (n - at) ≡ n = omega arith in
       rw e
-      (guarded (s d) (instruction at 2 (Value v n)) _ 10 _ (refusing (ltb left (length_of v)) 8 (Uses n (length_of v)))
+      (guarded (s d) (instruction at 2 (Value v n)) _ 10 _ (refusing (ltb left (length_of v)) fault.NoBits (Uses n (length_of v)))
       (guarded (s d) (instruction at 2 (Value v n)) _ 8 _ (Uses n (length_of v)) refl))
   whole_is d v n h (suc (suc (suc op))) =
       let e : at + (n - at) ≡ n = omega arith in
@@ -146,7 +147,7 @@ module _ (m ts ss : List ℕ) (left at : ℕ) (before : Previous) (count deepest
   end_is d h = rw (le-leb (8 * length m) at h)
 
 -- what an act is sure of: a bit for a JUMP, an open jump to close, the bits of a MATCH
-abbrev pub Sure : ℕ → ℕ → Act → Type 0
+abbrev pub Sure : ℕ → ℕ → Result Act Fault → Type 0
 Sure bits d (Opens n t) = 1 ≤ bits
 Sure bits d (Closes n) = 1 ≤ d
 Sure bits d (Uses n k) = k ≤ bits
@@ -154,7 +155,7 @@ Sure bits d (Keeps n) = Unit {0}
 Sure bits d Accepts = Unit {0}
 Sure bits d (Refuses n) = Unit {0}
 
-sure_unless : (bits d : ℕ) (b : Bool) (n : ℕ) (a : Act) → (b ≡ false → Sure bits d a) → Sure bits d (refusing b n a)
+sure_unless : (bits d : ℕ) (b : Bool) (n : ℕ) (a : Result Act Fault) → (b ≡ false → Sure bits d a) → Sure bits d (refusing b n a)
 unfolding refusing
 sure_unless bits d true n a h = tt
 sure_unless bits d false n a h = h refl
@@ -173,11 +174,11 @@ module _ (m : List ℕ) (p : Previous) (bits t : ℕ) where
   sure_on d zero c = sure_unless bits d (is_default p) 5 (returned m d t c) (λ _. sure-returned d c)
   sure_on d (suc zero) Cut = tt
   sure_on d (suc zero) (Value v n) =
-      sure_unless bits d (eqb bits 0) 8 (refusing (past_top d t (n + v)) 9 (Opens n (n + v)))
+      sure_unless bits d (eqb bits 0) 8 (refusing (past_top d t (n + v)) fault.TargetsCross (Opens n (n + v)))
       (λ z. sure_unless bits d (past_top d t (n + v)) 9 (Opens n (n + v)) (λ _. omega (arith, eqb-false bits 0 z)))
   sure_on d (suc (suc zero)) Cut = tt
   sure_on d (suc (suc zero)) (Value v n) =
-      sure_unless bits d (ltb (length_of v) 8 && is_short p) 10 (refusing (ltb bits (length_of v)) 8 (Uses n (length_of v)))
+      sure_unless bits d (ltb (length_of v) 8 && is_short p) 10 (refusing (ltb bits (length_of v)) fault.NoBits (Uses n (length_of v)))
       (λ _. sure_unless bits d (ltb bits (length_of v)) 8 (Uses n (length_of v)) (λ z. ltb-false bits (length_of v) z))
   sure_on d (suc (suc (suc op))) c = sure_unless bits d (is_default p) 5 (kept c) (λ _. sure-kept d c)
 
@@ -189,7 +190,7 @@ module _ (m : List ℕ) (p : Previous) (bits t : ℕ) where
   sure d place = sure_unless bits d (past_top d t place) 3 (on_opcode m p bits d t (code_at m place type_row)) (λ _. sure_opcode d (code_at m place type_row))
 
 -- how many pieces the instruction of an act gives
-abbrev pub Tells : Instruction → Act → Type 0
+abbrev pub Tells : Instruction → Result Act Fault → Type 0
 Tells i (Opens n t) = pieces_of i ≡ 0
 Tells i (Closes n) = pieces_of i ≡ 1
 Tells i (Uses n k) = pieces_of i ≡ k
@@ -197,7 +198,7 @@ Tells i (Keeps n) = pieces_of i ≡ 0
 Tells i Accepts = pieces_of i ≡ 1
 Tells i (Refuses n) = Unit {0}
 
-tells_unless : (i : Instruction) (b : Bool) (n : ℕ) (a : Act) → Tells i a → Tells i (refusing b n a)
+tells_unless : (i : Instruction) (b : Bool) (n : ℕ) (a : Result Act Fault) → Tells i a → Tells i (refusing b n a)
 unfolding refusing
 tells_unless i true n a h = tt
 tells_unless i false n a h = h
@@ -212,11 +213,11 @@ module _ (m : List ℕ) (p : Previous) (bits t : ℕ) where
   tells_on d zero place c = tells_unless (instruction place 0 c) (is_default p) 5 (returned m d t c) (tells-returned d place c)
   tells_on d (suc zero) place Cut = tt
   tells_on d (suc zero) place (Value v n) =
-      tells_unless (instruction place 1 (Value v n)) (eqb bits 0) 8 (refusing (past_top d t (n + v)) 9 (Opens n (n + v)))
+      tells_unless (instruction place 1 (Value v n)) (eqb bits 0) 8 (refusing (past_top d t (n + v)) fault.TargetsCross (Opens n (n + v)))
       (tells_unless (instruction place 1 (Value v n)) (past_top d t (n + v)) 9 (Opens n (n + v)) refl)
   tells_on d (suc (suc zero)) place Cut = tt
   tells_on d (suc (suc zero)) place (Value v n) =
-      tells_unless (instruction place 2 (Value v n)) (ltb (length_of v) 8 && is_short p) 10 (refusing (ltb bits (length_of v)) 8 (Uses n (length_of v)))
+      tells_unless (instruction place 2 (Value v n)) (ltb (length_of v) 8 && is_short p) 10 (refusing (ltb bits (length_of v)) fault.NoBits (Uses n (length_of v)))
       (tells_unless (instruction place 2 (Value v n)) (ltb bits (length_of v)) 8 (Uses n (length_of v)) refl)
   tells_on d (suc (suc (suc op))) place Cut = tells_unless (instruction place (suc (suc (suc op))) Cut) (is_default p) 5 (kept Cut) tt
   tells_on d (suc (suc (suc op))) place (Value v n) = tells_unless (instruction place (suc (suc (suc op))) (Value v n)) (is_default p) 5 (kept (Value v n)) refl

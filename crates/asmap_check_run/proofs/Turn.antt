@@ -15,19 +15,20 @@ use Rattle.asmap_check_run.specs.declared.CheckState.{CheckState}
 use Rattle.asmap_check_run.specs.models.State.{opens_of, opens, top, state_of, judged}
 use Rattle.asmap_check_act.specs.models.Act.{acts}
 use Rattle.asmap_check_act.specs.declared.Act.{Act}
-use Rattle.asmap_check_act.specs.declared.Act.TheVariants.{Opens, Closes, Uses, Keeps, Accepts, Refuses}
+use Rattle.asmap_check_act.specs.models.Acts.{Opens, Closes, Uses, Keeps, Accepts, Refuses}
 use Rattle.asmap_check_run.proofs.StateLaws.{length_opens, opens-push, opens_pop}
 use Rattle.asmap_check_run.proofs.ActLaws.{here, closed, applied, act_is, end_is, Sure, sure, Tells, tells}
 use Rattle.asmap_check_run.proofs.Standing.{Standing, standing_on, Counting, counting_on, standing-done, standing_refused, onward, standing_room}
 use Rattle.asmap_program.specs.Verdict.{Accepted}
 use Rattle.refusals.specs.declared.Fault.TheVariants as fault
-use Rattle.std.specs.Prelude.{Err}
+use Rattle.std.specs.Prelude.{Err, Result}
+use Rattle.refusals.specs.declared.Fault.{Fault}
 
 same_state : {a b : State} → a.at ≡ b.at → a.left ≡ b.left → a.before ≡ b.before → a.opens ≡ b.opens → a.count ≡ b.count → a.deepest ≡ b.deepest → a ≡ b
 same_state p q r s t u = λ i. record { at = p i; left = q i; before = r i; opens = s i; count = t i; deepest = u i }
 
 -- the loop stands inside the map, with n pieces counted, and a is what the instruction there asks
-pub record Turn (m : List ℕ) (w : ℕ) (st : CheckState) (pos : ℕ) (prev : Previous) (count deepest n : ℕ) (a : Act) : Type 0 where
+pub record Turn (m : List ℕ) (w : ℕ) (st : CheckState) (pos : ℕ) (prev : Previous) (count deepest n : ℕ) (a : Result Act Fault) : Type 0 where
   pub standing : Standing m w (state_of st pos prev count deepest)
   pub counting : Counting m w (state_of st pos prev count deepest) n
   pub inside : pos < 8 * length m
@@ -45,19 +46,19 @@ pub turn_end : (m : List ℕ) (w : ℕ) (st : CheckState) (pos : ℕ) (prev : Pr
 turn_end m w st pos prev count deepest n h c k =
     standing_refused m w _ h n c 2 (end_is m st.targets st.saved st.bits pos prev count deepest st.depth k)
 
-module _ {m : List ℕ} {w : ℕ} {st : CheckState} {pos : ℕ} {prev : Previous} {count deepest pieces : ℕ} {a : Act} (T : Turn m w st pos prev count deepest pieces a) where
+module _ {m : List ℕ} {w : ℕ} {st : CheckState} {pos : ℕ} {prev : Previous} {count deepest pieces : ℕ} {a : Result Act Fault} (T : Turn m w st pos prev count deepest pieces a) where
   abbrev s : State
   s = state_of st pos prev count deepest
 
-  step_is : (b : Act) → a ≡ b → step (map_of m) s ≡ applied s (here m pos) b
+  step_is : (b : Result Act Fault) → a ≡ b → step (map_of m) s ≡ applied s (here m pos) b
   step_is b e =
       act_is m st.targets st.saved st.bits pos prev count deepest st.depth T.inside
       ∙ ap (applied s (here m pos)) (T.asked ∙ e)
 
-  pub certain : (b : Act) → a ≡ b → Sure st.bits st.depth b
+  pub certain : (b : Result Act Fault) → a ≡ b → Sure st.bits st.depth b
   certain b e = subst (Sure st.bits st.depth) (T.asked ∙ e) (sure m prev st.bits (top st.targets st.depth) st.depth pos)
 
-  told : (b : Act) → a ≡ b → Tells (here m pos) b
+  told : (b : Result Act Fault) → a ≡ b → Tells (here m pos) b
   told b e = subst (Tells (here m pos)) (T.asked ∙ e) (tells m prev st.bits (top st.targets st.depth) st.depth pos)
 
   turned : (k n : ℕ) (s' : State) → step (map_of m) s ≡ Next (here m pos) s' → pieces_of (here m pos) ≡ k → k ≤ 128 → n ≡ pieces + k → Turned m w pos n s'

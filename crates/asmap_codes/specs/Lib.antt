@@ -1,5 +1,6 @@
 pub mod Bits
 pub mod Row
+pub mod Reading
 pub mod Code
 pub mod Encode
 pub mod Instruction

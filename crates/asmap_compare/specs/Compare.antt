@@ -11,16 +11,17 @@ use Rattle.asmap_changes.specs.Changes.{changes_of}
 use Rattle.asmap_list.specs.List.{bytes_of}
 use Rattle.asmap_program.specs.Verdict.{Verdict}
 use Rattle.refusals.specs.declared.Refusal.{Refusal}
+use Rattle.refusals.specs.declared.Refusal.TheVariants as refusal
 
 -- What a comparison comes to: the changes, or a refusal.
 pub data Comparison : Type 0 where
   Told : List Change → Comparison
-  Refuses : ℕ → Comparison
+  Refuses : Refusal → Comparison
 
--- By the verdicts of both: a refusal of the old map has the check's number, one of the new map has 100 more.
+-- By the verdicts of both: what is wrong with the old map, else with the new one.
 abbrev pub compared_as : List Change → Verdict → Verdict → Comparison
-compared_as cs (Err n) v = Refuses n
-compared_as cs (Ok got) (Err n) = Refuses (100 + n)
+compared_as cs (Err f) v = Refuses (refusal.Map f)
+compared_as cs (Ok got) (Err f) = Refuses (refusal.NewMap f)
 compared_as cs (Ok got) (Ok got') = Told cs
 
 unfoldable pub comparison : List ℕ → List ℕ → ℕ → Comparison

@@ -1,5 +1,5 @@
 -- The listing calls (document 02, CR 1): records of what a map lists; "refuses as unpack does", the check's refusals first. Over the width w in
--- address bits. The check's number is passed on, whatever it is.
+-- address bits. What the check finds wrong is passed on, whatever it is.
 -- Assumes nothing.
 use Rattle.std.specs.Prelude.{ℕ, List, length, Result, Ok, Err}
 use Rattle.asmap_program.specs.Widths.{at_width}
@@ -10,11 +10,12 @@ use Rattle.prefix_records.specs.Record.{records_of}
 use Rattle.asmap_listing.specs.Listing.{listing}
 use Rattle.asmap_program.specs.Verdict.{Verdict}
 use Rattle.refusals.specs.declared.Refusal.{Refusal}
+use Rattle.refusals.specs.declared.Refusal.TheVariants as refusal
 
 -- By the check's verdict: refused as it says, or the records of the map's listing.
 abbrev pub list_as : List ℕ → Verdict → Making
 list_as m (Ok got) = Made (records_of (listing (map_of m)))
-list_as m (Err n) = No n
+list_as m (Err f) = No (refusal.Map f)
 
 -- The bytes that the listing makes of a map's.
 unfoldable pub list_of : List ℕ → ℕ → Making

@@ -1,13 +1,15 @@
 -- The check (document 01, Check; `sanity_check`), over a width of w address bits: a step, with the tests in the paper's order and the
--- paper's numbers, and its repetition.
+-- paper's reasons, and its repetition.
 -- Assumes nothing.
-use Rattle.std.specs.Prelude.{ℕ, zero, suc, ◌-◌, ◌<◌, max, Bool, true, false, not, ◌&&◌, ◌||◌, cond, ◌≡◌, List, [], ◌∷◌, leb, ltb, eqb, length, Err, Ok}
+use Rattle.std.specs.Prelude.{ℕ, zero, suc, ◌-◌, ◌<◌, max, Bool, true, false, not, ◌&&◌, ◌||◌, cond, ◌≡◌, List, [], ◌∷◌, leb, ltb, eqb, length, Result, Err, Ok}
+use Rattle.refusals.specs.declared.Fault.{Fault}
+use Rattle.refusals.specs.declared.Fault.TheVariants as fault
+use Rattle.asmap_program.specs.declared.Accepted as struct
 use Rattle.asmap_program.specs.declared.Instruction.{Instruction}
 use Rattle.asmap_program.specs.declared.Previous.{Previous}
 use Rattle.asmap_program.specs.declared.Previous.TheVariants.{Other, Short, Default}
 use Rattle.asmap_program.specs.Map.{RETURN, DEFAULT, end_of, target_of, Fetched, Whole, CutOpcode, CutOperand, Opcode, Operand, cut_reason, Map, length_of}
 use Rattle.asmap_program.specs.Verdict.{Accepted, Verdict}
-use Rattle.refusals.specs.declared.Fault.TheVariants as fault
 
 -- Of the opcode before ("previous"), the check asks two things. Was it a DEFAULT?
 abbrev pub is_default : Previous → Bool
@@ -48,10 +50,10 @@ start w = record { at = 0; left = w; before = Other; opens = []; count = 0; deep
 pub data Outcome : Type 0 where
   Next : Instruction → State → Outcome
   Done : Instruction → ℕ → ℕ → Outcome
-  Refuse : ℕ → Outcome
+  Refuse : Fault → Outcome
 
--- Where the test holds, the refusal n; else what comes after.
-unfoldable pub guard : Bool → ℕ → Outcome → Outcome
+-- Where the test holds, refused for this; else what comes after.
+unfoldable pub guard : Bool → Fault → Outcome → Outcome
 guard true n o = Refuse n
 guard false n o = o
 
@@ -153,7 +155,7 @@ unfoldable pub stop_of : Map → ℕ → ℕ
 stop_of m w = stops m m.bits (start w)
 
 -- Whether a verdict is an acceptance: all that Core's check answers.
-abbrev pub accepted : Verdict → Bool
+abbrev pub accepted : {E : Type 0} → Result struct.Accepted E → Bool
 accepted (Ok got) = true
 accepted (Err n) = false
 

@@ -1,5 +1,6 @@
 pub mod Map
 pub mod Widths
+pub mod Verdict
 pub mod Check
 pub mod Tree
 pub mod Walk

@@ -2,6 +2,8 @@
 -- told elsewhere; here only what the laws of check and walk need of it.
 -- Assumes nothing.
 use Rattle.std.specs.Prelude.{ℕ, zero, suc, ◌+◌, ◌-◌, ◌/◌, ◌%◌, ◌^◌, ◌≤◌, ◌<◌, Bool, cond, ◌≡◌, List, [], ◌∷◌, ◌++◌, leb, get_or}
+use Rattle.refusals.specs.declared.Fault.{Fault}
+use Rattle.refusals.specs.declared.Fault.TheVariants as fault
 use Rattle.asmap_program.specs.declared.Instruction.{Instruction}
 
 -- Document 01, "What a call hands back", row 1: the most bytes that a map may have.
@@ -41,12 +43,11 @@ pub data Fetched : Type 0 where
 pub data Part : Type 0 where
   Opcode Operand : Part
 
--- The number for a code that the map's end cuts, by the part of an instruction that it is (document 02, CR 5: "19 where the operand is cut; 4
--- keeps the opcode"). This is the only place that says so: the check, an instruction read, a code read alone and a walk's kind of end take it
--- from here.
-abbrev pub cut_reason : Part → ℕ
-cut_reason Opcode = 4
-cut_reason Operand = 19
+-- What is wrong with a map whose end cuts a code, by the part of an instruction that it is (document 02, CR 5: "19 where the operand is cut; 4
+-- keeps the opcode"). This is the only place that says so: the check, an instruction read and a code read alone take it from here.
+abbrev pub cut_reason : Part → Fault
+cut_reason Opcode = fault.CutOpcode
+cut_reason Operand = fault.CutOperand
 
 -- A map. fetch: what can be read at a place. bits: how many bits the map has. padded: whether the bits from a place to the end may
 -- follow the final RETURN, that is, whether they are at most 7 and all zeros (document 01, Check, RETURN).

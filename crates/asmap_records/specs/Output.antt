@@ -3,13 +3,13 @@ use Rattle.std.specs.Prelude.{ℕ, Bool, true, false, ◌≡◌, List, ◌++◌,
 use Rattle.refusals.specs.declared.Refusal.{Refusal}
 use Rattle.refusals.specs.declared.Refusal.TheVariants as refusal
 
--- What is made: bytes (or, on the way, bits); or nothing, for the reason with that number.
+-- What is made: bytes (or, on the way, bits); or nothing, for that reason.
 pub data Making : Type 0 where
   Made : List ℕ → Making
-  No : ℕ → Making
+  No : Refusal → Making
 
--- Refused with n where the test holds.
-unfoldable pub refuse : Bool → ℕ → Making → Making
+-- Refused for this where the test holds.
+unfoldable pub refuse : Bool → Refusal → Making → Making
 refuse true n r = No n
 refuse false n r = r
 
@@ -22,7 +22,7 @@ on k (No n) = No n
 abbrev pub within : ℕ → Making → Making
 within k r = on (λ (bs : List ℕ). refuse (ltb k (length bs)) refusal.OutputTooShort (Made bs)) r
 
--- What is handed back: how many bytes were written, or the reason's number.
+-- What is handed back: how many bytes were written, or the reason.
 abbrev pub answer_of : Making → Result ℕ Refusal
 answer_of (Made bs) = Ok (length bs)
 answer_of (No n) = Err n

@@ -7,11 +7,12 @@ use Rattle.asmap_check.specs.Check.{check_of}
 use Rattle.asmap_records.specs.Record.{records_of}
 use Rattle.asmap_records.specs.Output.{Making, Made, No}
 use Rattle.asmap_program.specs.Verdict.{Verdict}
+use Rattle.refusals.specs.declared.Refusal.TheVariants as refusal
 
 -- By the check's verdict: refused as it says, or the records of the map's instructions, in order.
 abbrev pub unpack_as : List ℕ → ℕ → Verdict → Making
 unpack_as m w (Ok got) = Made (records_of (unpacked (map_of m) w))
-unpack_as m w (Err n) = No n
+unpack_as m w (Err f) = No (refusal.Map f)
 
 -- The bytes that unpack makes of a map's.
 unfoldable pub unpack_of : List ℕ → ℕ → Making

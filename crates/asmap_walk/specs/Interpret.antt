@@ -5,10 +5,12 @@ use Rattle.asmap_program.specs.Map.{limit}
 use Rattle.asmap_program.specs.Widths.{at_width}
 use Rattle.asmap_walk_bits.specs.Walk.{walk_of, summary}
 use Rattle.asmap_walk_bits.specs.declared.Ending.{Ending}
+use Rattle.refusals.specs.declared.Fault.TheVariants as fault
 use Rattle.refusals.specs.declared.Refusal.{Refusal}
+use Rattle.refusals.specs.declared.Refusal.TheVariants as refusal
 
--- where the test holds, refused with n
-abbrev pub refused_if : Bool → ℕ → Result Ending Refusal → Result Ending Refusal
+-- where the test holds, refused for this
+abbrev pub refused_if : Bool → Refusal → Result Ending Refusal → Result Ending Refusal
 refused_if true n r = Err n
 refused_if false n r = r
 
@@ -16,12 +18,12 @@ refused_if false n r = r
 -- the defined walk by its 128 bits ended.
 abbrev pub interpret_of : List ℕ → List ℕ → Result Ending Refusal
 interpret_of m a =
-    refused_if (not (eqb (length a) 16)) 11 (refused_if (ltb limit (length m)) 1 (Ok (summary (walk_of m a 128))))
+    refused_if (not (eqb (length a) 16)) refusal.AddressLength (refused_if (ltb limit (length m)) (refusal.Map fault.MapTooLong) (Ok (summary (walk_of m a 128))))
 
 -- The same by an address of just w bits: 11 where it has not so many, before 1; else how the defined walk by them ended.
 abbrev pub interpret_over : List ℕ → List ℕ → ℕ → Result Ending Refusal
 interpret_over m a w =
-    refused_if (not (eqb (8 * length a) w)) 11 (refused_if (ltb limit (length m)) 1 (Ok (summary (walk_of m a w))))
+    refused_if (not (eqb (8 * length a) w)) refusal.AddressLength (refused_if (ltb limit (length m)) (refusal.Map fault.MapTooLong) (Ok (summary (walk_of m a w))))
 
 -- The call at a width (document 02, CR 3): 18 comes before both.
 abbrev pub interpret_at : List ℕ → List ℕ → ℕ → Result Ending Refusal

@@ -12,13 +12,14 @@ ghost use Rattle.answer_outcome.specs.Outcome.{Hands};
 ghost use Rattle.answer_maps.specs.Maps.{map_checked, check_stopped, walk_made};
 ghost use Rattle.answer_bytes.specs.Bytes.{bytes_needed, Writes, Finds};
 ghost use Rattle.answers.specs.Promise.{Demand3, CoreVerdict, CoreNumber};
+ghost use Rattle.refusals.specs.Numbers.{of_map};
 
 use answer_bytes::{hand_bytes, hand_needed};
 use answer_maps::{hand_stop, hand_verdict, hand_walk};
 
 // Checks a map. 0 says that it is accepted, with its instructions counted and the most jumps open at once. Refusals 1 to 10 and 19.
 pub fn corbastrigo_sanity_check(map: &[u8], count: &mut u32, depth: &mut u8) -> u8
-    ensures hands { Hands (map_checked (check_of map.now 128)) result (count.old ∷ depth.old ∷ []) (count.new ∷ depth.new ∷ []) }
+    ensures hands { Hands (map_checked (of_map (check_of map.now 128))) result (count.old ∷ depth.old ∷ []) (count.new ∷ depth.new ∷ []) }
     ensures core { CoreVerdict map.now result }
 {
     hand_verdict(asmap_check::sanity_check(map), count, depth)
@@ -27,7 +28,7 @@ pub fn corbastrigo_sanity_check(map: &[u8], count: &mut u32, depth: &mut u8) -> 
 // Says where the check of a map stops, and why: the reason, 0 where the check accepts and else 2 to 10 or 19, and the place, the bit of the map at
 // which it stops. 0 says that both are written, also of a map that the check refuses. Refusal 1.
 pub fn corbastrigo_sanity_check_stop(map: &[u8], reason: &mut u8, place: &mut usize) -> u8
-    ensures { Hands (check_stopped (stopped_of map.now 128)) result (reason.old ∷ place.old ∷ []) (reason.new ∷ place.new ∷ []) }
+    ensures { Hands (check_stopped (of_map (stopped_of map.now 128))) result (reason.old ∷ place.old ∷ []) (reason.new ∷ place.new ∷ []) }
 {
     hand_stop(asmap_check::sanity_check_stop(map), reason, place)
 }

@@ -12,10 +12,11 @@ ghost use Rattle.answer_outcome.specs.Outcome.{Hands};
 ghost use Rattle.answer_maps.specs.Maps.{map_checked, check_stopped, walk_made};
 ghost use Rattle.answer_bytes.specs.Bytes.{bytes_needed, Writes, Finds};
 ghost use Rattle.answers.specs.Promise.{Demand3, CoreVerdict, CoreNumber};
+ghost use Rattle.refusals.specs.Numbers.{of_map};
 
 #[unsafe(no_mangle)]
 pub extern "C" fn corbastrigo_sanity_check(map: &[u8], count: &mut u32, depth: &mut u8) -> u8
-    ensures hands { Hands (map_checked (check_of map.now 128)) result (count.old ∷ depth.old ∷ []) (count.new ∷ depth.new ∷ []) }
+    ensures hands { Hands (map_checked (of_map (check_of map.now 128))) result (count.old ∷ depth.old ∷ []) (count.new ∷ depth.new ∷ []) }
     ensures core { CoreVerdict map.now result }
 {
     corbastrigo::maps::corbastrigo_sanity_check(map, count, depth)
@@ -27,7 +28,7 @@ pub extern "C" fn corbastrigo_sanity_check_stop(
     reason: &mut u8,
     place: &mut usize,
 ) -> u8
-    ensures { Hands (check_stopped (stopped_of map.now 128)) result (reason.old ∷ place.old ∷ []) (reason.new ∷ place.new ∷ []) }
+    ensures { Hands (check_stopped (of_map (stopped_of map.now 128))) result (reason.old ∷ place.old ∷ []) (reason.new ∷ place.new ∷ []) }
 {
     corbastrigo::maps::corbastrigo_sanity_check_stop(map, reason, place)
 }

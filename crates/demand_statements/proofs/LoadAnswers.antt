@@ -25,6 +25,7 @@ use Rattle.demand_statements.proofs.AnswerLaws.{kept, numbered, refused_as, done
 use Rattle.demand_statements.proofs.TripLaws.{wrote, has_room, no_room, left_alone}
 use Rattle.std.specs.Prelude.{Ok}
 use Rattle.refusals.specs.declared.Refusal.TheVariants as refusal
+use Rattle.refusals.specs.Numbers.{of_map}
 
 -- ---- draws
 
@@ -110,7 +111,7 @@ few seed pairs {r} h z = go (dec_le pairs 128)
 
 -- made, and then checked
 pub load_checked_lem : (seed pairs : ℕ) (o m : List ℕ) {r c d : ℕ} {lent : List ℕ} → {o' : List ℕ} {q w w' : ℕ} → Loads seed pairs o o' q w w' → q ≡ 0
-    → Loaded seed pairs m → Hands (map_checked (check_of m 128)) r lent (c ∷ d ∷ []) → LoadChecked seed pairs o r c d
+    → Loaded seed pairs m → Hands (map_checked (of_map (check_of m 128))) r lent (c ∷ d ∷ []) → LoadChecked seed pairs o r c d
 load_checked_lem seed pairs o m l z t h =
     let a = t.accepted 128 (few seed pairs l z) in
     let v = handed_out (check_of m 128) a h in

@@ -42,6 +42,7 @@ use Rattle.asmap_check.specs.Stop.{At}
 use Rattle.refusals.specs.declared.Refusal.{Refusal}
 use Rattle.std.specs.Prelude.{Result, Ok, Err}
 use Rattle.refusals.specs.declared.Refusal.TheVariants as refusal
+use Rattle.refusals.specs.Numbers.{of_map}
 
 -- ---- the check
 
@@ -58,11 +59,11 @@ from_2 n (inl h) = h.0
 from_2 n (inr e) = omega arith
 
 module _ (m : List ℕ) (w : ℕ) {r : ℕ} {entry exit : List ℕ} where
-  pub check-number : Hands (map_checked (check_of m w)) r entry exit → (r ≡ 0) ⊎ CheckNumber r
+  pub check-number : Hands (map_checked (of_map (check_of m w))) r entry exit → (r ≡ 0) ⊎ CheckNumber r
   check-number h = numbered CheckNumber _ (map-numbers CheckNumber reason-number m w number_1) h
 
   -- 1 is for long maps
-  long_only : Hands (map_checked (check_of m w)) r entry exit → r ≡ 1 → 16777216 < length m
+  long_only : Hands (map_checked (of_map (check_of m w))) r entry exit → r ≡ 1 → 16777216 < length m
   long_only h z = by (dec_le (length m) 16777216)
     where
       not_1 : (r ≡ 0) ⊎ (2 ≤ r) → 16777216 < length m
@@ -74,7 +75,7 @@ module _ (m : List ℕ) (w : ℕ) {r : ℕ} {entry exit : List ℕ} where
           not_1 (numbered (λ n. 2 ≤ n) (map_checked (check (map_of m) w)) (check-numbers (λ n. 2 ≤ n) from_2 (map_of m) w) (rw (le-ltb limit (length m) l) at h))
       by (no l) = omega arith
 
-  pub checks : Hands (map_checked (check_of m w)) r entry exit → Checks m w r entry exit
+  pub checks : Hands (map_checked (of_map (check_of m w))) r entry exit → Checks m w r entry exit
   unfolding map_checked
   checks h = record {
     numbers = check-number h;
@@ -95,7 +96,7 @@ unfolding handed IsDone check_stopped
 stop-numbers m true q why at h z = absurd (h.zero_is_done z)
 stop-numbers m false q why at h z = let k = h.numbers in (ltb-false limit (length m) q, (cc, cc))
 
-module _ (m : List ℕ) (w : ℕ) {r reason place : ℕ} {entry : List ℕ} (h : Hands (check_stopped (stopped_of m w)) r entry (reason ∷ place ∷ [])) where
+module _ (m : List ℕ) (w : ℕ) {r reason place : ℕ} {entry : List ℕ} (h : Hands (check_stopped (of_map (stopped_of m w))) r entry (reason ∷ place ∷ [])) where
   found : r ≡ 0 → (length m ≤ 16777216) × ((reason ≡ reason_of (check (map_of m) w)) × (place ≡ stop_of (map_of m) w))
   found z = stop-numbers m (ltb limit (length m)) refl (reason_of (check (map_of m) w)) (stop_of (map_of m) w) h z
 
@@ -103,7 +104,7 @@ module _ (m : List ℕ) (w : ℕ) {r reason place : ℕ} {entry : List ℕ} (h :
   same-reason : r ≡ 0 → (v : Verdict) → check_of m w ≡ v → reason ≡ reason_of v
   same-reason z v e = let f = found z in f.1.0 ∙ ap reason_of (checked m w f.0 ∙ e)
 
-  by_test : (b : Bool) → ltb limit (length m) ≡ b → check_stopped (stopped_of m w) ≡ check_stopped (stops_unless_long b (At (reason_of (check (map_of m) w)) (stop_of (map_of m) w)))
+  by_test : (b : Bool) → ltb limit (length m) ≡ b → check_stopped (of_map (stopped_of m w)) ≡ check_stopped (stops_unless_long b (At (reason_of (check (map_of m) w)) (stop_of (map_of m) w)))
   by_test b e = ap (λ (x : Bool). check_stopped (stops_unless_long x (At (reason_of (check (map_of m) w)) (stop_of (map_of m) w)))) e
 
   pub stops : Stops m w r entry reason place
@@ -214,7 +215,7 @@ abbrev pub CheckOr14 : ℕ → Type 0
 CheckOr14 n = CheckNumber n ⊎ (n ≡ 14)
 
 pub by_check : (m : List ℕ) (w : ℕ) (o o' : List ℕ) {r written written' : ℕ} (made : Making) → ((n : ℕ) → check_of m w ≡ Err n → made ≡ No n)
-    → (CheckOr14 14 → Refuses CheckOr14 (map_checked (check_of m w)) → Refuses CheckOr14 (bytes_written (answer_of (within (length o) made))))
+    → (CheckOr14 14 → Refuses CheckOr14 (map_checked (of_map (check_of m w))) → Refuses CheckOr14 (bytes_written (answer_of (within (length o) made))))
     → Writes made o o' r (written ∷ []) (written' ∷ []) → ByCheck m w o o' r written written'
 unfolding bytes_written
 by_check m w o o' made unmade numbers h = record {

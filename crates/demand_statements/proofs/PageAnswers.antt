@@ -46,6 +46,7 @@ use Rattle.demand_statements.proofs.TripLaws as trip
 use Rattle.refusals.specs.declared.Refusal.{Refusal}
 use Rattle.std.specs.Prelude.{Ok, Option, Some, None}
 use Rattle.refusals.specs.declared.Refusal.TheVariants as refusal
+use Rattle.refusals.specs.Numbers.{of_map}
 
 -- ---- what is made
 
@@ -150,7 +151,7 @@ module _ (m bytes o o' : List ℕ) {r written written' : ℕ} where
       (paged_as (check_refusal n) m bytes has w t u, pages has m bytes o o' n (of_call has m) w)
 
   -- the check answered q, 0
-  pub loaded_page_concluded : {q k d : ℕ} {lent : List ℕ} → Hands (map_checked (check_of m 128)) q lent (k ∷ d ∷ []) → q ≡ 0
+  pub loaded_page_concluded : {q k d : ℕ} {lent : List ℕ} → Hands (map_checked (of_map (check_of m 128))) q lent (k ∷ d ∷ []) → q ≡ 0
       → Writes (spread_unchecked (numbering (grouping_of 1) m) bytes) o o' r (written ∷ []) (written' ∷ [])
       → (r ≡ 0 → Told (numbering (grouping_of 1) m) bytes (Ok written'))
       → (check_refusal (numbering (grouping_of 1) m) ≡ None → r ≡ 0 → Unaborted (numbering (grouping_of 1) m) bytes (Ok written'))
@@ -166,6 +167,6 @@ old_page_concluded bytes o o' w t =
     (printed_by-prefix None [] bytes by_old_prefixes (old_prefix_at bytes) (old-prefix_at bytes) w t, pages 0 [] bytes o o' by_old_prefixes of_old w)
 
 -- the check refused, and nothing was written
-pub not_paged : (m bytes o : List ℕ) {r written : ℕ} {lent left : List ℕ} → Hands (map_checked (check_of m 128)) r lent left → (r ≡ 0 → ⊥)
+pub not_paged : (m bytes o : List ℕ) {r written : ℕ} {lent left : List ℕ} → Hands (map_checked (of_map (check_of m 128))) r lent left → (r ≡ 0 → ⊥)
     → (r ≡ 0 → PrintedByMap m bytes (take written o)) × LoadedPages o o r written written
 not_paged m bytes o h n = (λ z. absurd (n z), record { numbers = inr (inr (inr (inr (refusal m h n)))); past = λ z. refl; untouched = λ k. (refl, refl) })

@@ -34,8 +34,9 @@ use Rattle.demand_statements.proofs.PickLaws.{unrefused, grouped, grouped_old, g
 use Rattle.refusals.specs.declared.Refusal.{Refusal}
 use Rattle.std.specs.Prelude.{Ok, Option, Some, None}
 use Rattle.refusals.specs.declared.Refusal.TheVariants as refusal
+use Rattle.refusals.specs.Numbers.{of_map}
 
-pub refusal : (m : List ℕ) {r : ℕ} {entry exit : List ℕ} → Hands (map_checked (check_of m 128)) r entry exit → (r ≡ 0 → ⊥) → CheckNumber r
+pub refusal : (m : List ℕ) {r : ℕ} {entry exit : List ℕ} → Hands (map_checked (of_map (check_of m 128))) r entry exit → (r ≡ 0 → ⊥) → CheckNumber r
 refusal m {r} h n = some (check-number m 128 h)
   where
     some : (r ≡ 0) ⊎ CheckNumber r → CheckNumber r
@@ -95,7 +96,7 @@ pub prefix_concluded : (c : List ℕ) {r g g' : ℕ} → Hands (group_found (pre
 prefix_concluded c h = (grouped_old c h, groups 0 [] c by_old_prefixes of_old h)
 
 -- the check refused, and nothing was written
-pub not_grouped : (m c : List ℕ) {r g : ℕ} {lent left : List ℕ} → Hands (map_checked (check_of m 128)) r lent left → (r ≡ 0 → ⊥)
+pub not_grouped : (m c : List ℕ) {r g : ℕ} {lent left : List ℕ} → Hands (map_checked (of_map (check_of m 128))) r lent left → (r ≡ 0 → ⊥)
     → (r ≡ 0 → Grouped 1 m c g) × LoadedGroups r (g ∷ []) (g ∷ [])
 not_grouped m c h n = (λ z. absurd (n z), record { numbers = inr (inr (refusal m h n)); untouched = λ k. refl })
 
@@ -112,7 +113,7 @@ loaded_groups m c h =
     }
 
 -- the check answered q, 0
-pub loaded_concluded : (m c : List ℕ) {q k d r g g' : ℕ} {lent : List ℕ} → Hands (map_checked (check_of m 128)) q lent (k ∷ d ∷ []) → q ≡ 0
+pub loaded_concluded : (m c : List ℕ) {q k d r g g' : ℕ} {lent : List ℕ} → Hands (map_checked (of_map (check_of m 128))) q lent (k ∷ d ∷ []) → q ≡ 0
     → Hands (group_found (netgroup_unchecked (numbering (grouping_of 1) m) c)) r (g ∷ []) (g' ∷ [])
     → (check_refusal (numbering (grouping_of 1) m) ≡ None → r ≡ 0 → Whole (numbering (grouping_of 1) m) c (Ok g'))
     → (r ≡ 0 → Grouped 1 m c g') × LoadedGroups r (g ∷ []) (g' ∷ [])
@@ -223,7 +224,7 @@ module _ (m bytes occupied : List ℕ) (max : ℕ) (ps gs : List ℕ) {r total t
       (picked_as (check_refusal n) m bytes occupied max ps gs has p d u, picks has m bytes occupied max ps gs n (of_call has m) p)
 
   -- the check answered q, 0
-  pub loaded_pick_concluded : {q k d : ℕ} {lent : List ℕ} → Hands (map_checked (check_of m 128)) q lent (k ∷ d ∷ []) → q ≡ 0
+  pub loaded_pick_concluded : {q k d : ℕ} {lent : List ℕ} → Hands (map_checked (of_map (check_of m 128))) q lent (k ∷ d ∷ []) → q ≡ 0
       → call.Picks (select_unchecked (numbering (grouping_of 1) m) bytes occupied max ps gs) r entry (total ∷ taken ∷ examined ∷ instructions ∷ []) ps' gs'
       → (r ≡ 0 → Demand3 (numbering (grouping_of 1) m) (candidates_of bytes) occupied max (Ok (totals_of total taken examined instructions)) ps' gs')
       → (check_refusal (numbering (grouping_of 1) m) ≡ None → r ≡ 0 → Unaborted (numbering (grouping_of 1) m) (candidates_of bytes) (Ok (totals_of total taken examined instructions)))
@@ -241,7 +242,7 @@ pub old_pick_concluded : (bytes occupied : List ℕ) (max : ℕ) (ps gs : List �
 old_pick_concluded bytes occupied max ps gs p d = (picked_old None [] bytes occupied max ps gs p d, picks 0 [] bytes occupied max ps gs by_old_prefixes of_old p)
 
 -- the check refused, and nothing was written
-pub not_picked : (m bytes occupied : List ℕ) (max : ℕ) (ps gs : List ℕ) {r total taken examined instructions : ℕ} {lent left : List ℕ} → Hands (map_checked (check_of m 128)) r lent left → (r ≡ 0 → ⊥)
+pub not_picked : (m bytes occupied : List ℕ) (max : ℕ) (ps gs : List ℕ) {r total taken examined instructions : ℕ} {lent left : List ℕ} → Hands (map_checked (of_map (check_of m 128))) r lent left → (r ≡ 0 → ⊥)
     → (r ≡ 0 → ByMap m bytes occupied max ps gs taken examined instructions)
     × LoadedPicks r (total ∷ taken ∷ examined ∷ instructions ∷ []) (total ∷ taken ∷ examined ∷ instructions ∷ []) ps ps gs gs
 not_picked m bytes occupied max ps gs h n =

@@ -31,6 +31,7 @@ use Rattle.demand_statements.proofs.CandidateLaws.{address_at_lem, prefix_of, pr
 use Rattle.netgroup_pick.specs.declared.Totals.{Totals}
 use Rattle.refusals.specs.declared.Refusal.{Refusal}
 use Rattle.std.specs.Prelude.{Result, Ok, Err, Option, Some, None}
+use Rattle.refusals.specs.Numbers.{of_map}
 
 -- ---- the walk behind a group
 
@@ -43,7 +44,7 @@ pub ends_at : (m bytes : List ℕ) (i : ℕ) → Finished m (take 20 (drop (20 *
 ends_at m bytes i f = subst (λ (a : List ℕ). Ends (walk_of m a 128)) (address_at_lem bytes i) (ends m (take 20 (drop (20 * i) bytes)) f)
 
 -- a map whose check answered 0 is not refused
-pub unrefused : (m : List ℕ) {q c d : ℕ} {lent : List ℕ} → Hands (map_checked (check_of m 128)) q lent (c ∷ d ∷ []) → q ≡ 0 → check_refusal (by_map m) ≡ None
+pub unrefused : (m : List ℕ) {q c d : ℕ} {lent : List ℕ} → Hands (map_checked (of_map (check_of m 128))) q lent (c ∷ d ∷ []) → q ≡ 0 → check_refusal (by_map m) ≡ None
 unrefused m h z = ap verdict_refusal (accepted (check_of m 128) h z)
 
 -- ---- a group

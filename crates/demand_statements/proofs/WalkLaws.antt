@@ -28,6 +28,7 @@ use Rattle.asmap_program.specs.Verdict.{Accepted}
 use Rattle.asmap_walk_bits.specs.declared.Ending.{Ending}
 use Rattle.refusals.specs.declared.Refusal.{Refusal}
 use Rattle.std.specs.Prelude.{Result}
+use Rattle.refusals.specs.Numbers.{of_map}
 
 -- the kind that a number tells
 returned : (k : Kind) (n : ℕ) → n ≡ kind_number k → n ≡ 1 → k ≡ Returned
@@ -107,12 +108,12 @@ Concluded m a w r kind number count bits =
 -- w: the address bits, which are whole bytes
 module _ (m a : List ℕ) (w : ℕ) (whole : 8 * (w / 8) ≡ w) {r kind number count bits : ℕ} where
   -- the check refused, and there was no walk
-  pub unwalked : {lent left : List ℕ} → Hands (map_checked (check_of m w)) r lent left → (r ≡ 0 → ⊥) → Concluded m a w r kind number count bits
+  pub unwalked : {lent left : List ℕ} → Hands (map_checked (of_map (check_of m w))) r lent left → (r ≡ 0 → ⊥) → Concluded m a w r kind number count bits
   unwalked h n =
       (record { answered = λ c d e l. answered (check_of m w) e h; accepted = λ z. absurd (n z); bytes = λ z. absurd (n z); walked = λ z. absurd (n z) }, λ z. absurd (n z))
 
   -- the check answered q, 0, and r is the walk's answer
-  pub walked_on : {q c d : ℕ} {lent lent' left : List ℕ} → Hands (map_checked (check_of m w)) q lent (c ∷ d ∷ []) → q ≡ 0
+  pub walked_on : {q c d : ℕ} {lent lent' left : List ℕ} → Hands (map_checked (of_map (check_of m w))) q lent (c ∷ d ∷ []) → q ≡ 0
       → Hands (walk_made (interpret_over m a w)) r lent' left → Ends m a w r kind number count bits → Numbers m a w number → Concluded m a w r kind number count bits
   walked_on {q} {c} {d} h z k p n =
       let v = accepted (check_of m w) h z in

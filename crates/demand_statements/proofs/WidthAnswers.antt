@@ -37,6 +37,7 @@ use Rattle.demand_statements.proofs.TripLaws.{not_unpacked, packed_again, unpack
 use Rattle.demand_statements.proofs.ListAnswers.{lists, needs, unlisted, with_room, walk_in_list_lem}
 use Rattle.demand_statements.proofs.CompareAnswers.{changed, found, agreed}
 use Rattle.std.specs.Prelude.{Err}
+use Rattle.refusals.specs.Numbers.{of_map}
 
 -- the only lent number
 same_head : {a b : ℕ} → a ∷ [] ≡ b ∷ [] → a ≡ b
@@ -48,11 +49,11 @@ both p = (p.0, same_head p.1)
 -- ---- what each call is over so many bits
 
 module _ (m : List ℕ) (w : ℕ) {r : ℕ} {lent left : List ℕ} where
-  pub check_over_lem : Hands (map_checked (check_at m w)) r lent left → ByWidth w r (Hands (map_checked (check_of m w)) r lent left) (left ≡ lent)
+  pub check_over_lem : Hands (map_checked (check_at m w)) r lent left → ByWidth w r (Hands (map_checked (of_map (check_of m w))) r lent left) (left ≡ lent)
   unfolding map_checked
   check_over_lem h = hands_by map_checked Err (check_of m w) w refl h
 
-  stop_over_lem : Hands (check_stopped (stopped_at m w)) r lent left → ByWidth w r (Hands (check_stopped (stopped_of m w)) r lent left) (left ≡ lent)
+  stop_over_lem : Hands (check_stopped (stopped_at m w)) r lent left → ByWidth w r (Hands (check_stopped (of_map (stopped_of m w))) r lent left) (left ≡ lent)
   unfolding check_stopped
   stop_over_lem h = hands_by check_stopped Err (stopped_of m w) w refl h
 
@@ -112,7 +113,7 @@ pub not_at_32 : (m : List ℕ) {r : ℕ} {lent left exit : List ℕ} → Hands (
 not_at_32 m h n c d e = absurd (n (answered (check_of m 32) e ((check_over_lem m 32 h).over refl)))
 
 -- r is the answer of the check at 128
-pub also_at_128 : (m : List ℕ) {r : ℕ} {lent left : List ℕ} → Hands (map_checked (check_of m 128)) r lent left → AlsoAt128 m r left
+pub also_at_128 : (m : List ℕ) {r : ℕ} {lent left : List ℕ} → Hands (map_checked (of_map (check_of m 128))) r lent left → AlsoAt128 m r left
 also_at_128 m h c d e = handed_out (check_of m 128) (accepted_at_more m 32 128 c d (omega arith) e) h
 
 -- ---- demands 2 and 3

@@ -9,6 +9,8 @@ use Rattle.asmap_codes.specs.Instruction.{map_of}
 use Rattle.asmap_check.specs.Check.{check_of}
 use Rattle.asmap_walk_bits.specs.Walk.{walk_of}
 use Rattle.asmap_program.specs.Verdict.{Accepted}
+use Rattle.refusals.specs.declared.Fault.{Fault}
+use Rattle.refusals.specs.Numbers.{fault_number}
 
 -- refused, it leaves all as it was
 abbrev pub Untouched : ℕ → List ℕ → List ℕ → Type 0
@@ -73,7 +75,7 @@ pub record WritesInstruction (opcode operand r : ℕ) (entry exit : List ℕ) : 
 pub record Checks (m : List ℕ) (w r : ℕ) (entry exit : List ℕ) : Type 0 where
   pub numbers : (r ≡ 0) ⊎ CheckNumber r
   pub accepted : (c d : ℕ) → check_of m w ≡ Accepted c d → (r ≡ 0) × (exit ≡ c ∷ d ∷ [])
-  pub refused : (n : ℕ) → check_of m w ≡ Err n → r ≡ n
+  pub refused : (f : Fault) → check_of m w ≡ Err f → r ≡ fault_number f
   pub too_long : 16777216 < length m → r ≡ 1
   pub only_then : r ≡ 1 → 16777216 < length m
   pub untouched : Untouched r entry exit
@@ -85,7 +87,7 @@ pub record Stops (m : List ℕ) (w r : ℕ) (entry : List ℕ) (reason place : �
   pub too_long : 16777216 < length m → r ≡ 1
   pub answered : length m ≤ 16777216 → r ≡ 0
   pub accepted : (c d : ℕ) → r ≡ 0 → check_of m w ≡ Accepted c d → reason ≡ 0
-  pub refused : (n : ℕ) → r ≡ 0 → check_of m w ≡ Err n → reason ≡ n
+  pub refused : (f : Fault) → r ≡ 0 → check_of m w ≡ Err f → reason ≡ fault_number f
   pub exact : r ≡ 0 → place ≡ stop_of (map_of m) w
   pub stands : r ≡ 0 → StopsAt (map_of m) w (check_of m w) place
   pub inside : r ≡ 0 → place ≤ 8 * length m
@@ -116,7 +118,7 @@ pub record Walks (m a : List ℕ) (w r : ℕ) (entry : List ℕ) (kind number co
 -- Unpack: the check's numbers, else 14 exactly where there is no room for 16 bytes for each of the c instructions.
 pub record Unpacks (m : List ℕ) (w : ℕ) (o o' : List ℕ) (r written written' : ℕ) : Type 0 where
   pub numbers : (r ≡ 0) ⊎ (CheckNumber r ⊎ (r ≡ 14))
-  pub refused : (n : ℕ) → check_of m w ≡ Err n → r ≡ n
+  pub refused : (f : Fault) → check_of m w ≡ Err f → r ≡ fault_number f
   pub answered : (c d : ℕ) → check_of m w ≡ Accepted c d → 16 * c ≤ length o → (r ≡ 0) × (written' ≡ 16 * c)
   pub no_room : (c d : ℕ) → check_of m w ≡ Accepted c d → length o < 16 * c → r ≡ 14
   pub past : r ≡ 0 → drop written' o' ≡ drop written' o
@@ -125,7 +127,7 @@ pub record Unpacks (m : List ℕ) (w : ℕ) (o o' : List ℕ) (r written written
 -- The listing: the check's numbers, else 14; with which room, says `Listed`.
 pub record Lists (m : List ℕ) (w : ℕ) (o o' : List ℕ) (r written written' : ℕ) : Type 0 where
   pub numbers : (r ≡ 0) ⊎ (CheckNumber r ⊎ (r ≡ 14))
-  pub refused : (n : ℕ) → check_of m w ≡ Err n → r ≡ n
+  pub refused : (f : Fault) → check_of m w ≡ Err f → r ≡ fault_number f
   pub past : r ≡ 0 → drop written' o' ≡ drop written' o
   pub untouched : r ≢ 0 → (o' ≡ o) × (written' ≡ written)
 
@@ -133,22 +135,22 @@ pub record Lists (m : List ℕ) (w : ℕ) (o o' : List ℕ) (r written written' 
 pub record Needs (m : List ℕ) (w r : ℕ) (entry exit : List ℕ) : Type 0 where
   pub numbers : (r ≡ 0) ⊎ CheckNumber r
   pub accepted : (c d : ℕ) → check_of m w ≡ Accepted c d → r ≡ 0
-  pub refused : (n : ℕ) → check_of m w ≡ Err n → r ≡ n
+  pub refused : (f : Fault) → check_of m w ≡ Err f → r ≡ fault_number f
   pub untouched : Untouched r entry exit
 
 -- Two maps compared, m the old one and n the new one: the old map's numbers, the new one's with 100 more, else 14.
 pub record Changes (m n : List ℕ) (w : ℕ) (o o' : List ℕ) (r written written' : ℕ) : Type 0 where
   pub numbers : (r ≡ 0) ⊎ (CheckNumber r ⊎ ((r ≡ 14) ⊎ NewMapNumber r))
-  pub old_refused : (k : ℕ) → check_of m w ≡ Err k → r ≡ k
-  pub new_refused : (c d k : ℕ) → check_of m w ≡ Accepted c d → check_of n w ≡ Err k → r ≡ 100 + k
+  pub old_refused : (f : Fault) → check_of m w ≡ Err f → r ≡ fault_number f
+  pub new_refused : (c d : ℕ) (f : Fault) → check_of m w ≡ Accepted c d → check_of n w ≡ Err f → r ≡ 100 + fault_number f
   pub past : r ≡ 0 → drop written' o' ≡ drop written' o
   pub untouched : r ≢ 0 → (o' ≡ o) × (written' ≡ written)
 
 -- How many bytes that needs, with o lent for the first address that differs: the same numbers, and 14 exactly where fewer than 16 bytes are lent.
 pub record FindsFirst (m n : List ℕ) (w : ℕ) (o o' : List ℕ) (r bytes bytes' : ℕ) : Type 0 where
   pub numbers : (r ≡ 0) ⊎ (CheckNumber r ⊎ ((r ≡ 14) ⊎ NewMapNumber r))
-  pub old_refused : (k : ℕ) → check_of m w ≡ Err k → r ≡ k
-  pub new_refused : (c d k : ℕ) → check_of m w ≡ Accepted c d → check_of n w ≡ Err k → r ≡ 100 + k
+  pub old_refused : (f : Fault) → check_of m w ≡ Err f → r ≡ fault_number f
+  pub new_refused : (c d : ℕ) (f : Fault) → check_of m w ≡ Accepted c d → check_of n w ≡ Err f → r ≡ 100 + fault_number f
   pub answered : (c d c' d' : ℕ) → check_of m w ≡ Accepted c d → check_of n w ≡ Accepted c' d' → 16 ≤ length o → r ≡ 0
   pub no_room : (c d c' d' : ℕ) → check_of m w ≡ Accepted c d → check_of n w ≡ Accepted c' d' → length o < 16 → r ≡ 14
   pub past : r ≡ 0 → drop 16 o' ≡ drop 16 o

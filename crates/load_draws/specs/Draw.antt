@@ -3,14 +3,15 @@ use Rattle.std.specs.Prelude.{ℕ, zero, suc, ◌*◌, ◌/◌, ◌%◌, ◌^◌
 use Rattle.std.specs.Int.Bits.{bit_xor}
 use Rattle.load_draws.specs.declared.Generator.{Generator}
 use Rattle.refusals.specs.declared.Refusal.{Refusal}
+use Rattle.refusals.specs.declared.Refusal.TheVariants as refusal
 
 -- "a DEFAULT_SEED of 1"
 abbrev pub default_seed : ℕ
 default_seed = 1
 
--- "20 for seed 0, … or n over 128": the one number for a load that cannot be made.
-abbrev pub no_load : ℕ
-no_load = 20
+-- "20 for seed 0, … or n over 128": the one reason for a load that cannot be made.
+abbrev pub no_load : Refusal
+no_load = refusal.Load
 
 -- s "xored with s × 2^k", "modulo 2^64"
 unfoldable pub up : ℕ → ℕ → ℕ

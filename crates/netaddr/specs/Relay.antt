@@ -1,9 +1,11 @@
 -- Relay skip (document 01, Filters): whether an entry of an addrv2 message is kept from being sent on. An entry is a BIP155
 -- network id, the address bytes and a port. Assumes nothing.
-use Rattle.std.specs.Prelude.{ℕ, Bool, true, false, cond, not, ◌&&◌, List, [], ◌∷◌, leb, eqb, length}
+use Rattle.std.specs.Prelude.{ℕ, Bool, true, false, cond, not, ◌&&◌, List, [], ◌∷◌, leb, eqb, length, Result}
 use Rattle.netaddr_ranges.specs.Prefix.{within, ipv6}
 use Rattle.netaddr_ranges.specs.Unroutable.{unroutable4, unroutable16}
-use Rattle.netaddr.specs.Answer.{Answer, unless_refused}
+use Rattle.refusals.specs.declared.Refusal.{Refusal}
+use Rattle.refusals.specs.declared.Refusal.TheVariants as refusal
+use Rattle.netaddr.specs.Answer.{unless_refused}
 
 -- The network ids 1 to 6 have 4, 16, 10, 32, 32 and 16 address bytes; any other has at most 512.
 unfoldable pub length_fits : ℕ → ℕ → Bool
@@ -34,5 +36,5 @@ skips id a port =
     (cond (outside_cjdns id a) true (by_port_and_address id a port)))
 
 -- The call's answer: 17 for a length that the id does not have, else whether the entry is skipped.
-abbrev pub relay_of : ℕ → List ℕ → ℕ → Answer
-relay_of id a port = unless_refused (not (length_fits id (length a))) 17 (skips id a port)
+abbrev pub relay_of : ℕ → List ℕ → ℕ → Result Bool Refusal
+relay_of id a port = unless_refused (not (length_fits id (length a))) refusal.RelayLength (skips id a port)

@@ -18,7 +18,7 @@ limit_refusal by_old_prefixes = None
 
 abbrev pub verdict_refusal : Verdict → Option Refusal
 verdict_refusal (Ok got) = None
-verdict_refusal (Err n) = Some n
+verdict_refusal (Err f) = Some (refusal.Map f)
 
 -- a map that the call checks: the check's reason, 1 to 10 or 19
 abbrev pub check_refusal : Numbering → Option Refusal

@@ -7,7 +7,7 @@ use Rattle.peer_lists.specs.Candidates.{candidates_of, all_valid}
 use Rattle.refusals.specs.declared.Refusal.{Refusal}
 use Rattle.refusals.specs.declared.Refusal.TheVariants as refusal
 
-abbrev pub refuse_if : Bool → ℕ → Option Refusal
+abbrev pub refuse_if : Bool → Refusal → Option Refusal
 refuse_if true n = Some n
 refuse_if false n = None
 

@@ -59,7 +59,7 @@ abbrev pub is_number : ℕ → Bool
 is_number n = leb 1 n && leb n 33521664
 
 -- Refused with n where the test does not hold, else what is said later.
-unfoldable pub need : Bool → ℕ → Result (Unit {0}) Refusal → Result (Unit {0}) Refusal
+unfoldable pub need : Bool → Refusal → Result (Unit {0}) Refusal → Result (Unit {0}) Refusal
 need true n later = later
 need false n later = Err n
 

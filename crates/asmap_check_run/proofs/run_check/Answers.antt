@@ -1,22 +1,23 @@
 -- Each turn of the loop is a step of the definition (`Turn`); the check from where it stands is the check, and what it counted is what it passed.
-use Rattle.std.proofs.Common.{◌≡◌, ◌∙◌, ℕ, ◌+◌, ◌-◌, ◌*◌, ◌≤◌, ◌<◌, List, length, max, sym, ap, arith}
+use Rattle.std.proofs.Common.{◌≡◌, ◌∙◌, ℕ, ◌+◌, ◌-◌, ◌*◌, ◌≤◌, ◌<◌, List, length, max, sym, ap, arith, Result}
 use lib.ListN.{set}
 use Rattle.asmap_program.specs.declared.Previous.{Previous}
 use Rattle.asmap_program.specs.declared.Previous.TheVariants.{Other}
 use Rattle.asmap_check_run.specs.declared.CheckState.{CheckState}
 use Rattle.asmap_check_run.specs.declared.Judged.{Judged}
 use Rattle.asmap_check_act.specs.declared.Act.{Act}
-use Rattle.asmap_check_act.specs.declared.Act.TheVariants.{Opens, Closes, Uses}
+use Rattle.asmap_check_act.specs.models.Acts.{Opens, Closes, Uses}
 use Rattle.asmap_check_run.specs.models.State.{top, state_of}
 use Rattle.asmap_check_act.specs.models.Act.{acts}
 use Rattle.asmap_check_run.proofs.Standing.{Standing, standing_start, Counting, counting_start, count-few, pieces-few, standing_room}
 use Rattle.asmap_check_run.proofs.StateLaws.{length_opens}
 use Rattle.asmap_check_run.proofs.Turn.{Turn, Turned, turn_end, less, certain, room_opens, turn_opens, turn_closes, turn_uses, turn_keeps, turn_accepts, turn_refuses}
 use Rattle.asmap_check_run.proofs.run_check.Goals as goal
+use Rattle.refusals.specs.declared.Fault.{Fault}
 
 module _ (m : List ℕ) (w : ℕ) (st : CheckState) (pos : ℕ) (prev : Previous) (count deepest pieces : ℕ) where
   -- what is known in a turn, said once: after `sanity_act`
-  turn : (t : ℕ) (a : Act) → Standing m w (state_of st pos prev count deepest) × Counting m w (state_of st pos prev count deepest) pieces → pos < 8 * length m
+  turn : (t : ℕ) (a : Result Act Fault) → Standing m w (state_of st pos prev count deepest) × Counting m w (state_of st pos prev count deepest) pieces → pos < 8 * length m
       → t ≡ top st.targets st.depth → a ≡ acts m prev st.bits st.depth t pos → Turn m w st pos prev count deepest pieces a
   turn t a h k e q =
       record {
@@ -27,7 +28,7 @@ module _ (m : List ℕ) (w : ℕ) (st : CheckState) (pos : ℕ) (prev : Previous
       }
 
   -- a jump opens: `use_bits`, the stores, `open_jump`, `larger`
-  opened : (a : Act) → Turn m w st pos prev count deepest pieces a → (n target deep : ℕ) → a ≡ Opens n target → st.depth < length st.targets → st.depth < length st.saved
+  opened : (a : Result Act Fault) → Turn m w st pos prev count deepest pieces a → (n target deep : ℕ) → a ≡ Opens n target → st.depth < length st.targets → st.depth < length st.saved
       → (used made : CheckState) → used ≡ record { targets = st.targets; saved = st.saved; depth = st.depth; bits = st.bits - 1 }
       → made ≡ record { targets = set used.targets st.depth target; saved = set used.saved st.depth used.bits; depth = used.depth + 1; bits = used.bits }
       → deep ≡ max deepest made.depth → Turned m w pos pieces (state_of made n Other (count + 1) deep)
@@ -37,7 +38,7 @@ module _ (m : List ℕ) (w : ℕ) (st : CheckState) (pos : ℕ) (prev : Previous
       (q ∙ ap (max deepest) (ap (λ (x : CheckState). x.depth) o ∙ ap (λ (x : CheckState). x.depth + 1) u))
 
   -- a MATCH is as long as the bits left at most
-  short : (a : Act) → Turn m w st pos prev count deepest pieces a → (n k : ℕ) → a ≡ Uses n k → w ≤ 128 → k ≤ 128
+  short : (a : Result Act Fault) → Turn m w st pos prev count deepest pieces a → (n k : ℕ) → a ≡ Uses n k → w ≤ 128 → k ≤ 128
   short a t n k e h = omega (arith, certain t (Uses n k) e, (standing_room _ _ _ t.standing).now)
 
 pub loop-pos-init : goal.loop-pos-init
