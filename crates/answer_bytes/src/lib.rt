@@ -6,33 +6,32 @@ ghost use Rattle.std.specs.Prelude.{◌≡◌, ◌∷◌, []};
 ghost use Rattle.answer_outcome.specs.Outcome.{handed};
 ghost use Rattle.answer_bytes.specs.Bytes.{bytes_written, bytes_needed};
 
-use asmap_list::Needed;
-use asmap_records::Answer;
+use refusals::Refusal;
 
 // What unpack, pack, a listing, a comparison or a page came to.
 #[tactic(auto, unfolding(answer_outcome::specs::Outcome::handed, crate::specs::Bytes::bytes_written))]
-pub fn hand_bytes(got: Answer, written: &mut usize) -> u8
+pub fn hand_bytes(got: Result<usize, Refusal>, written: &mut usize) -> u8
     ensures { result ∷ written.new ∷ [] ≡ handed (bytes_written got) (written.old ∷ []) }
 {
     match got {
-        Answer::Wrote(bytes) => {
+        Ok(bytes) => {
             *written = bytes;
             0
         }
-        Answer::Refused(reason) => reason,
+        Err(refusal) => refusal.number(),
     }
 }
 
 // What asking for the length of a listing or of a comparison came to.
 #[tactic(auto, unfolding(answer_outcome::specs::Outcome::handed, crate::specs::Bytes::bytes_needed))]
-pub fn hand_needed(got: Needed, bytes: &mut usize) -> u8
+pub fn hand_needed(got: Result<usize, Refusal>, bytes: &mut usize) -> u8
     ensures { result ∷ bytes.new ∷ [] ≡ handed (bytes_needed got) (bytes.old ∷ []) }
 {
     match got {
-        Needed::Bytes(wanted) => {
+        Ok(wanted) => {
             *bytes = wanted;
             0
         }
-        Needed::Refused(reason) => reason,
+        Err(refusal) => refusal.number(),
     }
 }

@@ -5,28 +5,30 @@ ghost use Rattle.std.specs.Prelude.{◌≡◌, ◌∷◌, []};
 ghost use Rattle.answer_outcome.specs.Outcome.{handed};
 ghost use Rattle.answer_codes.specs.Codes.{code_read, instruction_read, bits_written};
 
-use asmap_codes::{Decoded, DecodedInstruction};
-use asmap_encode::Written;
+use asmap_codes::Code;
+use asmap_encode::Word;
+use asmap_program::Instruction;
+use refusals::{Fault, Refusal};
 
 // What reading a code came to, as an answer and lent numbers.
 #[tactic(auto, unfolding(answer_outcome::specs::Outcome::handed, crate::specs::Codes::code_read))]
-pub fn hand_code(got: Decoded, value: &mut u32, next: &mut usize) -> u8
+pub fn hand_code(got: Result<Code, Fault>, value: &mut u32, next: &mut usize) -> u8
     ensures { result ∷ value.new ∷ next.new ∷ [] ≡ handed (code_read got) (value.old ∷ next.old ∷ []) }
 {
     match got {
-        Decoded::Found(found, end) => {
+        Ok((found, end)) => {
             *value = found;
             *next = end;
             0
         }
-        Decoded::Refused(reason) => reason,
+        Err(why) => why.number(),
     }
 }
 
 // What reading an instruction came to.
 #[tactic(auto, unfolding(answer_outcome::specs::Outcome::handed, crate::specs::Codes::instruction_read))]
 pub fn hand_instruction(
-    got: DecodedInstruction,
+    got: Result<Instruction, Fault>,
     opcode: &mut u32,
     operand: &mut u32,
     size: &mut usize,
@@ -34,27 +36,27 @@ pub fn hand_instruction(
     ensures { result ∷ opcode.new ∷ operand.new ∷ size.new ∷ [] ≡ handed (instruction_read got) (opcode.old ∷ operand.old ∷ size.old ∷ []) }
 {
     match got {
-        DecodedInstruction::Found(found) => {
+        Ok(found) => {
             *opcode = found.opcode;
             *operand = found.operand;
             *size = found.size;
             0
         }
-        DecodedInstruction::Refused(reason) => reason,
+        Err(why) => why.number(),
     }
 }
 
 // What writing came to.
 #[tactic(auto, unfolding(answer_outcome::specs::Outcome::handed, crate::specs::Codes::bits_written))]
-pub fn hand_bits(got: Written, bits: &mut u64, len: &mut usize) -> u8
+pub fn hand_bits(got: Result<Word, Refusal>, bits: &mut u64, len: &mut usize) -> u8
     ensures { result ∷ bits.new ∷ len.new ∷ [] ≡ handed (bits_written got) (bits.old ∷ len.old ∷ []) }
 {
     match got {
-        Written::Bits(word) => {
+        Ok(word) => {
             *bits = word.bits;
             *len = word.len;
             0
         }
-        Written::Refused(reason) => reason,
+        Err(why) => why.number(),
     }
 }

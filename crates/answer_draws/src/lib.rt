@@ -6,18 +6,18 @@ ghost use Rattle.std.specs.Prelude.{◌≡◌, ◌∷◌, []};
 ghost use Rattle.answer_outcome.specs.Outcome.{handed};
 ghost use Rattle.answer_draws.specs.Draws.{number_drawn};
 
-use load_draws::Drawn;
+use refusals::Refusal;
 
 // The number drawn, as an answer and a lent number.
 #[tactic(auto, unfolding(answer_outcome::specs::Outcome::handed, crate::specs::Draws::number_drawn))]
-pub fn hand_draw(got: Drawn, draw: &mut u64) -> u8
+pub fn hand_draw(got: Result<u64, Refusal>, draw: &mut u64) -> u8
     ensures { result ∷ draw.new ∷ [] ≡ handed (number_drawn got) (draw.old ∷ []) }
 {
     match got {
-        Drawn::Number(number) => {
+        Ok(number) => {
             *draw = number;
             0
         }
-        Drawn::Refused(reason) => reason,
+        Err(refusal) => refusal.number(),
     }
 }

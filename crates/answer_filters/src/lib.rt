@@ -2,44 +2,35 @@
 #![tactic(auto)]
 
 ghost use Rattle.std.specs.Prelude.{◌≡◌, ◌∷◌, []};
-ghost use Rattle.netaddr.specs.Answer.{filtered_as, relay_as};
 ghost use Rattle.answer_outcome.specs.Outcome.{handed};
 ghost use Rattle.answer_filters.specs.Filters.{said};
 
-use netaddr::{Filtered, Relay};
+use refusals::Refusal;
 
 // What the filter says, as an answer and a lent number.
-#[tactic(auto, unfolding(answer_outcome::specs::Outcome::handed, crate::specs::Filters::said, netaddr::specs::Answer::filtered_as))]
-pub fn hand_filtered(got: Filtered, unroutable: &mut u8) -> u8
-    ensures { result ∷ unroutable.new ∷ [] ≡ handed (said (filtered_as got)) (unroutable.old ∷ []) }
+#[tactic(auto, unfolding(answer_outcome::specs::Outcome::handed, crate::specs::Filters::said))]
+pub fn hand_filtered(got: Result<bool, Refusal>, unroutable: &mut u8) -> u8
+    ensures { result ∷ unroutable.new ∷ [] ≡ handed (said got) (unroutable.old ∷ []) }
 {
     match got {
-        Filtered::Routable => {
-            *unroutable = 0;
+        Ok(is_so) => {
+            *unroutable = is_so as u8;
             0
         }
-        Filtered::Unroutable => {
-            *unroutable = 1;
-            0
-        }
-        Filtered::Refused(reason) => reason,
+        Err(refusal) => refusal.number(),
     }
 }
 
 // What relay says.
-#[tactic(auto, unfolding(answer_outcome::specs::Outcome::handed, crate::specs::Filters::said, netaddr::specs::Answer::relay_as))]
-pub fn hand_relay(got: Relay, skips: &mut u8) -> u8
-    ensures { result ∷ skips.new ∷ [] ≡ handed (said (relay_as got)) (skips.old ∷ []) }
+#[tactic(auto, unfolding(answer_outcome::specs::Outcome::handed, crate::specs::Filters::said))]
+pub fn hand_relay(got: Result<bool, Refusal>, skips: &mut u8) -> u8
+    ensures { result ∷ skips.new ∷ [] ≡ handed (said got) (skips.old ∷ []) }
 {
     match got {
-        Relay::Passes => {
-            *skips = 0;
+        Ok(is_so) => {
+            *skips = is_so as u8;
             0
         }
-        Relay::Skips => {
-            *skips = 1;
-            0
-        }
-        Relay::Refused(reason) => reason,
+        Err(refusal) => refusal.number(),
     }
 }

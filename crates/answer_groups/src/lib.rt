@@ -7,8 +7,9 @@ ghost use Rattle.answer_outcome.specs.Outcome.{handed};
 ghost use Rattle.answer_groups.specs.Groups.{grouping_of, group_found, scan_made, pick_made};
 
 use group_lists::Scan;
-use netgroup::{GroupAnswer, Grouping};
-use netgroup_pick::PickAnswer;
+use netgroup::Grouping;
+use netgroup_pick::Totals;
+use refusals::Refusal;
 
 // What numbers the groups.
 #[tactic(auto, unfolding(crate::specs::Groups::grouping_of))]
@@ -23,44 +24,38 @@ pub fn grouping_of(has_map: u8) -> Grouping
 
 // What a group call came to, as an answer and a lent number.
 #[tactic(auto, unfolding(answer_outcome::specs::Outcome::handed, crate::specs::Groups::group_found))]
-pub fn hand_group(got: GroupAnswer, group: &mut u64) -> u8
+pub fn hand_group(got: Result<u64, Refusal>, group: &mut u64) -> u8
     ensures { result ∷ group.new ∷ [] ≡ handed (group_found got) (group.old ∷ []) }
 {
     match got {
-        GroupAnswer::Group(found) => {
+        Ok(found) => {
             *group = found;
             0
         }
-        GroupAnswer::Refused(reason) => reason,
+        Err(refusal) => refusal.number(),
     }
 }
 
 // What the occupied scan came to. Where there is no hit, its place is 0 too.
 #[tactic(auto, unfolding(answer_outcome::specs::Outcome::handed, crate::specs::Groups::scan_made))]
-pub fn hand_scan(got: Scan, found: &mut u8, place: &mut usize, groups_read: &mut usize) -> u8
+pub fn hand_scan(got: Result<Scan, Refusal>, found: &mut u8, place: &mut usize, groups_read: &mut usize) -> u8
     ensures { result ∷ found.new ∷ place.new ∷ groups_read.new ∷ [] ≡ handed (scan_made got) (found.old ∷ place.old ∷ groups_read.old ∷ []) }
 {
     match got {
-        Scan::Hit(at, read) => {
-            *found = 1;
-            *place = at;
-            *groups_read = read;
+        Ok(scan) => {
+            *found = scan.hit.is_some() as u8;
+            *place = scan.hit.unwrap_or(0);
+            *groups_read = scan.read;
             0
         }
-        Scan::Missed(read) => {
-            *found = 0;
-            *place = 0;
-            *groups_read = read;
-            0
-        }
-        Scan::Refused(reason) => reason,
+        Err(refusal) => refusal.number(),
     }
 }
 
 // What a pick came to.
 #[tactic(auto, unfolding(answer_outcome::specs::Outcome::handed, crate::specs::Groups::pick_made))]
 pub fn hand_pick(
-    got: PickAnswer,
+    got: Result<Totals, Refusal>,
     total: &mut usize,
     first: &mut usize,
     examined: &mut usize,
@@ -69,13 +64,13 @@ pub fn hand_pick(
     ensures { result ∷ total.new ∷ first.new ∷ examined.new ∷ instructions.new ∷ [] ≡ handed (pick_made got) (total.old ∷ first.old ∷ examined.old ∷ instructions.old ∷ []) }
 {
     match got {
-        PickAnswer::Picked(totals) => {
+        Ok(totals) => {
             *total = totals.total;
             *first = totals.first;
             *examined = totals.examined;
             *instructions = totals.instructions;
             0
         }
-        PickAnswer::Refused(reason) => reason,
+        Err(refusal) => refusal.number(),
     }
 }

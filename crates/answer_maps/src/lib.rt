@@ -3,39 +3,50 @@
 
 ghost use Rattle.std.specs.Prelude.{◌≡◌, ◌∷◌, []};
 ghost use Rattle.answer_outcome.specs.Outcome.{handed};
-ghost use Rattle.answer_maps.specs.Maps.{map_checked, check_stopped, kind_number, walk_made};
+ghost use Rattle.answer_maps.specs.Maps.{map_checked, wrong_number, check_stopped, kind_number, walk_made};
 
-use asmap_check::Stopped;
-use asmap_program::{CUT_OPCODE, CUT_OPERAND, Kind, Verdict};
-use asmap_walk::Interpreted;
+use asmap_check::Stop;
+use asmap_program::{Accepted, Kind};
+use asmap_walk_bits::Ending;
+use refusals::{Fault, Refusal};
 
 // What the check came to, as an answer and lent numbers.
 #[tactic(auto, unfolding(answer_outcome::specs::Outcome::handed, crate::specs::Maps::map_checked))]
-pub fn hand_verdict(got: Verdict, count: &mut u32, depth: &mut u8) -> u8
+pub fn hand_verdict(got: Result<Accepted, Refusal>, count: &mut u32, depth: &mut u8) -> u8
     ensures { result ∷ count.new ∷ depth.new ∷ [] ≡ handed (map_checked got) (count.old ∷ depth.old ∷ []) }
 {
     match got {
-        Verdict::Accepted(instructions, deepest) => {
-            *count = instructions;
-            *depth = deepest;
+        Ok(accepted) => {
+            *count = accepted.count;
+            *depth = accepted.depth;
             0
         }
-        Verdict::Refused(reason) => reason,
+        Err(refusal) => refusal.number(),
+    }
+}
+
+// The number of what a check found wrong: 0 where that is nothing.
+fn wrong_number(wrong: Option<Fault>) -> u8
+    ensures { result ≡ wrong_number wrong }
+{
+    match wrong {
+        None => 0,
+        Some(fault) => fault.number(),
     }
 }
 
 // Where the check stopped.
 #[tactic(auto, unfolding(answer_outcome::specs::Outcome::handed, crate::specs::Maps::check_stopped))]
-pub fn hand_stop(got: Stopped, reason: &mut u8, place: &mut usize) -> u8
+pub fn hand_stop(got: Result<Stop, Refusal>, reason: &mut u8, place: &mut usize) -> u8
     ensures { result ∷ reason.new ∷ place.new ∷ [] ≡ handed (check_stopped got) (reason.old ∷ place.old ∷ []) }
 {
     match got {
-        Stopped::At(why, at) => {
-            *reason = why;
-            *place = at;
+        Ok(stop) => {
+            *reason = wrong_number(stop.wrong);
+            *place = stop.place;
             0
         }
-        Stopped::Refused(number) => number,
+        Err(refusal) => refusal.number(),
     }
 }
 
@@ -48,15 +59,15 @@ fn kind_number(kind: Kind) -> u8
         Kind::Returned => 1,
         Kind::Differed => 2,
         Kind::TooFewBits => 3,
-        Kind::OpcodeCut => CUT_OPCODE,
-        Kind::OperandCut => CUT_OPERAND,
+        Kind::OpcodeCut => Fault::CutOpcode.number(),
+        Kind::OperandCut => Fault::CutOperand.number(),
     }
 }
 
 // What a walk came to.
 #[tactic(auto, unfolding(answer_outcome::specs::Outcome::handed, crate::specs::Maps::walk_made))]
 pub fn hand_walk(
-    got: Interpreted,
+    got: Result<Ending, Refusal>,
     kind: &mut u8,
     number: &mut u32,
     count: &mut u32,
@@ -65,7 +76,7 @@ pub fn hand_walk(
     ensures { result ∷ kind.new ∷ number.new ∷ count.new ∷ bits.new ∷ [] ≡ handed (walk_made got) (kind.old ∷ number.old ∷ count.old ∷ bits.old ∷ []) }
 {
     match got {
-        Interpreted::Ended(ending) => {
+        Ok(ending) => {
             let how = ending.kind;
             *kind = kind_number(how);
             *number = ending.number;
@@ -73,6 +84,6 @@ pub fn hand_walk(
             *bits = ending.bits;
             0
         }
-        Interpreted::Refused(reason) => reason,
+        Err(refusal) => refusal.number(),
     }
 }

@@ -8,7 +8,7 @@ ghost use Rattle.asmap_codes.specs.Row.{type_row, operand_row, in_range};
 ghost use Rattle.asmap_codes.specs.Encode.{instruction_bits};
 ghost use Rattle.asmap_bit_writer.specs.models.Stream.{Ready, put_bytes, stream, Moved};
 
-use asmap_encode::{Word, Written};
+use asmap_encode::Word;
 
 // The bits that are not yet written, fewer than 64, the first lowest and none above them, and the place of their first byte. A
 // writer from a place on starts with no bits.
@@ -66,7 +66,7 @@ pub fn push_instruction(out: &mut [u8], writer: BitWriter, opcode: u32, operand:
     ensures { Moved out.old writer (instruction_bits opcode operand) out.new result }
 {
     let written = asmap_encode::encode_instruction(opcode, operand);
-    let Written::Bits(word) = written else {
+    let Ok(word) = written else {
         return writer;
     };
     push_word(out, writer, word)

@@ -9,7 +9,7 @@
 
 ghost use Rattle.std.specs.Prelude.{◌≡◌, ℕ, ◌≤◌, length, get_or};
 ghost use Rattle.prefix_records.specs.models.Cursor.{value_of};
-ghost use Rattle.prefix_lists.specs.declared.Judged.TheVariants.{Listed};
+ghost use Rattle.prefix_lists.specs.Judged.{Listed};
 ghost use Rattle.prefix_lists.specs.models.Listed.{Number, Rising};
 ghost use Rattle.asmap_records.specs.Output.{Hands};
 ghost use Rattle.asmap_build.specs.Build.{tree_bits, build_as, build_of, build_at};
@@ -18,17 +18,9 @@ ghost use Rattle.asmap_build.specs.models.Size.{Sized, WriteReady, Filled};
 
 use asmap_front_writer::Front;
 use asmap_program::{JUMP, RETURN};
-use asmap_records::Answer;
-use prefix_lists::Judged;
 use prefix_records::Address;
+use refusals::{Fault, Refusal};
 use tree_turns::Turn;
-
-// How many bits the map has, or that it is over the limit.
-#[derive(Clone, Copy)]
-enum Size {
-    Ends(usize),
-    Over,
-}
 
 // The most bits of a map: 16,777,216 bytes.
 const MAX_BITS: usize = 134217728;
@@ -47,9 +39,9 @@ fn no_starts() -> [usize; 129]
     [0; 129]
 }
 
-// One pass over the tree of the addresses of 128 bits, from its end to its start. Without `writes` it only counts; with it, it writes the bits, of which
+// One pass over the tree of the addresses of 128 bits, from its end to its start: how many bits the map has, none where it is over the limit. Without `writes` it only counts; with it, it writes the bits, of which
 // there are `total`.
-fn pass(records: &[u8], given: u32, out: &mut [u8], writes: bool, total: usize) -> Size
+fn pass(records: &[u8], given: u32, out: &mut [u8], writes: bool, total: usize) -> Option<usize>
     requires { Rising 128 records.now × Number given × WriteReady writes total (tree_bits records.now given 128) out.old }
     ensures { Sized (tree_bits records.now given 128) result
         × Filled writes (tree_bits records.now given 128) out.old out.new }
@@ -74,7 +66,7 @@ fn pass(records: &[u8], given: u32, out: &mut [u8], writes: bool, total: usize) 
             Turn::Returns => {
                 front = asmap_front_writer::put_before(out, front, RETURN, run.number, writes);
                 if MAX_BITS < front.done {
-                    return Size::Over;
+                    return None;
                 }
                 todo = 0;
             }
@@ -82,7 +74,7 @@ fn pass(records: &[u8], given: u32, out: &mut [u8], writes: bool, total: usize) 
                 let over = (front.done - starts[depth]) as u32;
                 front = asmap_front_writer::put_before(out, front, JUMP, over, writes);
                 if MAX_BITS < front.done {
-                    return Size::Over;
+                    return None;
                 }
                 depth -= 1;
             }
@@ -94,46 +86,44 @@ fn pass(records: &[u8], given: u32, out: &mut [u8], writes: bool, total: usize) 
             }
         }
     }
-    Size::Ends(front.done)
+    Some(front.done)
 }
 
 // The map of a list that is not refused, counted and then written.
-fn build_listed(records: &[u8], given: u32, out: &mut [u8]) -> Answer
+fn build_listed(records: &[u8], given: u32, out: &mut [u8]) -> Result<usize, Refusal>
     requires { Rising 128 records.now × Number given }
     ensures { Hands (build_as (tree_bits records.now given 128) Listed) out.old out.new result }
 {
-    let Size::Ends(total) = pass(records, given, out, false, 0) else {
-        return Answer::Refused(1);
+    let Some(total) = pass(records, given, out, false, 0) else {
+        return Err(Refusal::Map(Fault::MapTooLong));
     };
     let bytes = (total + 7) / 8;
     if out.len() < bytes {
-        return Answer::Refused(14);
+        return Err(Refusal::OutputTooShort);
     }
     pass(records, given, out, true, total);
-    Answer::Wrote(bytes)
+    Ok(bytes)
 }
 
 // Builds over a number of address bits. The tree does not depend on it, once no prefix is longer.
-fn build_over(records: &[u8], given: u32, bits: u8, out: &mut [u8]) -> Answer
+fn build_over(records: &[u8], given: u32, bits: u8, out: &mut [u8]) -> Result<usize, Refusal>
     requires { bits ≤ 128 }
     ensures hands { Hands (build_of records.now given bits) out.old out.new result }
     ensures builds { WritesMap records.now given bits out.new result }
 {
-    match prefix_lists::judge_list(records, given, bits) {
-        Judged::Refused(reason) => Answer::Refused(reason),
-        Judged::Listed => build_listed(records, given, out),
-    }
+    prefix_lists::judge_list(records, given, bits)?;
+    build_listed(records, given, out)
 }
 
 // Builds the map of a list of prefixes, records of 24 bytes that rise and do not overlap, with a number for all other addresses, at a width. Refusals:
 // 18 for a width that is neither 32 nor 128; 21 for record bytes that are no multiple of 24; for the first wrong record 21 for its prefix or 22 for
 // its number; 22 for the given number; 1 for a map over the limit; 14. A refused call writes nothing.
-pub fn build(records: &[u8], given: u32, width: u32, out: &mut [u8]) -> Answer
+pub fn build(records: &[u8], given: u32, width: u32, out: &mut [u8]) -> Result<usize, Refusal>
     ensures hands { Hands (build_at records.now given width) out.old out.new result }
     ensures builds { WritesMap records.now given width out.new result }
 {
-    if asmap_program::is_width(width) {
-        return build_over(records, given, width as u8, out);
+    if !asmap_program::is_width(width) {
+        return Err(Refusal::Width);
     }
-    Answer::Refused(18)
+    build_over(records, given, width as u8, out)
 }

@@ -10,7 +10,7 @@ ghost use Rattle.prefix_records.specs.models.Cursor.{value_of, record_at, Behind
 ghost use Rattle.asmap_changes.specs.Changes.{changes_of};
 ghost use Rattle.asmap_changes.specs.models.Side.{Ready, Coming, Comes, Fronted, Paired, place_of, put_if, added, Noted, Roomy, RoomFor, Whole, most_changes};
 
-use asmap_list_step::{Next, Spot};
+use asmap_list_step::Spot;
 use prefix_records::Address;
 
 // The foremost piece of a listing: where it begins and the address behind it, its prefix length and number, and where the listing stands behind it.
@@ -21,13 +21,6 @@ pub struct Front {
     pub len: u8,
     pub number: u32,
     pub spot: Spot,
-}
-
-// What is ahead in a listing: a piece, or its end.
-#[derive(Clone, Copy)]
-pub enum Ahead {
-    At(Front),
-    Over,
 }
 
 // Where a prefix begins, and its length.
@@ -77,16 +70,16 @@ fn front_at(begin: Address, len: u8, number: u32, s: Spot) -> Front
     }
 }
 
-// The next piece of a listing, which begins at an address.
-fn next_front(map: &[u8], begin: Address, from: Spot, bits: &mut [u8], numbers: &mut [u32]) -> Ahead
+// The next piece of a listing, which begins at an address; none at the listing's end.
+fn next_front(map: &[u8], begin: Address, from: Spot, bits: &mut [u8], numbers: &mut [u32]) -> Option<Front>
     requires { (length map.now ≤ limit) × Comes map.now from begin bits.old numbers.old }
     ensures { (lo : ℕ) (ps : List Piece) → Coming map.now from begin bits.old numbers.old lo ps → Fronted map.now from ps bits.new numbers.new result }
 {
     let got = asmap_list_step::next_piece(map, from, bits, numbers);
-    let Next::Piece(len, number, next) = got else {
-        return Ahead::Over;
+    let Some((len, number, next)) = got else {
+        return None;
     };
-    Ahead::At(front_at(begin, len, number, next))
+    Some(front_at(begin, len, number, next))
 }
 
 // Of two pieces that overlap the longer prefix is what they share.
@@ -188,24 +181,24 @@ fn merge(
         let new_spot = n.spot;
         if same(old_end, new_end) {
             let next_old = next_front(old, old_end, old_spot, old_bits, old_numbers);
-            let Ahead::At(o1) = next_old else {
+            let Some(o1) = next_old else {
                 return found;
             };
             let next_new = next_front(new, new_end, new_spot, new_bits, new_numbers);
-            let Ahead::At(n1) = next_new else {
+            let Some(n1) = next_new else {
                 return found;
             };
             o = o1;
             n = n1;
         } else if n.len < o.len {
             let next_old = next_front(old, old_end, old_spot, old_bits, old_numbers);
-            let Ahead::At(o1) = next_old else {
+            let Some(o1) = next_old else {
                 return found;
             };
             o = o1;
         } else {
             let next_new = next_front(new, new_end, new_spot, new_bits, new_numbers);
-            let Ahead::At(n1) = next_new else {
+            let Some(n1) = next_new else {
                 return found;
             };
             n = n1;
@@ -225,11 +218,11 @@ pub fn put_changes(old: &[u8], new: &[u8], writes: bool, out: &mut [u8]) -> Foun
     let zero = Address { high: 0, low: 0 };
     let s = asmap_list_step::start();
     let first_old = next_front(old, zero, s, &mut old_bits, &mut old_numbers);
-    let Ahead::At(o) = first_old else {
+    let Some(o) = first_old else {
         return nothing();
     };
     let first_new = next_front(new, zero, s, &mut new_bits, &mut new_numbers);
-    let Ahead::At(n) = first_new else {
+    let Some(n) = first_new else {
         return nothing();
     };
     merge(

@@ -11,8 +11,8 @@ ghost use Rattle.asmap_codes.specs.Instruction.{padded_from};
 ghost use Rattle.asmap_row_decoder.specs.models.InWindow.{Holds};
 ghost use Rattle.asmap_check_act.specs.models.Act.{past_top, on_return, on_jump, on_match, on_default, acts};
 
-use asmap_codes::Code;
-use asmap_program::{CUT_OPCODE, CUT_OPERAND, Previous};
+use asmap_program::Previous;
+use refusals::Fault;
 
 // What an instruction asks of the loop. The first number of the first four is the place after the instruction; then a JUMP's target, a
 // MATCH's length.
@@ -23,7 +23,6 @@ pub enum Act {
     Uses(usize, u8),
     Keeps(usize),
     Accepts,
-    Refuses(u8),
 }
 
 // ---- the tests, each as a function on numbers
@@ -31,41 +30,27 @@ pub enum Act {
 fn is_default(previous: Previous) -> bool
     ensures { result ≡ is_default previous }
 {
-    match previous {
-        Previous::Default => true,
-        Previous::Short => false,
-        Previous::Other => false,
-    }
+    previous == Previous::Default
 }
 
 fn is_short(previous: Previous) -> bool
     ensures { result ≡ is_short previous }
 {
-    match previous {
-        Previous::Short => true,
-        Previous::Default => false,
-        Previous::Other => false,
-    }
+    previous == Previous::Short
 }
 
 // A MATCH shorter than 8 straight after a MATCH shorter than 8.
 fn short_again(length: u8, previous: Previous) -> bool
     ensures { result ≡ (ltb length 8 && is_short previous) }
 {
-    if length < 8 {
-        return is_short(previous);
-    }
-    false
+    length < 8 && is_short(previous)
 }
 
 // A place at or past the innermost open target.
 fn past(depth: usize, top: u32, place: usize) -> bool
     ensures { result ≡ past_top depth top place }
 {
-    if depth == 0 {
-        return false;
-    }
-    top as usize <= place
+    0 < depth && top as usize <= place
 }
 
 // Padding after the final RETURN: at most 7 bits, all 0.
@@ -91,80 +76,80 @@ fn padded(map: &[u8], at: usize) -> bool
 // ---- the arms: an operand that starts at bit `at`, in the window `w`, and the tests in document 01's order
 
 // RETURN: 5 after DEFAULT, 19 cut; with no open jump 6 where no padding follows, with one 7 where it does not end at the target.
-fn sanity_return(map: &[u8], w: u64, at: usize, previous: Previous, depth: usize, top: u32) -> Act
+fn sanity_return(map: &[u8], w: u64, at: usize, previous: Previous, depth: usize, top: u32) -> Result<Act, Fault>
     requires { (length map.now ≤ limit) × (at < 2 ^ 34) × Holds asn_row map.now at w }
     ensures { result ≡ on_return map.now previous depth top (code_at map.now at asn_row) }
 {
     if is_default(previous) {
-        return Act::Refuses(5);
+        return Err(Fault::AfterDefault);
     }
     let got = asmap_row_decoder::asn_in(w, at, 8 * map.len());
-    let Code::Value(_, next) = got else {
-        return Act::Refuses(CUT_OPERAND);
+    let Some((_, next)) = got else {
+        return Err(Fault::CutOperand);
     };
     if depth == 0 {
         if padded(map, next) {
-            return Act::Accepts;
+            return Ok(Act::Accepts);
         }
-        return Act::Refuses(6);
+        return Err(Fault::Padding);
     }
     if next == top as usize {
-        return Act::Closes(next);
+        return Ok(Act::Closes(next));
     }
-    Act::Refuses(7)
+    Err(Fault::NotAtTarget)
 }
 
 // JUMP: 19 cut, 8 with no bit left, 9 where its target is at or past the innermost. The target is counted from the JUMP's end.
-fn sanity_jump(map: &[u8], w: u64, at: usize, bits: u8, depth: usize, top: u32) -> Act
+fn sanity_jump(map: &[u8], w: u64, at: usize, bits: u8, depth: usize, top: u32) -> Result<Act, Fault>
     requires { (length map.now ≤ limit) × (at < 2 ^ 34) × Holds jump_row map.now at w }
     ensures { result ≡ on_jump bits depth top (code_at map.now at jump_row) }
 {
     let got = asmap_row_decoder::jump_in(w, at, 8 * map.len());
-    let Code::Value(offset, next) = got else {
-        return Act::Refuses(CUT_OPERAND);
+    let Some((offset, next)) = got else {
+        return Err(Fault::CutOperand);
     };
     if bits == 0 {
-        return Act::Refuses(8);
+        return Err(Fault::NoBits);
     }
     let target = next as u32 + offset;
     if past(depth, top, target as usize) {
-        return Act::Refuses(9);
+        return Err(Fault::TargetsCross);
     }
-    Act::Opens(next, target)
+    Ok(Act::Opens(next, target))
 }
 
 // MATCH: 19 cut, 10 short after short, 8 where it is longer than the bits left.
-fn sanity_match(map: &[u8], w: u64, at: usize, previous: Previous, bits: u8) -> Act
+fn sanity_match(map: &[u8], w: u64, at: usize, previous: Previous, bits: u8) -> Result<Act, Fault>
     requires { (length map.now ≤ limit) × (at < 2 ^ 34) × Holds match_row map.now at w }
     ensures { result ≡ on_match previous bits (code_at map.now at match_row) }
 {
     let got = asmap_row_decoder::match_in(w, at, 8 * map.len());
-    let Code::Value(operand, next) = got else {
-        return Act::Refuses(CUT_OPERAND);
+    let Some((operand, next)) = got else {
+        return Err(Fault::CutOperand);
     };
     let length = asmap_program::match_length(operand);
     if short_again(length, previous) {
-        return Act::Refuses(10);
+        return Err(Fault::ShortMatches);
     }
     if bits < length {
-        return Act::Refuses(8);
+        return Err(Fault::NoBits);
     }
-    Act::Uses(next, length)
+    Ok(Act::Uses(next, length))
 }
 
 // DEFAULT: 5 after DEFAULT, 19 cut.
-fn sanity_default(map: &[u8], w: u64, at: usize, previous: Previous) -> Act
+fn sanity_default(map: &[u8], w: u64, at: usize, previous: Previous) -> Result<Act, Fault>
     requires { (length map.now ≤ limit) × (at < 2 ^ 34) × Holds asn_row map.now at w }
     ensures { result ≡ on_default previous (code_at map.now at asn_row) }
 {
     if is_default(previous) {
-        return Act::Refuses(5);
+        return Err(Fault::AfterDefault);
     }
     let got = asmap_row_decoder::asn_in(w, at, 8 * map.len());
-    let Code::Value(_, next) = got else {
-        return Act::Refuses(CUT_OPERAND);
+    let Some((_, next)) = got else {
+        return Err(Fault::CutOperand);
     };
-    Act::Keeps(next)
+    Ok(Act::Keeps(next))
 }
 
 // The instruction at bit `pos`, inside the map: 3 at or past the innermost target, 4 where the opcode is cut, else by the opcode.
@@ -175,17 +160,17 @@ pub fn sanity_act(
     bits: u8,
     depth: usize,
     top: u32,
-) -> Act
+) -> Result<Act, Fault>
     requires { (length map.now ≤ limit) × (pos < 8 * length map.now) }
     ensures { result ≡ acts map.now previous bits depth top pos }
 {
     if past(depth, top, pos) {
-        return Act::Refuses(3);
+        return Err(Fault::PastTarget);
     }
     let w = asmap_window::window(map, pos);
     let got = asmap_row_decoder::type_in(w, pos, 8 * map.len());
-    let Code::Value(opcode, at) = got else {
-        return Act::Refuses(CUT_OPCODE);
+    let Some((opcode, at)) = got else {
+        return Err(Fault::CutOpcode);
     };
     let rest = asmap_row_decoder::operand_window(map, w, pos, opcode, at);
     if opcode == asmap_program::RETURN {

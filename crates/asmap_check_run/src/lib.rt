@@ -12,7 +12,8 @@ ghost use Rattle.asmap_program.specs.Check.{after_match};
 ghost use Rattle.asmap_check_run.specs.models.State.{Arrays, top, judged, most};
 
 use asmap_check_act::Act;
-use asmap_program::{Previous, Verdict};
+use asmap_program::{Accepted, Previous, Verdict};
+use refusals::Fault;
 
 // What the loop comes to, for all calls of the check: the verdict, the place at which it stopped, and the prefixes told apart up to there.
 #[derive(Clone, Copy)]
@@ -139,7 +140,7 @@ pub fn run_check(map: &[u8], bits: u8) -> Judged
         let asked = asmap_check_act::sanity_act(map, pos, previous, free, depth, top);
         count += 1;
         match asked {
-            Act::Opens(next, target) => {
+            Ok(Act::Opens(next, target)) => {
                 state = state.use_bits(1);
                 let left = state.bits;
                 state.targets[depth] = target;
@@ -150,31 +151,38 @@ pub fn run_check(map: &[u8], bits: u8) -> Judged
                 previous = Previous::Other;
                 pos = next;
             }
-            Act::Closes(next) => {
+            Ok(Act::Closes(next)) => {
                 let saved = state.saved[depth - 1];
                 state = state.close_jump(saved);
                 previous = Previous::Other;
                 pieces += 1;
                 pos = next;
             }
-            Act::Uses(next, length) => {
+            Ok(Act::Uses(next, length)) => {
                 state = state.use_bits(length);
                 previous = after_match(length);
                 pieces += length as usize;
                 pos = next;
             }
-            Act::Keeps(next) => {
+            Ok(Act::Keeps(next)) => {
                 previous = Previous::Default;
                 pos = next;
             }
-            Act::Accepts => {
+            Ok(Act::Accepts) => {
                 let greatest = deepest as u8;
-                return judge(Verdict::Accepted(count, greatest), pos, pieces + 1);
+                return judge(
+                    Ok(Accepted {
+                        count,
+                        depth: greatest,
+                    }),
+                    pos,
+                    pieces + 1,
+                );
             }
-            Act::Refuses(reason) => {
-                return judge(Verdict::Refused(reason), pos, pieces);
+            Err(fault) => {
+                return judge(Err(fault), pos, pieces);
             }
         }
     }
-    judge(Verdict::Refused(2), pos, pieces)
+    judge(Err(Fault::MapEnds), pos, pieces)
 }

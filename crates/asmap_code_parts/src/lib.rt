@@ -17,14 +17,6 @@ pub struct Parts {
     pub rest: u32,
 }
 
-// What was found of a value in a row: how many bits stand before the size's own, and the parts of its code; or that the row does
-// not have it.
-#[derive(Clone, Copy)]
-pub enum Coded {
-    In(usize, Parts),
-    Out,
-}
-
 // The parts of the code of x over sizes from `first` on that grow by one: x + 2^first is as wide as the size that has x, and
 // one bit more.
 fn parts_grown(x: u32, first: u8) -> Parts
@@ -80,56 +72,56 @@ fn parts_of(x: u32, sizes: &[u8]) -> Parts
     parts_looked_up(x, sizes)
 }
 
-// The parts of a value's code in a row of sizes over a least value, of which there are `count` values. A value that the row does
-// not have has none: below the least, or from least + count on.
-fn row_parts(value: u32, least: u32, count: u32, sizes: &[u8]) -> Coded
+// How many bits stand before the size's own in a value's code, and the code's parts, in a row of sizes over a least value, of which there are
+// `count` values. A value that the row does not have has none: below the least, or from least + count on.
+fn row_parts(value: u32, least: u32, count: u32, sizes: &[u8]) -> Option<(usize, Parts)>
     requires { (0 < length sizes.now) × (span sizes.now ≤ 2 ^ 31) × (length sizes.now ≤ 26) × (count ≡ span sizes.now) × (slow sizes.now ≡ true) }
     ensures { CodedAs (record { least = least; sizes = sizes.now }) value result }
 {
     if value < least {
-        return Coded::Out;
+        return None;
     }
     let x = value - least;
     if x < count {
         let parts = parts_of(x, sizes);
         let prefix = asmap_codes::prefix_length(parts.ones, sizes.len());
-        return Coded::In(prefix, parts);
+        return Some((prefix, parts));
     }
-    Coded::Out
+    None
 }
 
 // ---- the four rows
 
 // The parts of an opcode's code.
-pub fn type_parts(value: u32) -> Coded
+pub fn type_parts(value: u32) -> Option<(usize, Parts)>
     ensures { CodedAs type_row value result }
 {
     row_parts(value, 0, 4, &TYPE_BIT_SIZES)
 }
 
 // The parts of an AS number's code.
-pub fn asn_parts(value: u32) -> Coded
+pub fn asn_parts(value: u32) -> Option<(usize, Parts)>
     ensures { CodedAs asn_row value result }
 {
     row_parts(value, 1, 33521664, &ASN_BIT_SIZES)
 }
 
 // The parts of a MATCH operand's code.
-pub fn match_parts(value: u32) -> Coded
+pub fn match_parts(value: u32) -> Option<(usize, Parts)>
     ensures { CodedAs match_row value result }
 {
     row_parts(value, 2, 510, &MATCH_BIT_SIZES)
 }
 
 // The parts of a JUMP operand's code.
-pub fn jump_parts(value: u32) -> Coded
+pub fn jump_parts(value: u32) -> Option<(usize, Parts)>
     ensures { CodedAs jump_row value result }
 {
     row_parts(value, 17, 2147483616, &JUMP_BIT_SIZES)
 }
 
 // The parts of an operand's code, in the row of its opcode.
-pub fn operand_parts(opcode: u32, operand: u32) -> Coded
+pub fn operand_parts(opcode: u32, operand: u32) -> Option<(usize, Parts)>
     ensures { CodedAs (operand_row opcode) operand result }
 {
     if opcode == asmap_program::JUMP {

@@ -7,8 +7,6 @@ ghost use Rattle.asmap_codes.specs.Row.{type_row, asn_row, match_row, jump_row};
 ghost use Rattle.asmap_codes.specs.models.Grown.{stops};
 ghost use Rattle.asmap_codes.specs.models.Reverse.{rev, swap};
 
-use asmap_program::Instruction;
-
 // The sizes of an opcode's code: four values from 0 on.
 pub const TYPE_BIT_SIZES: [u8; 3] = [0, 0, 1];
 
@@ -46,26 +44,8 @@ pub fn bit_sizes() -> BitSizes
     }
 }
 
-// A code in a map within the limit: its value and the bit after it, or no value where the map's end cuts it.
-#[derive(Clone, Copy)]
-pub enum Code {
-    Value(u32, usize),
-    Cut,
-}
-
-// What reading a code hands back: its value and the bit after it, or document 01's number.
-#[derive(Clone, Copy)]
-pub enum Decoded {
-    Found(u32, usize),
-    Refused(u8),
-}
-
-// What reading an instruction hands back: the instruction, or document 01's number.
-#[derive(Clone, Copy)]
-pub enum DecodedInstruction {
-    Found(Instruction),
-    Refused(u8),
-}
+// A code that was read: its value, and the bit after it. One that the map's end cuts has no value: it is None where it is read.
+pub type Code = (u32, usize);
 
 // 2 to a size: how many values a size adds, for the decoder and the writer alike.
 pub fn power(size: u8) -> u32

@@ -6,20 +6,14 @@ ghost use Rattle.asmap_codes.specs.Row.{type_row, asn_row, match_row, jump_row};
 ghost use Rattle.asmap_encode.specs.models.Words.{Short, Shortened, after, written_as, length_written};
 ghost use Rattle.asmap_encode.specs.Write.{write_code, write_instruction};
 
-use asmap_code_parts::{Coded, Parts};
+use asmap_code_parts::Parts;
+use refusals::Refusal;
 
 // Bits in a word, the first bit lowest, and how many they are.
 #[derive(Clone, Copy)]
 pub struct Word {
     pub bits: u64,
     pub len: usize,
-}
-
-// What the writers hand back: the bits, or document 01's number.
-#[derive(Clone, Copy)]
-pub enum Written {
-    Bits(Word),
-    Refused(u8),
 }
 
 // A code by its parts, after the bits of a word. An opcode has at most 3 bits, a row at most 26 sizes, each at most 31: all fit
@@ -40,20 +34,20 @@ fn encode_bits(before: Word, prefix: usize, parts: Parts) -> Word
 }
 
 // The bits of what was found of a value, after the bits of a word; 15 where the row does not have it.
-fn write(before: Word, coded: Coded) -> Written
+fn write(before: Word, coded: Option<(usize, Parts)>) -> Result<Word, Refusal>
     requires { (before.bits < 2 ^ before.len) × (before.len ≤ 3) × Shortened coded }
     ensures { result ≡ written_as before coded }
 {
     match coded {
-        Coded::In(prefix, parts) => Written::Bits(encode_bits(before, prefix, parts)),
-        Coded::Out => Written::Refused(15),
+        Some((prefix, parts)) => Ok(encode_bits(before, prefix, parts)),
+        None => Err(Refusal::OutOfRange),
     }
 }
 
 // ---- the public calls: 15 for a value out of its row's range
 
 // Writes an opcode. Refusal 15; nothing is asked of the caller.
-pub fn encode_type(value: u32) -> Written
+pub fn encode_type(value: u32) -> Result<Word, Refusal>
     ensures { result ≡ write_code type_row value }
 {
     write(
@@ -63,14 +57,14 @@ pub fn encode_type(value: u32) -> Written
 }
 
 // Writes an AS number. Refusal 15; nothing is asked of the caller.
-pub fn encode_asn(value: u32) -> Written
+pub fn encode_asn(value: u32) -> Result<Word, Refusal>
     ensures { result ≡ write_code asn_row value }
 {
     write(Word { bits: 0, len: 0 }, asmap_code_parts::asn_parts(value))
 }
 
 // Writes a MATCH operand. Refusal 15; nothing is asked of the caller.
-pub fn encode_match(value: u32) -> Written
+pub fn encode_match(value: u32) -> Result<Word, Refusal>
     ensures { result ≡ write_code match_row value }
 {
     write(
@@ -80,7 +74,7 @@ pub fn encode_match(value: u32) -> Written
 }
 
 // Writes a JUMP operand. Refusal 15; nothing is asked of the caller.
-pub fn encode_jump(value: u32) -> Written
+pub fn encode_jump(value: u32) -> Result<Word, Refusal>
     ensures { result ≡ write_code jump_row value }
 {
     write(
@@ -91,13 +85,10 @@ pub fn encode_jump(value: u32) -> Written
 
 // Writes an instruction: its opcode's code, then its operand's. Refusal 15 for either; nothing is asked of the caller. The
 // bits are at most 57.
-pub fn encode_instruction(opcode: u32, operand: u32) -> Written
+pub fn encode_instruction(opcode: u32, operand: u32) -> Result<Word, Refusal>
     ensures { result ≡ write_instruction opcode operand }
 {
-    let first = encode_type(opcode);
-    let Written::Bits(code) = first else {
-        return Written::Refused(15);
-    };
+    let code = encode_type(opcode)?;
     write(code, asmap_code_parts::operand_parts(opcode, operand))
 }
 
@@ -106,11 +97,11 @@ pub fn instruction_length(opcode: u32, operand: u32) -> usize
     ensures { result ≡ length_written (write_instruction opcode operand) }
 {
     let first = asmap_code_parts::type_parts(opcode);
-    let Coded::In(prefix, parts) = first else {
+    let Some((prefix, parts)) = first else {
         return 0;
     };
     let second = asmap_code_parts::operand_parts(opcode, operand);
-    let Coded::In(next_prefix, next) = second else {
+    let Some((next_prefix, next)) = second else {
         return 0;
     };
     prefix + parts.size as usize + next_prefix + next.size as usize

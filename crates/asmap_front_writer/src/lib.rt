@@ -6,7 +6,7 @@ ghost use Rattle.std.specs.Prelude.{◌≡◌, ◌+◌, ◌^◌, ◌≤◌, ◌<
 ghost use Rattle.asmap_codes.specs.Bits.{low};
 ghost use Rattle.asmap_front_writer.specs.models.Front.{Room, Moved, Ready, Emitted};
 
-use asmap_encode::{Word, Written};
+use asmap_encode::Word;
 
 // What is written of a map, from its end on: how many bits; of them the first, fewer than 8, that fill no byte yet, the first lowest; and the place
 // behind their byte.
@@ -50,7 +50,7 @@ pub fn put_before(out: &mut [u8], front: Front, opcode: u32, operand: u32, write
 {
     if writes {
         let written = asmap_encode::encode_instruction(opcode, operand);
-        let Written::Bits(word) = written else {
+        let Ok(word) = written else {
             return front;
         };
         return put_word_before(out, front, word);

@@ -5,8 +5,9 @@
 ghost use Rattle.std.specs.Prelude.{◌≡◌};
 ghost use Rattle.asmap_items.specs.Items.{read_bit, read_item, place_after, bits_left};
 
-use asmap_codes::Decoded;
-use asmap_program::{CUT_OPCODE, MAX_MAP_BYTES};
+use asmap_codes::Code;
+use asmap_program::MAX_MAP_BYTES;
+use refusals::Fault;
 
 // What a reader can be asked for: one bit, or a code of one of the four rows.
 #[derive(Clone, Copy)]
@@ -19,23 +20,21 @@ pub enum Item {
 }
 
 // Reads one bit (`consume_bit_le`). Refusals 1, and 4 at or past the map's end, as for an opcode; nothing is asked of the caller.
-pub fn decode_bit(map: &[u8], at: usize) -> Decoded
+pub fn decode_bit(map: &[u8], at: usize) -> Result<Code, Fault>
     ensures { result ≡ read_bit map.now at }
 {
     let bytes = map.len();
     if MAX_MAP_BYTES < bytes {
-        return Decoded::Refused(1);
+        return Err(Fault::MapTooLong);
     }
     if 8 * bytes <= at {
-        return Decoded::Refused(CUT_OPCODE);
+        return Err(Fault::CutOpcode);
     }
-    let bit = asmap_window::bit_at(map, at);
-    let next = at + 1;
-    Decoded::Found(bit, next)
+    Ok((asmap_window::bit_at(map, at), at + 1))
 }
 
 // Reads what is asked for. Refusals 1, then 4 for a bit or an opcode, 19 for the other three; nothing is asked of the caller.
-pub fn decode_item(map: &[u8], at: usize, item: Item) -> Decoded
+pub fn decode_item(map: &[u8], at: usize, item: Item) -> Result<Code, Fault>
     ensures { result ≡ read_item map.now at item }
 {
     match item {
@@ -48,12 +47,12 @@ pub fn decode_item(map: &[u8], at: usize, item: Item) -> Decoded
 }
 
 // The place after a read: the bit after what was read, or where the reader stood when it was refused.
-pub fn place_after(at: usize, got: Decoded) -> usize
+pub fn place_after(at: usize, got: Result<Code, Fault>) -> usize
     ensures { result ≡ place_after at got }
 {
     match got {
-        Decoded::Found(_, next) => next,
-        Decoded::Refused(_) => at,
+        Ok((_, next)) => next,
+        Err(_) => at,
     }
 }
 

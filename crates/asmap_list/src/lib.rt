@@ -13,18 +13,10 @@ ghost use Rattle.asmap_list.specs.List.{list_of, list_at, needed_of, needed_at};
 ghost use Rattle.asmap_list.specs.Promise.{Covers};
 ghost use Rattle.asmap_list.specs.models.Listed.{Listed};
 
-use asmap_check::Counted;
-use asmap_list_step::{Next, Spot};
+use asmap_list_step::Spot;
 use asmap_program::ADDRESS_BITS;
-use asmap_records::Answer;
 use prefix_records::Address;
-
-// How many bytes a listing needs, or the number of the check's refusal.
-#[derive(Clone, Copy)]
-pub enum Needed {
-    Bytes(usize),
-    Refused(u8),
-}
+use refusals::Refusal;
 
 // The records of a map's listing, which has `count` pieces, at an output's front. The address is carried along: each piece begins where the
 // one before it ends.
@@ -39,7 +31,7 @@ fn put_listing(map: &[u8], count: usize, out: &mut [u8])
     let mut k: usize = 0;
     while k < count {
         let got = asmap_list_step::next_piece(map, s, &mut bits, &mut numbers);
-        let Next::Piece(length, number, next) = got else {
+        let Some((length, number, next)) = got else {
             return;
         };
         prefix_records::put_record(out, 24 * k, a, length, number);
@@ -59,27 +51,22 @@ fn put_listing(map: &[u8], count: usize, out: &mut [u8])
 }
 
 // Lists a map that the check accepts over a number of address bits. The calls below fix it.
-fn list_over(map: &[u8], bits: u8, out: &mut [u8]) -> Answer
+fn list_over(map: &[u8], bits: u8, out: &mut [u8]) -> Result<usize, Refusal>
     requires { bits ≤ 128 }
     ensures { Hands (list_of map.now bits) out.old out.new result }
 {
-    let counted = asmap_check::sanity_check_pieces(map, bits);
-    match counted {
-        Counted::Refused(reason) => Answer::Refused(reason),
-        Counted::Pieces(pieces) => {
-            if out.len() / 24 < pieces {
-                return Answer::Refused(14);
-            }
-            let bytes = 24 * pieces;
-            put_listing(map, pieces, out);
-            Answer::Wrote(bytes)
-        }
+    let pieces = asmap_check::sanity_check_pieces(map, bits)?;
+    if out.len() / 24 < pieces {
+        return Err(Refusal::OutputTooShort);
     }
+    let bytes = 24 * pieces;
+    put_listing(map, pieces, out);
+    Ok(bytes)
 }
 
 // Lists a map that the check accepts at 128 address bits. Refusals: the check's, 1 to 10 and 19, then 14; a refused call writes nothing.
 // A number of 0 in a record is that of a MATCH that differs before a DEFAULT was met. It is not "unmapped", and no walk there is aborted.
-pub fn list(map: &[u8], out: &mut [u8]) -> Answer
+pub fn list(map: &[u8], out: &mut [u8]) -> Result<usize, Refusal>
     ensures hands { Hands (list_of map.now 128) out.old out.new result }
     ensures covers { Covers map.now 128 }
 {
@@ -88,41 +75,38 @@ pub fn list(map: &[u8], out: &mut [u8]) -> Answer
 
 // The same at a width: 18 for one that is neither 32 nor 128, before the check. At 32 a record has its address in the first 4 of the 16 bytes,
 // with zeros behind, and a prefix length of at most 32.
-pub fn list_bits(map: &[u8], width: u32, out: &mut [u8]) -> Answer
+pub fn list_bits(map: &[u8], width: u32, out: &mut [u8]) -> Result<usize, Refusal>
     ensures hands { Hands (list_at map.now width) out.old out.new result }
     ensures covers { Covers map.now width }
 {
-    if asmap_program::is_width(width) {
-        return list_over(map, width as u8, out);
+    if !asmap_program::is_width(width) {
+        return Err(Refusal::Width);
     }
-    Answer::Refused(18)
+    list_over(map, width as u8, out)
 }
 
 // How many bytes the listing of a map needs, over a number of address bits.
-fn bytes_over(map: &[u8], bits: u8) -> Needed
+fn bytes_over(map: &[u8], bits: u8) -> Result<usize, Refusal>
     requires { bits ≤ 128 }
     ensures { result ≡ needed_of map.now bits }
 {
-    let counted = asmap_check::sanity_check_pieces(map, bits);
-    match counted {
-        Counted::Refused(reason) => Needed::Refused(reason),
-        Counted::Pieces(pieces) => Needed::Bytes(24 * pieces),
-    }
+    let pieces = asmap_check::sanity_check_pieces(map, bits)?;
+    Ok(24 * pieces)
 }
 
 // How many bytes the listing of a map needs, for whoever has to lend them. Refused as the check does, 1 to 10 or 19.
-pub fn list_bytes(map: &[u8]) -> Needed
+pub fn list_bytes(map: &[u8]) -> Result<usize, Refusal>
     ensures { result ≡ needed_of map.now 128 }
 {
     bytes_over(map, ADDRESS_BITS)
 }
 
 // The same at a width: 18 for one that is neither 32 nor 128, before the check.
-pub fn list_bytes_bits(map: &[u8], width: u32) -> Needed
+pub fn list_bytes_bits(map: &[u8], width: u32) -> Result<usize, Refusal>
     ensures { result ≡ needed_at map.now width }
 {
-    if asmap_program::is_width(width) {
-        return bytes_over(map, width as u8);
+    if !asmap_program::is_width(width) {
+        return Err(Refusal::Width);
     }
-    Needed::Refused(18)
+    bytes_over(map, width as u8)
 }

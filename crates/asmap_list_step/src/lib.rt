@@ -15,8 +15,6 @@ ghost use Rattle.asmap_codes.specs.Row.{asn_row, jump_row, match_row};
 ghost use Rattle.asmap_row_decoder.specs.models.InWindow.{Holds};
 ghost use Rattle.asmap_list_step.specs.models.Step.{Sane, Stepped, Passed, Reads};
 
-use asmap_codes::Code;
-
 // Where a listing stands, in numbers only. at: the place of the next instruction. used: the address bits used. default: the default. value, left:
 // the operand of a MATCH, and how many of its bits are still to be taken. depth: the entries on the stack. up: the piece before ended what
 // it stood in, and the stack says what comes next. default and value stand apart: side by side they would be copied as one, which waits for the stores
@@ -38,13 +36,6 @@ pub enum Turn {
     Gives(u8, u32, Spot),
     Goes(Spot),
     Ends,
-}
-
-// The next piece, with its prefix length and number, and where the listing stands then; or none, at the listing's end.
-#[derive(Clone, Copy)]
-pub enum Next {
-    Piece(u8, u32, Spot),
-    Over,
 }
 
 // The stack's arrays, as functions with a contract: a loop that starts from a long array written out carries it through every goal.
@@ -159,7 +150,7 @@ fn step_return(map: &[u8], s: Spot, w: u64, from: usize) -> Turn
     ensures { (bs ns : List ℕ) → Sane map.now s bs ns → Stepped map.now s bs ns bs ns result }
 {
     let got = asmap_row_decoder::asn_in(w, from, 8 * map.len());
-    let Code::Value(number, next) = got else {
+    let Some((number, next)) = got else {
         return Turn::Ends;
     };
     Turn::Gives(
@@ -183,7 +174,7 @@ fn step_jump(map: &[u8], s: Spot, w: u64, from: usize, bits: &mut [u8], numbers:
     ensures { Stepped map.now s bits.old numbers.old bits.new numbers.new result }
 {
     let got = asmap_row_decoder::jump_in(w, from, 8 * map.len());
-    let Code::Value(_, next) = got else {
+    let Some((_, next)) = got else {
         return Turn::Ends;
     };
     let used = s.used;
@@ -210,7 +201,7 @@ fn step_match(map: &[u8], s: Spot, w: u64, from: usize) -> Turn
     ensures { (bs ns : List ℕ) → Sane map.now s bs ns → Stepped map.now s bs ns bs ns result }
 {
     let got = asmap_row_decoder::match_in(w, from, 8 * map.len());
-    let Code::Value(operand, next) = got else {
+    let Some((operand, next)) = got else {
         return Turn::Ends;
     };
     let length = asmap_program::match_length(operand);
@@ -234,7 +225,7 @@ fn step_default(map: &[u8], s: Spot, w: u64, from: usize) -> Turn
     ensures { (bs ns : List ℕ) → Sane map.now s bs ns → Stepped map.now s bs ns bs ns result }
 {
     let got = asmap_row_decoder::asn_in(w, from, 8 * map.len());
-    let Code::Value(number, next) = got else {
+    let Some((number, next)) = got else {
         return Turn::Ends;
     };
     Turn::Goes(Spot {
@@ -255,7 +246,7 @@ fn step_at(map: &[u8], s: Spot, bits: &mut [u8], numbers: &mut [u32]) -> Turn
 {
     let w = asmap_window::window(map, s.at);
     let got = asmap_row_decoder::type_in(w, s.at, 8 * map.len());
-    let Code::Value(opcode, from) = got else {
+    let Some((opcode, from)) = got else {
         return Turn::Ends;
     };
     let rest = asmap_row_decoder::operand_window(map, w, s.at, opcode, from);
@@ -285,8 +276,8 @@ fn step(map: &[u8], s: Spot, bits: &mut [u8], numbers: &mut [u32]) -> Turn
     step_bit(map, s, bits, numbers)
 }
 
-// Steps up to the next piece. All calls of `step` come through here, so that it is compiled once, into this loop, with the state in registers.
-pub fn next_piece(map: &[u8], from: Spot, bits: &mut [u8], numbers: &mut [u32]) -> Next
+// Steps up to the next piece: its prefix length and number, and where the listing stands then; none at the listing's end. All calls of `step` come through here, so that it is compiled once, into this loop, with the state in registers.
+pub fn next_piece(map: &[u8], from: Spot, bits: &mut [u8], numbers: &mut [u32]) -> Option<(u8, u32, Spot)>
     requires { (length map.now ≤ limit) × Sane map.now from bits.old numbers.old }
     ensures { Passed map.now from bits.old numbers.old bits.new numbers.new result }
 {
@@ -295,13 +286,13 @@ pub fn next_piece(map: &[u8], from: Spot, bits: &mut [u8], numbers: &mut [u32]) 
         let turn = step(map, s, bits, numbers);
         match turn {
             Turn::Gives(len, number, next) => {
-                return Next::Piece(len, number, next);
+                return Some((len, number, next));
             }
             Turn::Goes(next) => {
                 s = next;
             }
             Turn::Ends => {
-                return Next::Over;
+                return None;
             }
         }
     }

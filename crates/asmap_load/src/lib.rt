@@ -14,8 +14,8 @@ ghost use Rattle.asmap_load.specs.Promise.{WritesLoad};
 
 use asmap_bit_writer::BitWriter;
 use asmap_program::{DEFAULT, MATCH, RETURN};
-use asmap_records::Answer;
-use load_draws::{Generator, NO_LOAD, Seeded};
+use load_draws::Generator;
+use refusals::Refusal;
 
 // The most pairs of a load: each uses an address bit, and an address has 128.
 pub const MAX_PAIRS: usize = 128;
@@ -82,20 +82,18 @@ fn write_load(generator: Generator, pairs: usize, out: &mut [u8])
 }
 
 // Writes the load of so many pairs from a seed. Refusals 20 for a seed of 0 or more than 128 pairs, then 14; a refused call writes nothing.
-pub fn load(seed: u64, pairs: usize, out: &mut [u8]) -> Answer
+pub fn load(seed: u64, pairs: usize, out: &mut [u8]) -> Result<usize, Refusal>
     ensures hands { Hands (load_of seed pairs) out.old out.new result }
     ensures passes { WritesLoad seed pairs out.new result }
 {
-    let Seeded::Start(generator) = Generator::seeded(seed) else {
-        return Answer::Refused(NO_LOAD);
-    };
+    let generator = Generator::seeded(seed)?;
     if MAX_PAIRS < pairs {
-        return Answer::Refused(NO_LOAD);
+        return Err(Refusal::Load);
     }
     let bytes = (load_length(generator, pairs) + 7) / 8;
     if out.len() < bytes {
-        return Answer::Refused(14);
+        return Err(Refusal::OutputTooShort);
     }
     write_load(generator, pairs, out);
-    Answer::Wrote(bytes)
+    Ok(bytes)
 }

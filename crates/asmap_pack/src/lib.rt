@@ -10,18 +10,11 @@ ghost use Rattle.asmap_pack.specs.models.Size.{size_from, bits_in};
 
 use asmap_bit_writer::BitWriter;
 use asmap_program::MAX_MAP_BYTES;
-use asmap_records::Answer;
-
-// Where the records that were read end in the map, or the number of the first wrong one.
-#[derive(Clone, Copy)]
-pub enum Size {
-    Ends(usize),
-    Wrong(u8),
-}
+use refusals::{Fault, Refusal};
 
 // The record at byte `from`, whose instruction is to start at bit `at`: where it ends, or 15, 16, 1, in this order. The three
 // zeros are there where the record's first four bytes are the opcode's number.
-fn record_end(records: &[u8], from: usize, at: usize) -> Size
+fn record_end(records: &[u8], from: usize, at: usize) -> Result<usize, Refusal>
     requires { (from + 16 ≤ length records.now) × (at ≤ 134217728) }
     ensures { result ≡ size_from at (record_bits (drop from records.now) at) }
 {
@@ -29,43 +22,36 @@ fn record_end(records: &[u8], from: usize, at: usize) -> Size
     let operand = byte_numbers::number_at(records, from + 4);
     let len = asmap_encode::instruction_length(opcode, operand);
     if len == 0 {
-        return Size::Wrong(15);
+        return Err(Refusal::OutOfRange);
     }
     let end = at + len;
     if byte_numbers::number_at(records, from) != opcode {
-        return Size::Wrong(16);
+        return Err(Refusal::Record);
     }
     if byte_numbers::number_at(records, from + 8) as usize != at {
-        return Size::Wrong(16);
+        return Err(Refusal::Record);
     }
     if byte_numbers::number_at(records, from + 12) as usize != len {
-        return Size::Wrong(16);
+        return Err(Refusal::Record);
     }
     if 8 * MAX_MAP_BYTES < end {
-        return Size::Wrong(1);
+        return Err(Refusal::Map(Fault::MapTooLong));
     }
-    Size::Ends(end)
+    Ok(end)
 }
 
 // All records, from bit 0 on: where the last one ends, or the number of the first wrong one.
-fn records_end(records: &[u8]) -> Size
+fn records_end(records: &[u8]) -> Result<usize, Refusal>
     requires { length records.now % 16 ≡ 0 }
     ensures { result ≡ size_from 0 (records_bits (length records.now / 16) records.now 0) }
 {
     let mut at: usize = 0;
     let mut from: usize = 0;
     while from < records.len() {
-        match record_end(records, from, at) {
-            Size::Wrong(n) => {
-                return Size::Wrong(n);
-            }
-            Size::Ends(end) => {
-                at = end;
-            }
-        }
+        at = record_end(records, from, at)?;
         from += 16;
     }
-    Size::Ends(at)
+    Ok(at)
 }
 
 // The records' bits as bytes, the last padded with zeros. The records were found right and the output long enough.
@@ -90,21 +76,16 @@ fn write_records(records: &[u8], out: &mut [u8])
 }
 
 // Packs records. Refusals 16, 15, 1 and 14; a refused call writes nothing: all records are read before the first byte goes out.
-pub fn pack(records: &[u8], out: &mut [u8]) -> Answer
+pub fn pack(records: &[u8], out: &mut [u8]) -> Result<usize, Refusal>
     ensures { Hands (pack_of records.now) out.old out.new result }
 {
     if records.len() % 16 != 0 {
-        return Answer::Refused(16);
+        return Err(Refusal::Record);
     }
-    match records_end(records) {
-        Size::Wrong(reason) => Answer::Refused(reason),
-        Size::Ends(end) => {
-            let bytes = (end + 7) / 8;
-            if out.len() < bytes {
-                return Answer::Refused(14);
-            }
-            write_records(records, out);
-            Answer::Wrote(bytes)
-        }
+    let bytes = (records_end(records)? + 7) / 8;
+    if out.len() < bytes {
+        return Err(Refusal::OutputTooShort);
     }
+    write_records(records, out);
+    Ok(bytes)
 }

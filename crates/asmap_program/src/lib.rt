@@ -7,26 +7,19 @@ ghost use Rattle.asmap_program.specs.Map.{length_of, Width};
 ghost use Rattle.asmap_program.specs.Map as opcode;
 ghost use Rattle.asmap_program.specs.Widths.{is_width};
 
+use refusals::Fault;
+
 // A map has at most so many bytes (document 01, "What a call hands back", 1).
 pub const MAX_MAP_BYTES: usize = 16777216;
 
 // The address bits of the public calls that take no width.
 pub const ADDRESS_BITS: u8 = 128;
 
-// The numbers for a code that the map's end cuts, an opcode or an operand (document 02, CR 5). Every refusal for a cut code has its number from
-// here, and so has the kind of a walk that meets one.
-pub const CUT_OPCODE: u8 = 4;
-
-pub const CUT_OPERAND: u8 = 19;
-
 // Whether a call can be made at this width: 32 bits, as addresses of four bytes have, or 128.
 pub fn is_width(width: u32) -> bool
     ensures { result ≡ is_width width }
 {
-    if width == 32 {
-        return true;
-    }
-    width == 128
+    width == 32 || width == 128
 }
 
 // The opcodes (document 01, Codes).
@@ -70,20 +63,22 @@ pub struct Instruction {
 }
 
 // What the check remembers of the instruction before: a MATCH shorter than 8, a DEFAULT, or any other, a JUMP among them.
-#[derive(Clone, Copy)]
+#[derive(Clone, Copy, Debug, PartialEq, Eq)]
 pub enum Previous {
     Other,
     Short,
     Default,
 }
 
-// What the check answers: accepted, with the number of instructions and the greatest number of jumps open at once; or
-// refused, with document 01's number.
-#[derive(Clone, Copy)]
-pub enum Verdict {
-    Accepted(u32, u8),
-    Refused(u8),
+// A map that the check accepts: the number of its instructions, and the greatest number of jumps open at once.
+#[derive(Clone, Copy, Debug, PartialEq, Eq)]
+pub struct Accepted {
+    pub count: u32,
+    pub depth: u8,
 }
+
+// What the check answers: that it accepts, or what is wrong with the map.
+pub type Verdict = Result<Accepted, Fault>;
 
 // Where a walk stands: the place, the address bits used so far, the width, which is how many bits the address has, and the default. The
 // defined walk and the code that walks share it.
@@ -97,7 +92,7 @@ pub struct Walker {
 
 // How a walk ends: at a RETURN, at a MATCH that differs, or aborted, which it is in three ways: the map's end cuts the opcode to be read or its
 // operand, or an instruction needs more address bits than are left. Its number does not tell which: each abort has 0, and the default can be 0 too.
-#[derive(Clone, Copy)]
+#[derive(Clone, Copy, Debug, PartialEq, Eq)]
 pub enum Kind {
     Returned,
     Differed,

@@ -7,8 +7,9 @@ ghost use Rattle.std.specs.Prelude.{◌≡◌};
 ghost use Rattle.asmap_items.specs.Items.{bits_left};
 ghost use Rattle.asmap_reader.specs.Reader.{moved_to, read_by, step_at};
 
-use asmap_codes::Decoded;
+use asmap_codes::Code;
 use asmap_items::{Item, bits_left, decode_item, place_after};
+use refusals::Fault;
 
 // A reader: the map, and the index of its next bit, which may lie past the map's end.
 #[derive(Clone, Copy)]
@@ -20,14 +21,14 @@ pub struct BitReader<'a> {
 // What a read hands back: the bit or code, or document 01's number; and the reader moved on.
 #[derive(Clone, Copy)]
 pub struct Read<'a> {
-    pub got: Decoded,
+    pub got: Result<Code, Fault>,
     pub reader: BitReader<'a>,
 }
 
 // The same in plain numbers: what was read, the place after it, and how many bits are left there.
 #[derive(Clone, Copy)]
 pub struct Step {
-    pub got: Decoded,
+    pub got: Result<Code, Fault>,
     pub place: usize,
     pub left: usize,
 }

@@ -1,10 +1,3 @@
 // Unpack and pack, as definitions (document 01, Unpack and pack): records, what either call makes, hands back and leaves, and that
 // they undo each other. The calls themselves are `asmap_unpack::unpack` and `asmap_pack::pack`.
 #![tactic(auto)]
-
-// What unpack and pack hand back: how many bytes they wrote, or document 01's number.
-#[derive(Clone, Copy)]
-pub enum Answer {
-    Wrote(usize),
-    Refused(u8),
-}

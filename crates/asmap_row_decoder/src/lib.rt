@@ -31,13 +31,13 @@ fn first_bits(w: u64, size: u8) -> u32
 
 // A code's value and the bit after it, in a map of `end` bits. The window has zeros past the end, so one comparison, here, decides
 // whether the code was cut.
-fn coded(value: u32, next: usize, end: usize) -> Code
+fn coded(value: u32, next: usize, end: usize) -> Option<Code>
     ensures { result ≡ pick (leb next end) (Value value next) Cut }
 {
     if end < next {
-        return Code::Cut;
+        return None;
     }
-    Code::Value(value, next)
+    Some((value, next))
 }
 
 // Where a code's prefix ends: the value so far, the window and the number of bits read there, and the size that it stopped at.
@@ -83,7 +83,7 @@ fn read_prefix(w: u64, least: u32, sizes: &[u8]) -> Prefix
 }
 
 // The code of a row, size by size.
-fn decode_each(w: u64, at: usize, end: usize, least: u32, sizes: &[u8]) -> Code
+fn decode_each(w: u64, at: usize, end: usize, least: u32, sizes: &[u8]) -> Option<Code>
     requires { (at < 2 ^ 34) × (least + span sizes.now ≤ 2 ^ 31) × (0 < length sizes.now) × (length sizes.now ≤ 26) }
     ensures { result ≡ code_in sizes.now least at end w }
 {
@@ -107,7 +107,7 @@ fn starting_ones(w: u64, most: usize) -> usize
 
 // The code of a row whose sizes grow by one from `first` on, all at once: each one before the zero passes a size, and the sizes
 // passed have 2 to the size reached less 2 to the first values.
-fn decode_grown(w: u64, at: usize, end: usize, least: u32, first: u8, sizes: usize) -> Code
+fn decode_grown(w: u64, at: usize, end: usize, least: u32, first: u8, sizes: usize) -> Option<Code>
     requires { (at < 2 ^ 34) × (least + span (grown first sizes) ≤ 2 ^ 31) × (0 < sizes) × (sizes ≤ 26) }
     ensures { result ≡ code_in (grown first sizes) least at end w }
 {
@@ -120,7 +120,7 @@ fn decode_grown(w: u64, at: usize, end: usize, least: u32, first: u8, sizes: usi
 }
 
 // The decoder: the code of a row of sizes over a least value, at the window's first bit, which is bit `at` of a map of `end` bits.
-pub fn decode_bits(w: u64, at: usize, end: usize, least: u32, sizes: &[u8]) -> Code
+pub fn decode_bits(w: u64, at: usize, end: usize, least: u32, sizes: &[u8]) -> Option<Code>
     requires { (at < 2 ^ 34) × (least + span sizes.now ≤ 2 ^ 31) × (0 < length sizes.now) × (length sizes.now ≤ 26) × (slow sizes.now ≡ true) }
     ensures { result ≡ code_in sizes.now least at end w }
 {
@@ -137,7 +137,7 @@ pub fn decode_bits(w: u64, at: usize, end: usize, least: u32, sizes: &[u8]) -> C
 // has at most 57 bits, and a JUMP skips at most 2,147,483,632 more, so that a place is below 2 ^ 32.
 
 // An opcode.
-pub fn type_in(w: u64, at: usize, end: usize) -> Code
+pub fn type_in(w: u64, at: usize, end: usize) -> Option<Code>
     requires { at < 2 ^ 34 }
     ensures { result ≡ row_in type_row at end w }
 {
@@ -154,7 +154,7 @@ pub fn operand_window(map: &[u8], w: u64, pos: usize, opcode: u32, at: usize) ->
 }
 
 // An AS number.
-pub fn asn_in(w: u64, at: usize, end: usize) -> Code
+pub fn asn_in(w: u64, at: usize, end: usize) -> Option<Code>
     requires { at < 2 ^ 34 }
     ensures { result ≡ row_in asn_row at end w }
 {
@@ -162,7 +162,7 @@ pub fn asn_in(w: u64, at: usize, end: usize) -> Code
 }
 
 // A MATCH operand.
-pub fn match_in(w: u64, at: usize, end: usize) -> Code
+pub fn match_in(w: u64, at: usize, end: usize) -> Option<Code>
     requires { at < 2 ^ 34 }
     ensures { result ≡ row_in match_row at end w }
 {
@@ -170,7 +170,7 @@ pub fn match_in(w: u64, at: usize, end: usize) -> Code
 }
 
 // A JUMP operand.
-pub fn jump_in(w: u64, at: usize, end: usize) -> Code
+pub fn jump_in(w: u64, at: usize, end: usize) -> Option<Code>
     requires { at < 2 ^ 34 }
     ensures { result ≡ row_in jump_row at end w }
 {
@@ -178,7 +178,7 @@ pub fn jump_in(w: u64, at: usize, end: usize) -> Code
 }
 
 // The operand of an opcode, at the bit after it.
-pub fn operand_in(w: u64, opcode: u32, at: usize, end: usize) -> Code
+pub fn operand_in(w: u64, opcode: u32, at: usize, end: usize) -> Option<Code>
     requires { at < 2 ^ 34 }
     ensures { result ≡ row_in (operand_row opcode) at end w }
 {

@@ -11,9 +11,8 @@ ghost use Rattle.asmap_records.specs.Record.{record_of, records_of};
 ghost use Rattle.asmap_records.specs.Output.{Hands};
 ghost use Rattle.asmap_records.specs.Unpack.{unpack_of, unpack_at};
 
-use asmap_codes::DecodedInstruction;
-use asmap_program::{ADDRESS_BITS, Instruction, Verdict};
-use asmap_records::Answer;
+use asmap_program::{ADDRESS_BITS, Instruction};
+use refusals::Refusal;
 
 // An instruction's record. The opcode goes out as a number of four bytes: the upper three are the record's zeros.
 fn put_record(out: &mut [u8], at: usize, instruction: Instruction)
@@ -37,7 +36,7 @@ fn put_list(map: &[u8], count: usize, out: &mut [u8])
     let mut i: usize = 0;
     while i < count {
         let got = asmap_decode::decode_instruction(map, at);
-        let DecodedInstruction::Found(instruction) = got else {
+        let Ok(instruction) = got else {
             return;
         };
         put_record(out, 16 * i, instruction);
@@ -47,38 +46,33 @@ fn put_list(map: &[u8], count: usize, out: &mut [u8])
 }
 
 // Unpacks a map that the check accepts over a number of address bits. The calls below fix it.
-fn unpack_over(map: &[u8], bits: u8, out: &mut [u8]) -> Answer
+fn unpack_over(map: &[u8], bits: u8, out: &mut [u8]) -> Result<usize, Refusal>
     requires { bits ≤ 128 }
     ensures { Hands (unpack_of map.now bits) out.old out.new result }
 {
-    let verdict = asmap_check::check_over(map, bits);
-    match verdict {
-        Verdict::Refused(reason) => Answer::Refused(reason),
-        Verdict::Accepted(count, _) => {
-            let records = count as usize;
-            if out.len() / 16 < records {
-                return Answer::Refused(14);
-            }
-            let bytes = 16 * records;
-            put_list(map, records, out);
-            Answer::Wrote(bytes)
-        }
+    let accepted = asmap_check::check_over(map, bits)?;
+    let records = accepted.count as usize;
+    if out.len() / 16 < records {
+        return Err(Refusal::OutputTooShort);
     }
+    let bytes = 16 * records;
+    put_list(map, records, out);
+    Ok(bytes)
 }
 
 // Unpacks a map that the check accepts at 128 address bits. Refusals: the check's, 1 to 10 and 19, then 14; a refused call writes nothing.
-pub fn unpack(map: &[u8], out: &mut [u8]) -> Answer
+pub fn unpack(map: &[u8], out: &mut [u8]) -> Result<usize, Refusal>
     ensures { Hands (unpack_of map.now 128) out.old out.new result }
 {
     unpack_over(map, ADDRESS_BITS, out)
 }
 
 // The same at a width: 18 for one that is neither 32 nor 128, before the check.
-pub fn unpack_bits(map: &[u8], width: u32, out: &mut [u8]) -> Answer
+pub fn unpack_bits(map: &[u8], width: u32, out: &mut [u8]) -> Result<usize, Refusal>
     ensures { Hands (unpack_at map.now width) out.old out.new result }
 {
-    if asmap_program::is_width(width) {
-        return unpack_over(map, width as u8, out);
+    if !asmap_program::is_width(width) {
+        return Err(Refusal::Width);
     }
-    Answer::Refused(18)
+    unpack_over(map, width as u8, out)
 }

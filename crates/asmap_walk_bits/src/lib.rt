@@ -6,7 +6,6 @@ ghost use Rattle.asmap_program.specs.Map.{limit};
 ghost use Rattle.asmap_program.specs.Walk.{walk_start};
 ghost use Rattle.asmap_walk_bits.specs.Walk.{walk_of, summary};
 
-use asmap_codes::Code;
 use asmap_program::{Kind, Walker};
 
 // How a walk ended: its kind, its number, the instructions whose opcode and operand were read whole, and the address bits read.
@@ -62,12 +61,12 @@ pub fn walk_bits(map: &[u8], address: &[u8], width: u8) -> Ending
         let pos = walker.at;
         let w = asmap_window::window(map, pos);
         let first = asmap_row_decoder::type_in(w, pos, end);
-        let Code::Value(opcode, at) = first else {
+        let Some((opcode, at)) = first else {
             return abort(Kind::OpcodeCut, count, walker.used);
         };
         let rest = asmap_row_decoder::operand_window(map, w, pos, opcode, at);
         let second = asmap_row_decoder::operand_in(rest, opcode, at, end);
-        let Code::Value(operand, next) = second else {
+        let Some((operand, next)) = second else {
             return abort(Kind::OperandCut, count, walker.used);
         };
         count += 1;

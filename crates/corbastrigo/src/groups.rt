@@ -1,7 +1,7 @@
 // Groups, the occupied scan (document 02, CR 2) and pick (document 01, Groups and pick). In each call `has_map` 0 is without a map: groups then go by prefixes, those
 // of IPv4 in a number range to themselves (document 02, CR 7), and the map is not looked at. Any other number is with it. Two calls, which take no map, keep the old numbers of
 // prefixes: the group by its prefix and the pick by old prefixes.
-ghost use Rattle.std.specs.Prelude.{◌≡◌, ◌∷◌, []};
+ghost use Rattle.std.specs.Prelude.{◌≡◌, ◌∷◌, [], Ok, None};
 ghost use Rattle.peer_lists.specs.Candidates.{candidates_of};
 ghost use Rattle.group_lists.specs.Scan.{scan_of};
 ghost use Rattle.netgroup.specs.Group.{by_old_prefixes, numbering};
@@ -13,9 +13,6 @@ ghost use Rattle.answer_outcome.specs.Outcome.{Hands};
 ghost use Rattle.answer_groups.specs.Groups.{grouping_of, group_found, scan_made, totals_of, Picks};
 
 use answer_groups::{grouping_of, hand_group, hand_pick, hand_scan};
-use netgroup::GroupAnswer;
-use netgroup_pick::PickAnswer;
-use peer_lists::Refusal;
 
 // The group of a candidate of 20 bytes by its prefix, in the old numbering. Refusal 13.
 pub fn corbastrigo_prefix_group(candidate: &[u8], group: &mut u64) -> u8
@@ -27,7 +24,7 @@ pub fn corbastrigo_prefix_group(candidate: &[u8], group: &mut u64) -> u8
 // The group of a candidate, with a map or none. Refusals 13, then with a map the check's, 1 to 10 and 19.
 pub fn corbastrigo_netgroup(candidate: &[u8], has_map: u8, map: &[u8], group: &mut u64) -> u8
     ensures hands { Hands (group_found (netgroup_of (numbering (grouping_of has_map) map.now) candidate.now)) result (group.old ∷ []) (group.new ∷ []) }
-    ensures unaborted { result ≡ 0 → Whole (numbering (grouping_of has_map) map.now) candidate.now (GroupAnswer.Group group.new) }
+    ensures unaborted { result ≡ 0 → Whole (numbering (grouping_of has_map) map.now) candidate.now (Ok group.new) }
 {
     hand_group(
         netgroup::netgroup(candidate, grouping_of(has_map), map),
@@ -43,7 +40,7 @@ pub fn corbastrigo_netgroup_unchecked(
     group: &mut u64,
 ) -> u8
     ensures hands { Hands (group_found (netgroup_unchecked (numbering (grouping_of has_map) map.now) candidate.now)) result (group.old ∷ []) (group.new ∷ []) }
-    ensures unaborted { check_refusal (numbering (grouping_of has_map) map.now) ≡ Refusal.None → result ≡ 0 → Whole (numbering (grouping_of has_map) map.now) candidate.now (GroupAnswer.Group group.new) }
+    ensures unaborted { check_refusal (numbering (grouping_of has_map) map.now) ≡ None → result ≡ 0 → Whole (numbering (grouping_of has_map) map.now) candidate.now (Ok group.new) }
 {
     hand_group(
         netgroup::netgroup_unchecked(candidate, grouping_of(has_map), map),
@@ -85,8 +82,8 @@ pub fn corbastrigo_select_diverse(
     instructions: &mut u64,
 ) -> u8
     ensures picks { Picks (select_diverse (numbering (grouping_of has_map) map.now) candidates.now occupied.now max picks.old groups.old) result (total.old ∷ first.old ∷ examined.old ∷ instructions.old ∷ []) (total.new ∷ first.new ∷ examined.new ∷ instructions.new ∷ []) picks.new groups.new }
-    ensures demand3 { result ≡ 0 → Demand3 (numbering (grouping_of has_map) map.now) (candidates_of candidates.now) occupied.now max (PickAnswer.Picked (totals_of total.new first.new examined.new instructions.new)) picks.new groups.new }
-    ensures unaborted { result ≡ 0 → Unaborted (numbering (grouping_of has_map) map.now) (candidates_of candidates.now) (PickAnswer.Picked (totals_of total.new first.new examined.new instructions.new)) }
+    ensures demand3 { result ≡ 0 → Demand3 (numbering (grouping_of has_map) map.now) (candidates_of candidates.now) occupied.now max (Ok (totals_of total.new first.new examined.new instructions.new)) picks.new groups.new }
+    ensures unaborted { result ≡ 0 → Unaborted (numbering (grouping_of has_map) map.now) (candidates_of candidates.now) (Ok (totals_of total.new first.new examined.new instructions.new)) }
 {
     let grouping = grouping_of(has_map);
     let got = netgroup_pick::select_diverse(
@@ -110,8 +107,8 @@ pub fn corbastrigo_select_diverse_unchecked(
     instructions: &mut u64,
 ) -> u8
     ensures picks { Picks (select_unchecked (numbering (grouping_of has_map) map.now) candidates.now occupied.now max picks.old groups.old) result (total.old ∷ first.old ∷ examined.old ∷ instructions.old ∷ []) (total.new ∷ first.new ∷ examined.new ∷ instructions.new ∷ []) picks.new groups.new }
-    ensures demand3 { result ≡ 0 → Demand3 (numbering (grouping_of has_map) map.now) (candidates_of candidates.now) occupied.now max (PickAnswer.Picked (totals_of total.new first.new examined.new instructions.new)) picks.new groups.new }
-    ensures unaborted { check_refusal (numbering (grouping_of has_map) map.now) ≡ Refusal.None → result ≡ 0 → Unaborted (numbering (grouping_of has_map) map.now) (candidates_of candidates.now) (PickAnswer.Picked (totals_of total.new first.new examined.new instructions.new)) }
+    ensures demand3 { result ≡ 0 → Demand3 (numbering (grouping_of has_map) map.now) (candidates_of candidates.now) occupied.now max (Ok (totals_of total.new first.new examined.new instructions.new)) picks.new groups.new }
+    ensures unaborted { check_refusal (numbering (grouping_of has_map) map.now) ≡ None → result ≡ 0 → Unaborted (numbering (grouping_of has_map) map.now) (candidates_of candidates.now) (Ok (totals_of total.new first.new examined.new instructions.new)) }
 {
     let grouping = grouping_of(has_map);
     let got = netgroup_pick::select_diverse_unchecked(
@@ -133,7 +130,7 @@ pub fn corbastrigo_old_prefix_pick(
     instructions: &mut u64,
 ) -> u8
     ensures picks { Picks (old_prefix_pick candidates.now occupied.now max picks.old groups.old) result (total.old ∷ first.old ∷ examined.old ∷ instructions.old ∷ []) (total.new ∷ first.new ∷ examined.new ∷ instructions.new ∷ []) picks.new groups.new }
-    ensures demand3 { result ≡ 0 → Demand3 by_old_prefixes (candidates_of candidates.now) occupied.now max (PickAnswer.Picked (totals_of total.new first.new examined.new instructions.new)) picks.new groups.new }
+    ensures demand3 { result ≡ 0 → Demand3 by_old_prefixes (candidates_of candidates.now) occupied.now max (Ok (totals_of total.new first.new examined.new instructions.new)) picks.new groups.new }
 {
     let got = netgroup_pick::old_prefix_pick(candidates, occupied, max, picks, groups);
     hand_pick(got, total, first, examined, instructions)

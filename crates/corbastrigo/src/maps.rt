@@ -14,6 +14,7 @@ ghost use Rattle.answer_bytes.specs.Bytes.{bytes_needed, Writes, Finds};
 ghost use Rattle.answers.specs.Promise.{Demand3, CoreVerdict, CoreNumber};
 ghost use Rattle.refusals.specs.Numbers.{of_map};
 
+use refusals::Refusal;
 use answer_bytes::{hand_bytes, hand_needed};
 use answer_maps::{hand_stop, hand_verdict, hand_walk};
 
@@ -22,7 +23,7 @@ pub fn corbastrigo_sanity_check(map: &[u8], count: &mut u32, depth: &mut u8) -> 
     ensures hands { Hands (map_checked (of_map (check_of map.now 128))) result (count.old ∷ depth.old ∷ []) (count.new ∷ depth.new ∷ []) }
     ensures core { CoreVerdict map.now result }
 {
-    hand_verdict(asmap_check::sanity_check(map), count, depth)
+    hand_verdict(asmap_check::sanity_check(map).map_err(Refusal::Map), count, depth)
 }
 
 // Says where the check of a map stops, and why: the reason, 0 where the check accepts and else 2 to 10 or 19, and the place, the bit of the map at
@@ -30,7 +31,7 @@ pub fn corbastrigo_sanity_check(map: &[u8], count: &mut u32, depth: &mut u8) -> 
 pub fn corbastrigo_sanity_check_stop(map: &[u8], reason: &mut u8, place: &mut usize) -> u8
     ensures { Hands (check_stopped (of_map (stopped_of map.now 128))) result (reason.old ∷ place.old ∷ []) (reason.new ∷ place.new ∷ []) }
 {
-    hand_stop(asmap_check::sanity_check_stop(map), reason, place)
+    hand_stop(asmap_check::sanity_check_stop(map).map_err(Refusal::Map), reason, place)
 }
 
 // Walks any map by an address of 16 bytes. `kind` is 1 where the walk ended at a RETURN, 2 at a MATCH that differs. Where it aborted `kind`

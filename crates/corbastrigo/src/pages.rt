@@ -1,6 +1,6 @@
 // The spread of a list of candidates on a printed page (document 02, CR 4): a line of 25 bytes for each group, groups rising. `has_map` is that
 // of the group calls and of the pick.
-ghost use Rattle.std.specs.Prelude.{◌≡◌, ◌∷◌, []};
+ghost use Rattle.std.specs.Prelude.{◌≡◌, ◌∷◌, [], Ok, None};
 ghost use Rattle.netgroup.specs.Group.{by_old_prefixes, numbering};
 ghost use Rattle.netgroup.specs.Refusal.{check_refusal};
 ghost use Rattle.spread_page.specs.Page.{spread_page, spread_unchecked, old_prefix_page};
@@ -10,8 +10,6 @@ ghost use Rattle.answer_bytes.specs.Bytes.{Writes};
 
 use answer_bytes::hand_bytes;
 use answer_groups::grouping_of;
-use asmap_records::Answer;
-use peer_lists::Refusal;
 
 // The page, with a map or none. Refusals 13, 12, 13, with a map the check's, 1 to 10 and 19, then 14.
 pub fn corbastrigo_page(
@@ -22,8 +20,8 @@ pub fn corbastrigo_page(
     written: &mut usize,
 ) -> u8
     ensures writes { Writes (spread_page (numbering (grouping_of has_map) map.now) candidates.now) out.old out.new result (written.old ∷ []) (written.new ∷ []) }
-    ensures told { result ≡ 0 → Told (numbering (grouping_of has_map) map.now) candidates.now (Answer.Wrote written.new) }
-    ensures unaborted { result ≡ 0 → Unaborted (numbering (grouping_of has_map) map.now) candidates.now (Answer.Wrote written.new) }
+    ensures told { result ≡ 0 → Told (numbering (grouping_of has_map) map.now) candidates.now (Ok written.new) }
+    ensures unaborted { result ≡ 0 → Unaborted (numbering (grouping_of has_map) map.now) candidates.now (Ok written.new) }
 {
     let grouping = grouping_of(has_map);
     let got = spread_page::page(candidates, grouping, map, out);
@@ -39,8 +37,8 @@ pub fn corbastrigo_page_unchecked(
     written: &mut usize,
 ) -> u8
     ensures writes { Writes (spread_unchecked (numbering (grouping_of has_map) map.now) candidates.now) out.old out.new result (written.old ∷ []) (written.new ∷ []) }
-    ensures told { result ≡ 0 → Told (numbering (grouping_of has_map) map.now) candidates.now (Answer.Wrote written.new) }
-    ensures unaborted { check_refusal (numbering (grouping_of has_map) map.now) ≡ Refusal.None → result ≡ 0 → Unaborted (numbering (grouping_of has_map) map.now) candidates.now (Answer.Wrote written.new) }
+    ensures told { result ≡ 0 → Told (numbering (grouping_of has_map) map.now) candidates.now (Ok written.new) }
+    ensures unaborted { check_refusal (numbering (grouping_of has_map) map.now) ≡ None → result ≡ 0 → Unaborted (numbering (grouping_of has_map) map.now) candidates.now (Ok written.new) }
 {
     let grouping = grouping_of(has_map);
     let got = spread_page::page_unchecked(candidates, grouping, map, out);
@@ -50,7 +48,7 @@ pub fn corbastrigo_page_unchecked(
 // The page without a map in the old numbering of prefixes (document 02, CR 7). Refusals 13, 12, 13, 14.
 pub fn corbastrigo_old_prefix_page(candidates: &[u8], out: &mut [u8], written: &mut usize) -> u8
     ensures writes { Writes (old_prefix_page candidates.now) out.old out.new result (written.old ∷ []) (written.new ∷ []) }
-    ensures told { result ≡ 0 → Told by_old_prefixes candidates.now (Answer.Wrote written.new) }
+    ensures told { result ≡ 0 → Told by_old_prefixes candidates.now (Ok written.new) }
 {
     let got = spread_page::old_prefix_page(candidates, out);
     hand_bytes(got, written)

@@ -1,5 +1,5 @@
 // The exports of `corbastrigo: groups` for C: each says again what the call of the library says, and calls it.
-ghost use Rattle.std.specs.Prelude.{◌≡◌, ◌∷◌, []};
+ghost use Rattle.std.specs.Prelude.{◌≡◌, ◌∷◌, [], Ok, None};
 ghost use Rattle.peer_lists.specs.Candidates.{candidates_of};
 ghost use Rattle.group_lists.specs.Scan.{scan_of};
 ghost use Rattle.netgroup.specs.Group.{by_old_prefixes, numbering};
@@ -10,9 +10,6 @@ ghost use Rattle.netgroup_pick.specs.Demand.{Demand3, Unaborted};
 ghost use Rattle.answer_outcome.specs.Outcome.{Hands};
 ghost use Rattle.answer_groups.specs.Groups.{grouping_of, group_found, scan_made, totals_of, Picks};
 
-use netgroup::GroupAnswer;
-use netgroup_pick::PickAnswer;
-use peer_lists::Refusal;
 
 #[unsafe(no_mangle)]
 pub extern "C" fn corbastrigo_prefix_group(candidate: &[u8], group: &mut u64) -> u8
@@ -29,7 +26,7 @@ pub extern "C" fn corbastrigo_netgroup(
     group: &mut u64,
 ) -> u8
     ensures hands { Hands (group_found (netgroup_of (numbering (grouping_of has_map) map.now) candidate.now)) result (group.old ∷ []) (group.new ∷ []) }
-    ensures unaborted { result ≡ 0 → Whole (numbering (grouping_of has_map) map.now) candidate.now (GroupAnswer.Group group.new) }
+    ensures unaborted { result ≡ 0 → Whole (numbering (grouping_of has_map) map.now) candidate.now (Ok group.new) }
 {
     corbastrigo::groups::corbastrigo_netgroup(candidate, has_map, map, group)
 }
@@ -42,7 +39,7 @@ pub extern "C" fn corbastrigo_netgroup_unchecked(
     group: &mut u64,
 ) -> u8
     ensures hands { Hands (group_found (netgroup_unchecked (numbering (grouping_of has_map) map.now) candidate.now)) result (group.old ∷ []) (group.new ∷ []) }
-    ensures unaborted { check_refusal (numbering (grouping_of has_map) map.now) ≡ Refusal.None → result ≡ 0 → Whole (numbering (grouping_of has_map) map.now) candidate.now (GroupAnswer.Group group.new) }
+    ensures unaborted { check_refusal (numbering (grouping_of has_map) map.now) ≡ None → result ≡ 0 → Whole (numbering (grouping_of has_map) map.now) candidate.now (Ok group.new) }
 {
     corbastrigo::groups::corbastrigo_netgroup_unchecked(candidate, has_map, map, group)
 }
@@ -75,8 +72,8 @@ pub extern "C" fn corbastrigo_select_diverse(
     instructions: &mut u64,
 ) -> u8
     ensures picks { Picks (select_diverse (numbering (grouping_of has_map) map.now) candidates.now occupied.now max picks.old groups.old) result (total.old ∷ first.old ∷ examined.old ∷ instructions.old ∷ []) (total.new ∷ first.new ∷ examined.new ∷ instructions.new ∷ []) picks.new groups.new }
-    ensures demand3 { result ≡ 0 → Demand3 (numbering (grouping_of has_map) map.now) (candidates_of candidates.now) occupied.now max (PickAnswer.Picked (totals_of total.new first.new examined.new instructions.new)) picks.new groups.new }
-    ensures unaborted { result ≡ 0 → Unaborted (numbering (grouping_of has_map) map.now) (candidates_of candidates.now) (PickAnswer.Picked (totals_of total.new first.new examined.new instructions.new)) }
+    ensures demand3 { result ≡ 0 → Demand3 (numbering (grouping_of has_map) map.now) (candidates_of candidates.now) occupied.now max (Ok (totals_of total.new first.new examined.new instructions.new)) picks.new groups.new }
+    ensures unaborted { result ≡ 0 → Unaborted (numbering (grouping_of has_map) map.now) (candidates_of candidates.now) (Ok (totals_of total.new first.new examined.new instructions.new)) }
 {
     corbastrigo::groups::corbastrigo_select_diverse(
         candidates,
@@ -108,8 +105,8 @@ pub extern "C" fn corbastrigo_select_diverse_unchecked(
     instructions: &mut u64,
 ) -> u8
     ensures picks { Picks (select_unchecked (numbering (grouping_of has_map) map.now) candidates.now occupied.now max picks.old groups.old) result (total.old ∷ first.old ∷ examined.old ∷ instructions.old ∷ []) (total.new ∷ first.new ∷ examined.new ∷ instructions.new ∷ []) picks.new groups.new }
-    ensures demand3 { result ≡ 0 → Demand3 (numbering (grouping_of has_map) map.now) (candidates_of candidates.now) occupied.now max (PickAnswer.Picked (totals_of total.new first.new examined.new instructions.new)) picks.new groups.new }
-    ensures unaborted { check_refusal (numbering (grouping_of has_map) map.now) ≡ Refusal.None → result ≡ 0 → Unaborted (numbering (grouping_of has_map) map.now) (candidates_of candidates.now) (PickAnswer.Picked (totals_of total.new first.new examined.new instructions.new)) }
+    ensures demand3 { result ≡ 0 → Demand3 (numbering (grouping_of has_map) map.now) (candidates_of candidates.now) occupied.now max (Ok (totals_of total.new first.new examined.new instructions.new)) picks.new groups.new }
+    ensures unaborted { check_refusal (numbering (grouping_of has_map) map.now) ≡ None → result ≡ 0 → Unaborted (numbering (grouping_of has_map) map.now) (candidates_of candidates.now) (Ok (totals_of total.new first.new examined.new instructions.new)) }
 {
     corbastrigo::groups::corbastrigo_select_diverse_unchecked(
         candidates,
@@ -139,7 +136,7 @@ pub extern "C" fn corbastrigo_old_prefix_pick(
     instructions: &mut u64,
 ) -> u8
     ensures picks { Picks (old_prefix_pick candidates.now occupied.now max picks.old groups.old) result (total.old ∷ first.old ∷ examined.old ∷ instructions.old ∷ []) (total.new ∷ first.new ∷ examined.new ∷ instructions.new ∷ []) picks.new groups.new }
-    ensures demand3 { result ≡ 0 → Demand3 by_old_prefixes (candidates_of candidates.now) occupied.now max (PickAnswer.Picked (totals_of total.new first.new examined.new instructions.new)) picks.new groups.new }
+    ensures demand3 { result ≡ 0 → Demand3 by_old_prefixes (candidates_of candidates.now) occupied.now max (Ok (totals_of total.new first.new examined.new instructions.new)) picks.new groups.new }
 {
     corbastrigo::groups::corbastrigo_old_prefix_pick(
         candidates,

@@ -1,5 +1,5 @@
 // The exports of `corbastrigo: pages` for C: each says again what the call of the library says, and calls it.
-ghost use Rattle.std.specs.Prelude.{◌≡◌, ◌∷◌, []};
+ghost use Rattle.std.specs.Prelude.{◌≡◌, ◌∷◌, [], Ok, None};
 ghost use Rattle.netgroup.specs.Group.{by_old_prefixes, numbering};
 ghost use Rattle.netgroup.specs.Refusal.{check_refusal};
 ghost use Rattle.spread_page.specs.Page.{spread_page, spread_unchecked, old_prefix_page};
@@ -7,8 +7,6 @@ ghost use Rattle.spread_page.specs.Promise.{Told, Unaborted};
 ghost use Rattle.answer_groups.specs.Groups.{grouping_of};
 ghost use Rattle.answer_bytes.specs.Bytes.{Writes};
 
-use asmap_records::Answer;
-use peer_lists::Refusal;
 
 #[unsafe(no_mangle)]
 pub extern "C" fn corbastrigo_page(
@@ -19,8 +17,8 @@ pub extern "C" fn corbastrigo_page(
     written: &mut usize,
 ) -> u8
     ensures writes { Writes (spread_page (numbering (grouping_of has_map) map.now) candidates.now) out.old out.new result (written.old ∷ []) (written.new ∷ []) }
-    ensures told { result ≡ 0 → Told (numbering (grouping_of has_map) map.now) candidates.now (Answer.Wrote written.new) }
-    ensures unaborted { result ≡ 0 → Unaborted (numbering (grouping_of has_map) map.now) candidates.now (Answer.Wrote written.new) }
+    ensures told { result ≡ 0 → Told (numbering (grouping_of has_map) map.now) candidates.now (Ok written.new) }
+    ensures unaborted { result ≡ 0 → Unaborted (numbering (grouping_of has_map) map.now) candidates.now (Ok written.new) }
 {
     corbastrigo::pages::corbastrigo_page(candidates, has_map, map, out, written)
 }
@@ -34,8 +32,8 @@ pub extern "C" fn corbastrigo_page_unchecked(
     written: &mut usize,
 ) -> u8
     ensures writes { Writes (spread_unchecked (numbering (grouping_of has_map) map.now) candidates.now) out.old out.new result (written.old ∷ []) (written.new ∷ []) }
-    ensures told { result ≡ 0 → Told (numbering (grouping_of has_map) map.now) candidates.now (Answer.Wrote written.new) }
-    ensures unaborted { check_refusal (numbering (grouping_of has_map) map.now) ≡ Refusal.None → result ≡ 0 → Unaborted (numbering (grouping_of has_map) map.now) candidates.now (Answer.Wrote written.new) }
+    ensures told { result ≡ 0 → Told (numbering (grouping_of has_map) map.now) candidates.now (Ok written.new) }
+    ensures unaborted { check_refusal (numbering (grouping_of has_map) map.now) ≡ None → result ≡ 0 → Unaborted (numbering (grouping_of has_map) map.now) candidates.now (Ok written.new) }
 {
     corbastrigo::pages::corbastrigo_page_unchecked(candidates, has_map, map, out, written)
 }
@@ -47,7 +45,7 @@ pub extern "C" fn corbastrigo_old_prefix_page(
     written: &mut usize,
 ) -> u8
     ensures writes { Writes (old_prefix_page candidates.now) out.old out.new result (written.old ∷ []) (written.new ∷ []) }
-    ensures told { result ≡ 0 → Told by_old_prefixes candidates.now (Answer.Wrote written.new) }
+    ensures told { result ≡ 0 → Told by_old_prefixes candidates.now (Ok written.new) }
 {
     corbastrigo::pages::corbastrigo_old_prefix_page(candidates, out, written)
 }

@@ -11,7 +11,7 @@ ghost use Rattle.group_lists.specs.Groups.{has};
 ghost use Rattle.free_groups.specs.Free.{free};
 ghost use Rattle.free_groups.specs.models.Marks.{Put, Linked};
 
-use group_lists::{Scan, contains};
+use group_lists::contains;
 
 // So many links are followed at most; what is left is scanned. Marks shared by more groups are rare unless somebody chose the groups so,
 // and then a scan costs less than following the links: it reads groups one behind the other.
@@ -109,9 +109,8 @@ fn is_occupied(group: u64, occupied: &[u64]) -> bool
     ensures { result ≡ has group occupied.now }
 {
     match group_lists::scan_occupied(group, occupied) {
-        Scan::Hit(_, _) => true,
-        Scan::Missed(_) => false,
-        Scan::Refused(_) => false,
+        Ok(scan) => scan.hit.is_some(),
+        Err(_) => false,
     }
 }
 

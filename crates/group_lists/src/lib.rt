@@ -7,14 +7,13 @@ ghost use Rattle.group_lists.specs.Groups.{has};
 ghost use Rattle.group_lists.specs.Scan.{in_front, scan_of, Unread};
 
 use peer_lists::MAX_CANDIDATES;
+use refusals::Refusal;
 
-// What the occupied scan came to: the first hit's place, from 0, and how many groups were read; no hit, and how many were read; or a
-// refusal, with its number.
-#[derive(Clone, Copy)]
-pub enum Scan {
-    Hit(usize, usize),
-    Missed(usize),
-    Refused(u8),
+// What the occupied scan came to: the first hit's place, from 0, or none; and how many groups were read.
+#[derive(Clone, Copy, Debug, PartialEq, Eq)]
+pub struct Scan {
+    pub hit: Option<usize>,
+    pub read: usize,
 }
 
 // How many of two groups, from a place on, stand in front of the first that is a given one: both where neither is.
@@ -96,16 +95,22 @@ pub fn contains(groups: &[u64], group: u64) -> bool
 // The occupied scan: the first hit's place, from 0, or none, and how many groups were read: that place plus one, or all. Of a group
 // that stands there twice the first place counts. Refusal 12 for over 4,096 groups.
 #[tactic(auto, unfolding(crate::specs::Scan::Unread))]
-pub fn scan_occupied(group: u64, occupied: &[u64]) -> Scan
+pub fn scan_occupied(group: u64, occupied: &[u64]) -> Result<Scan, Refusal>
     ensures value { result ≡ scan_of group occupied.now }
     ensures unread { Unread group occupied.now result }
 {
     if occupied.len() > MAX_CANDIDATES {
-        return Scan::Refused(12);
+        return Err(Refusal::TooMany);
     }
     let place = place_of(occupied, group);
     if place < occupied.len() {
-        return Scan::Hit(place, place + 1);
+        return Ok(Scan {
+            hit: Some(place),
+            read: place + 1,
+        });
     }
-    Scan::Missed(place)
+    Ok(Scan {
+        hit: None,
+        read: place,
+    })
 }

@@ -5,28 +5,13 @@
 ghost use Rattle.std.specs.Prelude.{◌≡◌, ◌≢◌, ℕ};
 ghost use Rattle.load_draws.specs.Draw.{default_seed, next, seeded_by, drawn_after};
 
-// The number for a load that cannot be made: a seed of 0, or too many pairs.
-pub const NO_LOAD: u8 = 20;
+use refusals::Refusal;
 
 // Where the draws stand: the seed, and after a draw what was drawn (document 02's s). From 0 every draw would be 0, so no seed is 0, and
 // then no draw is.
-#[derive(Clone, Copy)]
+#[derive(Clone, Copy, Debug, PartialEq, Eq)]
 pub struct Generator {
     pub state: u64,
-}
-
-// What a seeded start comes to: a generator, or the refusal's number.
-#[derive(Clone, Copy)]
-pub enum Seeded {
-    Start(Generator),
-    Refused(u8),
-}
-
-// What a draw from a plain number comes to: the number drawn, or the refusal's number.
-#[derive(Clone, Copy)]
-pub enum Drawn {
-    Number(u64),
-    Refused(u8),
 }
 
 impl Generator {
@@ -44,13 +29,13 @@ impl Generator {
 
     // The start from a seed. Refusal 20 for 0.
     #[tactic(auto, unfolding(crate::specs::Draw::seeded_by))]
-    pub fn seeded(seed: u64) -> Seeded
+    pub fn seeded(seed: u64) -> Result<Generator, Refusal>
         ensures { result ≡ seeded_by seed }
     {
         if seed == 0 {
-            return Seeded::Refused(NO_LOAD);
+            return Err(Refusal::Load);
         }
-        Seeded::Start(Generator { state: seed })
+        Ok(Generator { state: seed })
     }
 
     // The next draw, which is the state of the generator that comes back. A shift upward drops what leaves the 64 bits, which is the
@@ -69,15 +54,11 @@ impl Generator {
 
 // The draw after s, for callers who hold the seed, and then what was drawn, as a plain number: the start seeded with s, and its next draw. Refusal
 // 20 for 0, which no draw is.
-pub fn next_draw(s: u64) -> Drawn
+pub fn next_draw(s: u64) -> Result<u64, Refusal>
     ensures value { result ≡ drawn_after s }
-    ensures some { (n : ℕ) → result ≡ Drawn.Number n → n ≢ 0 }
+    ensures some { (n : ℕ) → result ≡ Ok n → n ≢ 0 }
 {
-    match Generator::seeded(s) {
-        Seeded::Start(generator) => {
-            let drawn = generator.next();
-            Drawn::Number(drawn.state)
-        }
-        Seeded::Refused(reason) => Drawn::Refused(reason),
-    }
+    let generator = Generator::seeded(s)?;
+    let drawn = generator.next();
+    Ok(drawn.state)
 }

@@ -2,29 +2,13 @@
 #![tactic(auto)]
 
 ghost use Rattle.std.specs.Prelude.{◌≡◌, true, length};
-ghost use Rattle.netaddr.specs.Answer.{filtered_as, relay_as};
 ghost use Rattle.netaddr.specs.Filter.{filter_of};
 ghost use Rattle.netaddr.specs.Relay.{length_fits, outside_cjdns, skips, relay_of};
 
 use netaddr_ipv6::is_cjdns_ip;
 use netaddr_ranges::ipv4_unroutable;
 use netaddr_unroutable::{ip_unroutable, octets4, octets16};
-
-// What the filter says of an address, or document 01's number.
-#[derive(Clone, Copy)]
-pub enum Filtered {
-    Routable,
-    Unroutable,
-    Refused(u8),
-}
-
-// Whether an entry goes on to other peers, or document 01's number.
-#[derive(Clone, Copy)]
-pub enum Relay {
-    Passes,
-    Skips,
-    Refused(u8),
-}
+use refusals::Refusal;
 
 // Network ids of BIP155.
 pub const IPV4: u8 = 1;
@@ -40,16 +24,13 @@ pub const I2P: u8 = 5;
 pub const CJDNS: u8 = 6;
 
 // Whether an address of 16 bytes, IPv4 in its mapped form, is unroutable. Refuses any other length with 11; nothing is asked of the caller.
-pub fn clearnet_unroutable(address: &[u8]) -> Filtered
-    ensures { filtered_as result ≡ filter_of address.now }
+pub fn clearnet_unroutable(address: &[u8]) -> Result<bool, Refusal>
+    ensures { result ≡ filter_of address.now }
 {
     if address.len() != 16 {
-        return Filtered::Refused(11);
+        return Err(Refusal::AddressLength);
     }
-    if ip_unroutable(address) {
-        return Filtered::Unroutable;
-    }
-    Filtered::Routable
+    Ok(ip_unroutable(address))
 }
 
 // The BIP155 network id has addresses of this many bytes.
@@ -106,14 +87,11 @@ fn skip_relay(id: u8, address: &[u8], port: u16) -> bool
 
 // Whether an entry of an addrv2 message is not sent on: its BIP155 network id, address bytes and port. Refuses a length that the id does
 // not have with 17; nothing is asked of the caller.
-pub fn addrv2_skip_relay(id: u8, address: &[u8], port: u16) -> Relay
-    ensures { relay_as result ≡ relay_of id address.now port }
+pub fn addrv2_skip_relay(id: u8, address: &[u8], port: u16) -> Result<bool, Refusal>
+    ensures { result ≡ relay_of id address.now port }
 {
     if !length_fits(id, address.len()) {
-        return Relay::Refused(17);
+        return Err(Refusal::RelayLength);
     }
-    if skip_relay(id, address, port) {
-        return Relay::Skips;
-    }
-    Relay::Passes
+    Ok(skip_relay(id, address, port))
 }

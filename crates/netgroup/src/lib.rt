@@ -1,7 +1,7 @@
 // The group of a peer (document 01, Groups and pick; document 02, CR 7): one candidate, and a map or none.
 #![tactic(auto)]
 
-ghost use Rattle.std.specs.Prelude.{◌≡◌, ◌+◌, ◌*◌, ◌≤◌, ◌<◌, cond, not, ◌&&◌, ◌||◌, eqb, length};
+ghost use Rattle.std.specs.Prelude.{◌≡◌, ◌+◌, ◌*◌, ◌≤◌, ◌<◌, cond, not, ◌&&◌, ◌||◌, eqb, length, None};
 ghost use Rattle.candidate_bytes.specs.Candidate.{family, mapped};
 ghost use Rattle.asmap_program.specs.Map.{limit};
 ghost use Rattle.netgroup.specs.Group.{numbering, prefix4, prefix6, walk_for, grouped_of};
@@ -9,9 +9,8 @@ ghost use Rattle.netgroup.specs.models.Which.{is_map, is_old, by_numbers};
 ghost use Rattle.netgroup.specs.Refusal.{limit_refusal, check_refusal};
 ghost use Rattle.netgroup.specs.Netgroup.{prefix_group_call, netgroup_of, netgroup_unchecked, Whole};
 
-use asmap_program::{MAX_MAP_BYTES, Verdict};
-use asmap_walk::Interpreted;
-use peer_lists::Refusal;
+use asmap_program::MAX_MAP_BYTES;
+use refusals::{Fault, Refusal};
 
 // What numbers the groups: the prefixes of the addresses, or the map that is given beside. `OldPrefixes` are the prefixes as document 01
 // numbers them, for callers who keep such groups. Without `Map` the map is not looked at and may have any length.
@@ -30,13 +29,6 @@ const IPV4_GROUPS: u64 = 4294967296;
 pub struct Grouped {
     pub group: u64,
     pub count: u32,
-}
-
-// What a group call hands back.
-#[derive(Clone, Copy)]
-pub enum GroupAnswer {
-    Group(u64),
-    Refused(u8),
 }
 
 // A byte as a number, so that a product with it fits.
@@ -126,7 +118,7 @@ fn walked_group(candidate: &[u8], map: &[u8]) -> Grouped
     ensures { result ≡ record { group = (walk_for map.now candidate.now).number; count = length (walk_for map.now candidate.now).read } }
 {
     let walked = asmap_walk::interpret(map, &candidate[2..18]);
-    let Interpreted::Ended(ending) = walked else {
+    let Ok(ending) = walked else {
         // never: the walk refuses only another length, and a map over the limit
         return Grouped { group: 0, count: 0 };
     };
@@ -138,7 +130,7 @@ fn walked_group(candidate: &[u8], map: &[u8]) -> Grouped
 
 // The group of a candidate, for callers who have seen to the refusals: the calls below, and the pick.
 pub fn group_of(candidate: &[u8], grouping: Grouping, map: &[u8]) -> Grouped
-    requires { (length candidate.now ≡ 20) × (limit_refusal (numbering grouping map.now) ≡ Refusal.None) }
+    requires { (length candidate.now ≡ 20) × (limit_refusal (numbering grouping map.now) ≡ None) }
     ensures { result ≡ grouped_of (numbering grouping map.now) candidate.now }
 {
     if is_map(grouping) {
@@ -151,70 +143,67 @@ pub fn group_of(candidate: &[u8], grouping: Grouping, map: &[u8]) -> Grouped
 }
 
 // Why a map that is taken as it is is refused: 1 over the limit, as the walk refuses it.
-pub fn limit_refusal(grouping: Grouping, map: &[u8]) -> Refusal
+pub fn limit_refusal(grouping: Grouping, map: &[u8]) -> Option<Refusal>
     ensures { result ≡ limit_refusal (numbering grouping map.now) }
 {
     if !is_map(grouping) {
-        return Refusal::None;
+        return None;
     }
     if MAX_MAP_BYTES < map.len() {
-        return Refusal::Number(1);
+        return Some(Refusal::Map(Fault::MapTooLong));
     }
-    Refusal::None
+    None
 }
 
 // Why the check refuses the map of a call: 1 to 10 or 19. It reads the whole map.
-pub fn check_refusal(grouping: Grouping, map: &[u8]) -> Refusal
+pub fn check_refusal(grouping: Grouping, map: &[u8]) -> Option<Refusal>
     ensures { result ≡ check_refusal (numbering grouping map.now) }
 {
     if !is_map(grouping) {
-        return Refusal::None;
+        return None;
     }
-    let verdict = asmap_check::sanity_check(map);
-    match verdict {
-        Verdict::Accepted(_, _) => Refusal::None,
-        Verdict::Refused(number) => Refusal::Number(number),
+    match asmap_check::sanity_check(map) {
+        Ok(_) => None,
+        Err(fault) => Some(Refusal::Map(fault)),
     }
 }
 
 // The group of one candidate without a map, in the old numbering. Refusal 13.
-pub fn prefix_group(candidate: &[u8]) -> GroupAnswer
+pub fn prefix_group(candidate: &[u8]) -> Result<u64, Refusal>
     ensures { result ≡ prefix_group_call candidate.now }
 {
     if !candidate_bytes::is_candidate(candidate) {
-        return GroupAnswer::Refused(13);
+        return Err(Refusal::Candidate);
     }
-    GroupAnswer::Group(prefix_number(candidate, true))
+    Ok(prefix_number(candidate, true))
 }
 
 // The group of one candidate over a map taken as it is, for callers who checked it when they loaded it. Refusals 13, 1.
-pub fn netgroup_unchecked(candidate: &[u8], grouping: Grouping, map: &[u8]) -> GroupAnswer
+pub fn netgroup_unchecked(candidate: &[u8], grouping: Grouping, map: &[u8]) -> Result<u64, Refusal>
     ensures value { result ≡ netgroup_unchecked (numbering grouping map.now) candidate.now }
-    ensures unaborted { check_refusal (numbering grouping map.now) ≡ Refusal.None → Whole (numbering grouping map.now) candidate.now result }
+    ensures unaborted { check_refusal (numbering grouping map.now) ≡ None → Whole (numbering grouping map.now) candidate.now result }
 {
     if !candidate_bytes::is_candidate(candidate) {
-        return GroupAnswer::Refused(13);
+        return Err(Refusal::Candidate);
     }
-    let limited = limit_refusal(grouping, map);
-    if let Refusal::Number(number) = limited {
-        return GroupAnswer::Refused(number);
+    if let Some(refusal) = limit_refusal(grouping, map) {
+        return Err(refusal);
     }
     let grouped = group_of(candidate, grouping, map);
-    GroupAnswer::Group(grouped.group)
+    Ok(grouped.group)
 }
 
 // The group of one candidate, with a map or none. Refusals 13, then with a map the check's, 1 to 10 and 19.
-pub fn netgroup(candidate: &[u8], grouping: Grouping, map: &[u8]) -> GroupAnswer
+pub fn netgroup(candidate: &[u8], grouping: Grouping, map: &[u8]) -> Result<u64, Refusal>
     ensures value { result ≡ netgroup_of (numbering grouping map.now) candidate.now }
     ensures unaborted { Whole (numbering grouping map.now) candidate.now result }
 {
     if !candidate_bytes::is_candidate(candidate) {
-        return GroupAnswer::Refused(13);
+        return Err(Refusal::Candidate);
     }
-    let checked = check_refusal(grouping, map);
-    if let Refusal::Number(number) = checked {
-        return GroupAnswer::Refused(number);
+    if let Some(refusal) = check_refusal(grouping, map) {
+        return Err(refusal);
     }
     let grouped = group_of(candidate, grouping, map);
-    GroupAnswer::Group(grouped.group)
+    Ok(grouped.group)
 }

@@ -1,7 +1,7 @@
 // The pick of peers that are spread over groups (document 01, Groups and pick).
 #![tactic(auto)]
 
-ghost use Rattle.std.specs.Prelude.{◌≡◌, min};
+ghost use Rattle.std.specs.Prelude.{◌≡◌, min, None};
 ghost use Rattle.peer_lists.specs.Candidates.{candidates_of};
 ghost use Rattle.netgroup.specs.Group.{by_old_prefixes, numbering};
 ghost use Rattle.netgroup.specs.Refusal.{limit_refusal, check_refusal};
@@ -10,7 +10,8 @@ ghost use Rattle.netgroup_pick.specs.Pick.{handed, select_diverse, select_unchec
 ghost use Rattle.netgroup_pick.specs.Demand.{Demand3, Unaborted};
 
 use netgroup::Grouping;
-use peer_lists::{Refusal, list_refusal};
+use peer_lists::list_refusal;
+use refusals::Refusal;
 
 // What a pick came to: how many picks there are, how many of them the first pass took, how many candidates it examined, and the
 // instructions of their walks.
@@ -22,13 +23,6 @@ pub struct Totals {
     pub instructions: u64,
 }
 
-// What a pick hands back.
-#[derive(Clone, Copy)]
-pub enum PickAnswer {
-    Picked(Totals),
-    Refused(u8),
-}
-
 fn smaller(a: usize, b: usize) -> usize
     ensures { result ≡ min a b }
 {
@@ -36,17 +30,17 @@ fn smaller(a: usize, b: usize) -> usize
 }
 
 // Why the outputs are refused: 14 where one has fewer than min(max, candidates) places.
-fn room_refusal(count: usize, max: usize, picks: &[u16], groups: &[u64]) -> Refusal
+fn room_refusal(count: usize, max: usize, picks: &[u16], groups: &[u64]) -> Option<Refusal>
     ensures { result ≡ room_refusal count max picks.now groups.now }
 {
     let need = smaller(max, count);
     if picks.len() < need {
-        return Refusal::Number(14);
+        return Some(Refusal::OutputTooShort);
     }
     if groups.len() < need {
-        return Refusal::Number(14);
+        return Some(Refusal::OutputTooShort);
     }
-    Refusal::None
+    None
 }
 
 // Why a pick over a map taken as it is is refused: the list, then the map's length, then the outputs.
@@ -58,16 +52,14 @@ fn pick_refusal(
     map: &[u8],
     picks: &[u16],
     groups: &[u64],
-) -> Refusal
+) -> Option<Refusal>
     ensures { result ≡ pick_refusal (limit_refusal (numbering grouping map.now)) candidates.now occupied.now max picks.now groups.now }
 {
-    let listed = list_refusal(candidates, occupied);
-    if let Refusal::Number(number) = listed {
-        return Refusal::Number(number);
+    if let Some(refusal) = list_refusal(candidates, occupied) {
+        return Some(refusal);
     }
-    let limited = netgroup::limit_refusal(grouping, map);
-    if let Refusal::Number(number) = limited {
-        return Refusal::Number(number);
+    if let Some(refusal) = netgroup::limit_refusal(grouping, map) {
+        return Some(refusal);
     }
     room_refusal(candidates.len() / 20, max, picks, groups)
 }
@@ -82,18 +74,18 @@ pub fn select_diverse_unchecked(
     map: &[u8],
     picks: &mut [u16],
     groups: &mut [u64],
-) -> PickAnswer
+) -> Result<Totals, Refusal>
     ensures groups_after { handed result picks.new groups.new ≡ select_unchecked (numbering grouping map.now) candidates.now occupied.now max picks.old groups.old }
     ensures demand3 { Demand3 (numbering grouping map.now) (candidates_of candidates.now) occupied.now max result picks.new groups.new }
-    ensures unaborted { check_refusal (numbering grouping map.now) ≡ Refusal.None → Unaborted (numbering grouping map.now) (candidates_of candidates.now) result }
+    ensures unaborted { check_refusal (numbering grouping map.now) ≡ None → Unaborted (numbering grouping map.now) (candidates_of candidates.now) result }
 {
     let why = pick_refusal(candidates, occupied, max, grouping, map, picks, groups);
-    if let Refusal::Number(number) = why {
-        return PickAnswer::Refused(number);
+    if let Some(number) = why {
+        return Err(number);
     }
     let first = pick_passes::marked_pass(candidates, occupied, max, grouping, map, picks, groups);
     let total = pick_passes::fill_rest(candidates, max, first.taken, picks);
-    PickAnswer::Picked(Totals {
+    Ok(Totals {
         total: total,
         first: first.taken,
         examined: first.examined,
@@ -110,18 +102,18 @@ pub fn select_diverse(
     map: &[u8],
     picks: &mut [u16],
     groups: &mut [u64],
-) -> PickAnswer
+) -> Result<Totals, Refusal>
     ensures groups_after { handed result picks.new groups.new ≡ select_diverse (numbering grouping map.now) candidates.now occupied.now max picks.old groups.old }
     ensures demand3 { Demand3 (numbering grouping map.now) (candidates_of candidates.now) occupied.now max result picks.new groups.new }
     ensures unaborted { Unaborted (numbering grouping map.now) (candidates_of candidates.now) result }
 {
     let listed = list_refusal(candidates, occupied);
-    if let Refusal::Number(number) = listed {
-        return PickAnswer::Refused(number);
+    if let Some(number) = listed {
+        return Err(number);
     }
     let checked = netgroup::check_refusal(grouping, map);
-    if let Refusal::Number(number) = checked {
-        return PickAnswer::Refused(number);
+    if let Some(number) = checked {
+        return Err(number);
     }
     select_diverse_unchecked(candidates, occupied, max, grouping, map, picks, groups)
 }
@@ -133,7 +125,7 @@ pub fn old_prefix_pick(
     max: usize,
     picks: &mut [u16],
     groups: &mut [u64],
-) -> PickAnswer
+) -> Result<Totals, Refusal>
     ensures groups_after { handed result picks.new groups.new ≡ old_prefix_pick candidates.now occupied.now max picks.old groups.old }
     ensures demand3 { Demand3 by_old_prefixes (candidates_of candidates.now) occupied.now max result picks.new groups.new }
 {

@@ -7,16 +7,10 @@ ghost use Rattle.peer_lists.specs.Candidates.{candidates_of, all_valid};
 ghost use Rattle.peer_lists.specs.Refusal.{list_refusal};
 
 use candidate_bytes::is_candidate;
+use refusals::Refusal;
 
 // The most candidates of a list, and the most occupied groups.
 pub const MAX_CANDIDATES: usize = 4096;
-
-// Whether a call is refused, and with which number of document 01.
-#[derive(Clone, Copy)]
-pub enum Refusal {
-    None,
-    Number(u8),
-}
 
 // ---- a list of candidates
 
@@ -79,20 +73,20 @@ pub fn all_candidates(candidates: &[u8]) -> bool
 // ---- why a list is refused
 
 // Why a list of candidates is refused, with the occupied groups: 13 for the length, 12, 13.
-pub fn list_refusal(candidates: &[u8], occupied: &[u64]) -> Refusal
+pub fn list_refusal(candidates: &[u8], occupied: &[u64]) -> Option<Refusal>
     ensures { result ≡ list_refusal candidates.now occupied.now }
 {
     if candidates.len() % 20 != 0 {
-        return Refusal::Number(13);
+        return Some(Refusal::Candidate);
     }
     if MAX_CANDIDATES < candidates.len() / 20 {
-        return Refusal::Number(12);
+        return Some(Refusal::TooMany);
     }
     if MAX_CANDIDATES < occupied.len() {
-        return Refusal::Number(12);
+        return Some(Refusal::TooMany);
     }
     if all_candidates(candidates) {
-        return Refusal::None;
+        return None;
     }
-    Refusal::Number(13)
+    Some(Refusal::Candidate)
 }

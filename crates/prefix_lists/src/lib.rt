@@ -7,13 +7,7 @@ ghost use Rattle.prefix_lists.specs.List.{big, zeros_at, earliest, fits, is_numb
 ghost use Rattle.prefix_lists.specs.models.End.{Ends, may_begin};
 
 use prefix_records::Address;
-
-// Whether a list may be built from, or the number of its refusal.
-#[derive(Clone, Copy)]
-pub enum Judged {
-    Listed,
-    Refused(u8),
-}
+use refusals::Refusal;
 
 // The number that eight bytes are, the highest first. Written as a sum, it compiles to one load of eight bytes.
 fn big_of(a: u8, b: u8, c: u8, d: u8, e: u8, f: u8, g: u8, h: u8) -> u64
@@ -138,29 +132,29 @@ fn fits_at(records: &[u8], i: usize, end: Address, width: u8) -> bool
 }
 
 // A list of records judged at a width, with the number for all other addresses. Refusals 21 and 22, in the records' order.
-pub fn judge_list(records: &[u8], given: u32, width: u8) -> Judged
+pub fn judge_list(records: &[u8], given: u32, width: u8) -> Result<(), Refusal>
     requires { width ≤ 128 }
     ensures { result ≡ judge width records.now given }
 {
     if records.len() % 24 != 0 {
-        return Judged::Refused(21);
+        return Err(Refusal::Prefix);
     }
     let count = records.len() / 24;
     let mut i: usize = 0;
     let mut end = Address { high: 0, low: 0 };
     while i < count {
         if !fits_at(records, i, end, width) {
-            return Judged::Refused(21);
+            return Err(Refusal::Prefix);
         }
         let at = 24 * i;
         if !is_number(byte_numbers::number_at(records, at + 20)) {
-            return Judged::Refused(22);
+            return Err(Refusal::Number);
         }
         end = prefix_records::behind(address_at(records, at), records[at + 16]);
         i += 1;
     }
     if !is_number(given) {
-        return Judged::Refused(22);
+        return Err(Refusal::Number);
     }
-    Judged::Listed
+    Ok(())
 }

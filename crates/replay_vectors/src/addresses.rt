@@ -1,7 +1,7 @@
 // IPv4-mapped addresses, the filter and the relay of addresses.
-use netaddr::{Filtered, Relay};
 use replay_outcomes::{Out, Seen, compared, done, refused};
 use replay_words::{Words, byte, short, word};
+use refusals::Refusal;
 
 pub fn mapped(bytes: &[u8], words: Words) -> Seen {
     let address = word(bytes, words, 0);
@@ -21,11 +21,10 @@ fn told(yes: u8) -> Out {
     done().byte(yes)
 }
 
-fn filtered(got: Filtered) -> Out {
+fn filtered(got: Result<bool, Refusal>) -> Out {
     match got {
-        Filtered::Refused(reason) => refused(reason),
-        Filtered::Routable => told(0),
-        Filtered::Unroutable => told(1),
+        Err(refusal) => refused(refusal.number()),
+        Ok(is_so) => told(is_so as u8),
     }
 }
 
@@ -34,11 +33,10 @@ pub fn unroutable(bytes: &[u8], words: Words) -> Seen {
     compared(filtered(got), word(bytes, words, 1))
 }
 
-fn relayed(got: Relay) -> Out {
+fn relayed(got: Result<bool, Refusal>) -> Out {
     match got {
-        Relay::Refused(reason) => refused(reason),
-        Relay::Passes => told(0),
-        Relay::Skips => told(1),
+        Err(refusal) => refused(refusal.number()),
+        Ok(is_so) => told(is_so as u8),
     }
 }
 

@@ -1,20 +1,21 @@
 // Codes and instructions, read and written, and the bit reader.
-use asmap_codes::{Decoded, DecodedInstruction};
-use asmap_encode::Written;
+use asmap_codes::Code;
+use asmap_encode::Word;
 use asmap_items::Item;
 use asmap_program::Instruction;
 use replay_outcomes::{Out, Seen, compared, done, refused};
 use replay_words::{Words, byte, value, wide, word};
+use refusals::{Fault, Refusal};
 
-fn decoded(got: Decoded) -> Out {
+fn decoded(got: Result<Code, Fault>) -> Out {
     match got {
-        Decoded::Refused(reason) => refused(reason),
-        Decoded::Found(x, next) => done().number(x as u64, 4).number(next as u64, 8),
+        Err(refusal) => refused(refusal.number()),
+        Ok((x, next)) => done().number(x as u64, 4).number(next as u64, 8),
     }
 }
 
 // A code of a row: 0 opcode, 1 AS number, 2 MATCH, 3 JUMP.
-fn code_at(row: u8, map: &[u8], at: usize) -> Decoded {
+fn code_at(row: u8, map: &[u8], at: usize) -> Result<Code, Fault> {
     match row {
         0 => asmap_decode::decode_type(map, at),
         1 => asmap_decode::decode_asn(map, at),
@@ -32,14 +33,14 @@ pub fn read_code(bytes: &[u8], words: Words) -> Seen {
     compared(decoded(got), word(bytes, words, 3))
 }
 
-fn written(got: Written) -> Out {
+fn written(got: Result<Word, Refusal>) -> Out {
     match got {
-        Written::Refused(reason) => refused(reason),
-        Written::Bits(code) => done().number(code.len as u64, 1).number(code.bits, 8),
+        Err(refusal) => refused(refusal.number()),
+        Ok(code) => done().number(code.len as u64, 1).number(code.bits, 8),
     }
 }
 
-fn code_of(row: u8, x: u32) -> Written {
+fn code_of(row: u8, x: u32) -> Result<Word, Refusal> {
     match row {
         0 => asmap_encode::encode_type(x),
         1 => asmap_encode::encode_asn(x),
@@ -70,8 +71,8 @@ pub fn read_instruction(bytes: &[u8], words: Words) -> Seen {
     let got = asmap_decode::decode_instruction(word(bytes, words, 0), wide(bytes, words, 1));
     let answer = word(bytes, words, 2);
     match got {
-        DecodedInstruction::Refused(reason) => compared(refused(reason), answer),
-        DecodedInstruction::Found(instruction) => compared(found(instruction), answer),
+        Err(fault) => compared(refused(fault.number()), answer),
+        Ok(instruction) => compared(found(instruction), answer),
     }
 }
 

@@ -2,10 +2,11 @@
 ghost use Rattle.std.specs.Prelude.{◌≡◌, ◌<◌, ◌≤◌, length};
 
 use group_lists::Scan;
-use netgroup::{GroupAnswer, Grouping};
-use netgroup_pick::{PickAnswer, Totals};
+use netgroup::Grouping;
+use netgroup_pick::Totals;
 use replay_outcomes::{Out, Seen, and_left, compared, done, refused};
 use replay_words::{Words, byte, lengthened, number, wide, word};
+use refusals::Refusal;
 
 // What groups go by: 0 without a map, 1 with one, 2 without one in the old numbering of prefixes.
 pub fn grouping_of(n: u8) -> Grouping {
@@ -16,10 +17,10 @@ pub fn grouping_of(n: u8) -> Grouping {
     }
 }
 
-fn grouped(got: GroupAnswer) -> Out {
+fn grouped(got: Result<u64, Refusal>) -> Out {
     match got {
-        GroupAnswer::Refused(reason) => refused(reason),
-        GroupAnswer::Group(group) => done().number(group, 8),
+        Err(refusal) => refused(refusal.number()),
+        Ok(group) => done().number(group, 8),
     }
 }
 
@@ -29,7 +30,7 @@ pub fn prefix_group(bytes: &[u8], words: Words) -> Seen {
 }
 
 // By a map that is checked, or is not.
-fn group_by(candidate: &[u8], by: u8, map: &[u8], checked: bool) -> GroupAnswer {
+fn group_by(candidate: &[u8], by: u8, map: &[u8], checked: bool) -> Result<u64, Refusal> {
     if checked {
         return netgroup::netgroup(candidate, grouping_of(by), map);
     }
@@ -63,14 +64,13 @@ fn numbers(bytes: &[u8]) -> [u64; 4100]
 }
 
 // None is found 0 with place 0, as a call from C has it.
-fn scanned(got: Scan) -> Out {
+fn scanned(got: Result<Scan, Refusal>) -> Out {
     match got {
-        Scan::Refused(reason) => refused(reason),
-        Scan::Hit(place, read) => done()
-            .byte(1)
-            .number(place as u64, 8)
-            .number(read as u64, 8),
-        Scan::Missed(read) => done().byte(0).number(0, 8).number(read as u64, 8),
+        Err(refusal) => refused(refusal.number()),
+        Ok(scan) => done()
+            .byte(scan.hit.is_some() as u8)
+            .number(scan.hit.unwrap_or(0) as u64, 8)
+            .number(scan.read as u64, 8),
     }
 }
 
@@ -132,10 +132,10 @@ fn totals_of(totals: Totals) -> Out {
         .number(totals.instructions, 8)
 }
 
-fn picked(got: PickAnswer) -> Out {
+fn picked(got: Result<Totals, Refusal>) -> Out {
     match got {
-        PickAnswer::Refused(reason) => refused(reason),
-        PickAnswer::Picked(totals) => totals_of(totals),
+        Err(refusal) => refused(refusal.number()),
+        Ok(totals) => totals_of(totals),
     }
 }
 
@@ -148,7 +148,7 @@ fn pick_by(
     map: &[u8],
     places: &mut [u16],
     groups: &mut [u64],
-) -> PickAnswer {
+) -> Result<Totals, Refusal> {
     let grouping = grouping_of(by % 3);
     if 2 < by {
         return netgroup_pick::select_diverse_unchecked(

@@ -1,14 +1,14 @@
 // Draws and loads.
 use crate::maps::wrote;
-use load_draws::Drawn;
 use replay_outcomes::{Out, Seen, and_left, compared, done, refused};
 use replay_words::{Words, wide, word};
+use refusals::Refusal;
 
 // What a draw came to.
-fn drawn(got: Drawn) -> Out {
+fn drawn(got: Result<u64, Refusal>) -> Out {
     match got {
-        Drawn::Refused(reason) => refused(reason),
-        Drawn::Number(n) => done().number(n, 8),
+        Err(refusal) => refused(refusal.number()),
+        Ok(n) => done().number(n, 8),
     }
 }
 

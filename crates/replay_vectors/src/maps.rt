@@ -1,36 +1,42 @@
 // The check, the walk, unpack, pack, the listing and two maps compared.
-use asmap_check::Stopped;
-use asmap_list::Needed;
-use asmap_program::{Kind, Verdict};
-use asmap_records::Answer;
-use asmap_walk::Interpreted;
+use asmap_check::Stop;
+use asmap_program::{Accepted, Kind};
 use asmap_walk_bits::Ending;
 use replay_outcomes::{Out, Seen, and_left, compared, done, refused};
 use replay_words::{Words, word};
+use refusals::{Fault, Refusal};
 
 // What a check came to.
-pub fn checked(verdict: Verdict) -> Out {
+pub fn checked(verdict: Result<Accepted, Refusal>) -> Out {
     match verdict {
-        Verdict::Refused(reason) => refused(reason),
-        Verdict::Accepted(count, depth) => done().number(count as u64, 4).byte(depth),
+        Err(refusal) => refused(refusal.number()),
+        Ok(accepted) => done().number(accepted.count as u64, 4).byte(accepted.depth),
     }
 }
 
 pub fn check(bytes: &[u8], words: Words) -> Seen {
-    let verdict = asmap_check::sanity_check(word(bytes, words, 0));
+    let verdict = asmap_check::sanity_check(word(bytes, words, 0)).map_err(Refusal::Map);
     compared(checked(verdict), word(bytes, words, 1))
 }
 
+// What a check found wrong, as a number: 0 where that is nothing.
+fn wrong_number(wrong: Option<Fault>) -> u8 {
+    match wrong {
+        None => 0,
+        Some(fault) => fault.number(),
+    }
+}
+
 // Where a check stopped.
-pub fn stopped_at(stopped: Stopped) -> Out {
+pub fn stopped_at(stopped: Result<Stop, Fault>) -> Out {
     match stopped {
-        Stopped::Refused(reason) => refused(reason),
-        Stopped::At(reason, place) => done().byte(reason).number(place as u64, 8),
+        Err(refusal) => refused(refusal.number()),
+        Ok(stop) => done().byte(wrong_number(stop.wrong)).number(stop.place as u64, 8),
     }
 }
 
 pub fn check_stop(bytes: &[u8], words: Words) -> Seen {
-    let stopped = asmap_check::sanity_check_stop(word(bytes, words, 0));
+    let stopped = asmap_check::sanity_check_stop(word(bytes, words, 0)).map_err(Refusal::Map);
     compared(stopped_at(stopped), word(bytes, words, 1))
 }
 
@@ -53,10 +59,10 @@ fn ended(ending: Ending) -> Out {
 }
 
 // What a walk came to.
-pub fn walked(got: Interpreted) -> Out {
+pub fn walked(got: Result<Ending, Refusal>) -> Out {
     match got {
-        Interpreted::Refused(reason) => refused(reason),
-        Interpreted::Ended(ending) => ended(ending),
+        Err(refusal) => refused(refusal.number()),
+        Ok(ending) => ended(ending),
     }
 }
 
@@ -66,15 +72,15 @@ pub fn walk(bytes: &[u8], words: Words) -> Seen {
 }
 
 // How many bytes unpack, pack, the listing or a comparison wrote.
-pub fn wrote(got: Answer) -> Out {
+pub fn wrote(got: Result<usize, Refusal>) -> Out {
     match got {
-        Answer::Refused(reason) => refused(reason),
-        Answer::Wrote(n) => done().number(n as u64, 4),
+        Err(refusal) => refused(refusal.number()),
+        Ok(n) => done().number(n as u64, 4),
     }
 }
 
 // Unpack is kind 8, pack 9, and the listing 10.
-fn write_into(kind: usize, input: &[u8], out: &mut [u8]) -> Answer {
+fn write_into(kind: usize, input: &[u8], out: &mut [u8]) -> Result<usize, Refusal> {
     match kind {
         8 => asmap_unpack::unpack(input, out),
         9 => asmap_pack::pack(input, out),
@@ -102,10 +108,10 @@ pub fn written(kind: usize, bytes: &[u8], words: Words) -> Seen {
 }
 
 // How many bytes a listing or a comparison needs.
-pub fn needed(got: Needed) -> Out {
+pub fn needed(got: Result<usize, Refusal>) -> Out {
     match got {
-        Needed::Refused(reason) => refused(reason),
-        Needed::Bytes(n) => done().number(n as u64, 8),
+        Err(refusal) => refused(refusal.number()),
+        Ok(n) => done().number(n as u64, 8),
     }
 }
 

@@ -1,8 +1,8 @@
 // The calls on maps at a width, which is the first word of their lines.
 use crate::maps::{checked, needed, stopped_at, walked, wrote};
-use asmap_records::Answer;
 use replay_outcomes::{Out, Seen, and_left, compared};
 use replay_words::{Words, value, word};
+use refusals::Refusal;
 
 pub fn check_bits(bytes: &[u8], words: Words) -> Seen {
     let width = value(bytes, words, 0);
@@ -29,7 +29,7 @@ pub fn list_bytes_bits(bytes: &[u8], words: Words) -> Seen {
 }
 
 // Unpack is kind 17, and the listing 18.
-fn write_into(kind: usize, map: &[u8], width: u32, out: &mut [u8]) -> Answer {
+fn write_into(kind: usize, map: &[u8], width: u32, out: &mut [u8]) -> Result<usize, Refusal> {
     if kind == 17 {
         return asmap_unpack::unpack_bits(map, width, out);
     }

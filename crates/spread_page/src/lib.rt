@@ -4,7 +4,7 @@
 // their walks (docs/BENCHMARKS.md). Nothing is written before all lines are known to fit.
 #![tactic(auto)]
 
-ghost use Rattle.std.specs.Prelude.{◌≡◌, [], ◌/◌, ◌≤◌, length, take};
+ghost use Rattle.std.specs.Prelude.{◌≡◌, [], ◌/◌, ◌≤◌, length, take, None};
 ghost use Rattle.peer_lists.specs.Candidates.{candidates_of};
 ghost use Rattle.peer_lists.specs.Refusal.{list_refusal};
 ghost use Rattle.netgroup.specs.Group.{by_old_prefixes, numbering};
@@ -16,10 +16,10 @@ ghost use Rattle.page_lines.specs.Line.{lines, page_of};
 ghost use Rattle.spread_page.specs.Page.{spread_page, spread_unchecked, old_prefix_page};
 ghost use Rattle.spread_page.specs.Promise.{Told, Unaborted};
 
-use asmap_records::Answer;
 use netgroup::Grouping;
 use page_lines::LINE_BYTES;
-use peer_lists::{Refusal, candidate_at};
+use peer_lists::candidate_at;
+use refusals::Refusal;
 
 // Room for the groups of as many candidates as a list may have.
 fn no_groups() -> [u64; 4096]
@@ -29,7 +29,7 @@ fn no_groups() -> [u64; 4096]
 }
 
 // Why a list of candidates is refused: 13 for the length, 12, 13. No group is occupied.
-fn candidates_refusal(candidates: &[u8]) -> Refusal
+fn candidates_refusal(candidates: &[u8]) -> Option<Refusal>
     ensures { result ≡ list_refusal candidates.now [] }
 {
     let occupied = [0u64; 1];
@@ -38,7 +38,7 @@ fn candidates_refusal(candidates: &[u8]) -> Refusal
 
 // The groups of candidates, in their order, at the front of a room for them.
 fn find_groups(candidates: &[u8], grouping: Grouping, map: &[u8], groups: &mut [u64])
-    requires { (length candidates.now / 20 ≤ length groups.old) × (limit_refusal (numbering grouping map.now) ≡ Refusal.None) }
+    requires { (length candidates.now / 20 ≤ length groups.old) × (limit_refusal (numbering grouping map.now) ≡ None) }
     ensures { take (length candidates.now / 20) groups.new ≡ groups_of (numbering grouping map.now) (candidates_of candidates.now) }
 {
     let n = candidates.len() / 20;
@@ -51,20 +51,20 @@ fn find_groups(candidates: &[u8], grouping: Grouping, map: &[u8], groups: &mut [
 }
 
 // The page of groups that are sorted. Refusal 14.
-fn put_page(groups: &[u64], out: &mut [u8]) -> Answer
+fn put_page(groups: &[u64], out: &mut [u8]) -> Result<usize, Refusal>
     requires { length groups.now ≤ 4096 }
     ensures { Hands (Making.Made (lines (length groups.now) (runs groups.now))) out.old out.new result }
 {
     let count = group_shares::count_runs(groups);
     if out.len() / LINE_BYTES < count {
-        return Answer::Refused(14);
+        return Err(Refusal::OutputTooShort);
     }
     page_lines::put_lines(groups, out);
-    Answer::Wrote(LINE_BYTES * count)
+    Ok(LINE_BYTES * count)
 }
 
 // The page of groups in any order, which are sorted for it, over a spare room for as many. Refusal 14.
-fn sort_page(groups: &mut [u64], spare: &mut [u64], out: &mut [u8]) -> Answer
+fn sort_page(groups: &mut [u64], spare: &mut [u64], out: &mut [u8]) -> Result<usize, Refusal>
     requires { (length groups.old ≤ 4096) × (length groups.old ≤ length spare.old) }
     ensures { Hands (Making.Made (page_of groups.old)) out.old out.new result }
 {
@@ -73,8 +73,8 @@ fn sort_page(groups: &mut [u64], spare: &mut [u64], out: &mut [u8]) -> Answer
 }
 
 // The page of candidates that are not refused, with a map that is within the limit. Refusal 14.
-fn make_page(candidates: &[u8], grouping: Grouping, map: &[u8], out: &mut [u8]) -> Answer
-    requires { (length candidates.now / 20 ≤ 4096) × (limit_refusal (numbering grouping map.now) ≡ Refusal.None) }
+fn make_page(candidates: &[u8], grouping: Grouping, map: &[u8], out: &mut [u8]) -> Result<usize, Refusal>
+    requires { (length candidates.now / 20 ≤ 4096) × (limit_refusal (numbering grouping map.now) ≡ None) }
     ensures { Hands (Making.Made (page_of (groups_of (numbering grouping map.now) (candidates_of candidates.now)))) out.old out.new result }
 {
     let mut groups = no_groups();
@@ -86,42 +86,38 @@ fn make_page(candidates: &[u8], grouping: Grouping, map: &[u8], out: &mut [u8]) 
 
 // The page over a map taken as it is, for callers who checked it when they loaded it. Refusals 13, 12, 13, with a map 1, then 14; a refusal
 // writes nothing. Of a map that the check refuses a walk may abort: its candidate is counted for group 0 then.
-pub fn page_unchecked(candidates: &[u8], grouping: Grouping, map: &[u8], out: &mut [u8]) -> Answer
+pub fn page_unchecked(candidates: &[u8], grouping: Grouping, map: &[u8], out: &mut [u8]) -> Result<usize, Refusal>
     ensures hands { Hands (spread_unchecked (numbering grouping map.now) candidates.now) out.old out.new result }
     ensures told { Told (numbering grouping map.now) candidates.now result }
-    ensures unaborted { check_refusal (numbering grouping map.now) ≡ Refusal.None → Unaborted (numbering grouping map.now) candidates.now result }
+    ensures unaborted { check_refusal (numbering grouping map.now) ≡ None → Unaborted (numbering grouping map.now) candidates.now result }
 {
-    let listed = candidates_refusal(candidates);
-    if let Refusal::Number(number) = listed {
-        return Answer::Refused(number);
+    if let Some(refusal) = candidates_refusal(candidates) {
+        return Err(refusal);
     }
-    let limited = netgroup::limit_refusal(grouping, map);
-    if let Refusal::Number(number) = limited {
-        return Answer::Refused(number);
+    if let Some(refusal) = netgroup::limit_refusal(grouping, map) {
+        return Err(refusal);
     }
     make_page(candidates, grouping, map, out)
 }
 
 // The page of a list of candidates, with a map or none: a line of 25 bytes for each group, groups rising. 25 bytes for each candidate are
 // always enough. Refusals 13, 12, 13, with a map the check's, 1 to 10 and 19, then 14; a refusal writes nothing.
-pub fn page(candidates: &[u8], grouping: Grouping, map: &[u8], out: &mut [u8]) -> Answer
+pub fn page(candidates: &[u8], grouping: Grouping, map: &[u8], out: &mut [u8]) -> Result<usize, Refusal>
     ensures hands { Hands (spread_page (numbering grouping map.now) candidates.now) out.old out.new result }
     ensures told { Told (numbering grouping map.now) candidates.now result }
     ensures unaborted { Unaborted (numbering grouping map.now) candidates.now result }
 {
-    let listed = candidates_refusal(candidates);
-    if let Refusal::Number(number) = listed {
-        return Answer::Refused(number);
+    if let Some(refusal) = candidates_refusal(candidates) {
+        return Err(refusal);
     }
-    let checked = netgroup::check_refusal(grouping, map);
-    if let Refusal::Number(number) = checked {
-        return Answer::Refused(number);
+    if let Some(refusal) = netgroup::check_refusal(grouping, map) {
+        return Err(refusal);
     }
     make_page(candidates, grouping, map, out)
 }
 
 // The page without a map in the old numbering, for callers who keep such groups. Refusals 13, 12, 13, 14 in this order; a refusal writes nothing.
-pub fn old_prefix_page(candidates: &[u8], out: &mut [u8]) -> Answer
+pub fn old_prefix_page(candidates: &[u8], out: &mut [u8]) -> Result<usize, Refusal>
     ensures hands { Hands (old_prefix_page candidates.now) out.old out.new result }
     ensures told { Told by_old_prefixes candidates.now result }
 {
