@@ -19,6 +19,7 @@ use Rattle.asmap_program.proofs.Tree.{Forest, accepts, forest, forward}
 use Rattle.asmap_program.specs.Verdict.{Verdict}
 use Rattle.std.specs.Prelude.{Err, Ok}
 use Rattle.refusals.specs.declared.Fault.TheVariants as fault
+use Rattle.refusals.specs.declared.Fault.{Fault}
 
 -- what our check remembers, of what Core remembers
 abbrev seen : Op → Bool → Previous
@@ -69,7 +70,7 @@ module _ (m : Map) where
   Same (Refuse n) (On c) = ⊥
   Same (Refuse n) (Says b) = b ≡ false
 
-  both : (b b' : Bool) (n : ℕ) (o : Outcome) (q : Passed) → b ≡ b' → (b ≡ false → Same o q) → Same (guard b n o) (refuse_if b' q)
+  both : (b b' : Bool) (n : Fault) (o : Outcome) (q : Passed) → b ≡ b' → (b ≡ false → Same o q) → Same (guard b n o) (refuse_if b' q)
   unfolding guard refuse_if
   both true true n o q e h = refl
   both true false n o q e h = let z : ◌≡◌ {A = ℕ} 0 1 = cc in absurd (omega arith)
@@ -77,7 +78,7 @@ module _ (m : Map) where
   both false false n o q e h = h refl
 
   -- Core refuses where ours would go on to a target past the end
-  refuses : (b : Bool) (n : ℕ) (o : Outcome) → Same o (Says false) → Same (guard b n o) (Says false)
+  refuses : (b : Bool) (n : Fault) (o : Outcome) → Same o (Says false) → Same (guard b n o) (Says false)
   unfolding guard
   refuses true n o h = refl
   refuses false n o h = h
@@ -92,7 +93,7 @@ module _ (m : Map) where
   finish true b' i c d e = sym e
   finish false b' i c d e = sym e
 
-  refused : (b : Bool) (n r : ℕ) → Same (guard b n (Refuse r)) (Says false)
+  refused : (b : Bool) (n r : Fault) → Same (guard b n (Refuse r)) (Says false)
   unfolding guard
   refused true n r = refl
   refused false n r = refl
@@ -113,27 +114,27 @@ module _ (m : Map) where
     same-return : (c : Sanity) (n d : ℕ) (i : Instruction) → end_of i ≤ m.bits → (opens : List Open)
         → Same (closing m (ours c n d) i opens) (core_return f c (end_of i) opens)
     same-return c n d i h [] = finish (m.padded (end_of i)) (core_tail f (end_of i)) i (suc n) d (join.tail (end_of i) h)
-    same-return c n d i h (o ∷ opens) = both _ _ 7 _ _ refl λ _. (refl, h)
+    same-return c n d i h (o ∷ opens) = both _ _ fault.NotAtTarget _ _ refl λ _. (refl, h)
 
     -- at a whole instruction of opcode k, whose operand Core reads at q
     same_whole : (c : Sanity) (n d : ℕ) (i : Instruction) → end_of i ≤ m.bits → (k q : ℕ) → k < 4
         → decode_of f k q ≡ record { value = i.operand; pos = end_of i } → i.operand < INVALID
         → Same (step_whole m (ours c n d) i k) (core_opcode f c k q)
     same_whole c n d i h zero q l e t =
-        both _ _ 5 _ _ (seen-default c.prevopcode c.had_incomplete_match)
+        both _ _ fault.AfterDefault _ _ (seen-default c.prevopcode c.had_incomplete_match)
         λ _. rw (read_there (f.decode_asn q) i.operand (end_of i) e t (λ (v p : ℕ). core_return f c p c.jumps)) (same-return c n d i h c.jumps)
     same_whole c n d i h (suc zero) q l e t =
         let z = join.ends in
         rw (read_there (f.decode_jump q) i.operand (end_of i) e t (λ (v p : ℕ). core_jump f c v p))
         (early _ (step_whole m (ours c n d) i 1) _
-        (λ x. refuses _ 8 _ (refuses _ 9 _ (_, _, refl, omega (arith, ltb-true (f.endpos - end_of i) i.operand x))))
-        (λ _. both _ _ 8 _ _ refl λ _. both _ _ 9 _ _ (same_past c.jumps (target_of i)) λ _. (refl, h)))
+        (λ x. refuses _ fault.NoBits _ (refuses _ fault.TargetsCross _ (_, _, refl, omega (arith, ltb-true (f.endpos - end_of i) i.operand x))))
+        (λ _. both _ _ fault.NoBits _ _ refl λ _. both _ _ fault.TargetsCross _ _ (same_past c.jumps (target_of i)) λ _. (refl, h)))
     same_whole c n d i h (suc (suc zero)) q l e t =
         rw (read_there (f.decode_match q) i.operand (end_of i) e t (λ (v p : ℕ). core_match f c v p))
-        (both _ _ 10 _ _ (ap (λ (b : Bool). ltb (length_of i.operand) 8 && b) (seen_short c.prevopcode c.had_incomplete_match))
-        λ _. both _ _ 8 _ _ refl λ _. (refl, h))
+        (both _ _ fault.ShortMatches _ _ (ap (λ (b : Bool). ltb (length_of i.operand) 8 && b) (seen_short c.prevopcode c.had_incomplete_match))
+        λ _. both _ _ fault.NoBits _ _ refl λ _. (refl, h))
     same_whole c n d i h (suc (suc (suc zero))) q l e t =
-        both _ _ 5 _ _ (seen-default c.prevopcode c.had_incomplete_match)
+        both _ _ fault.AfterDefault _ _ (seen-default c.prevopcode c.had_incomplete_match)
         λ _. rw (read_there (f.decode_asn q) i.operand (end_of i) e t (λ (v p : ℕ). core_default f c p)) (refl, h)
     same_whole c n d i h (suc (suc (suc (suc k)))) q l e t = absurd (omega arith)
 
@@ -153,13 +154,13 @@ module _ (m : Map) where
           rw x.1 (same_whole c n d i (omega arith) i.opcode x.0 s.known x.2 x.3)
       same_on c n d CutOpcode g x = rw x refl
       same_on c n d (CutOperand op) g x =
-          rw (x.1, cut_refuses c op x.0 x.3) (refused (is_default (seen c.prevopcode c.had_incomplete_match) && (eqb op 0 || eqb op 3)) 5 _)
+          rw (x.1, cut_refuses c op x.0 x.3) (refused (is_default (seen c.prevopcode c.had_incomplete_match) && (eqb op 0 || eqb op 3)) fault.AfterDefault _)
 
       same_step : (c : Sanity) (n d : ℕ) → c.pos ≤ m.bits → Same (step m (ours c n d)) (core_step f c)
       unfolding step core_step
       same_step c n d h =
-          both _ _ 2 _ _ (at_end c.pos m.bits h ∙ ap (λ (b : ℕ). eqb c.pos b) (sym join.ends))
-          λ _. both _ _ 3 _ _ (same_past c.jumps c.pos) λ _. same_on c n d (m.fetch c.pos) refl (join.fetched c.pos h)
+          both _ _ fault.MapEnds _ _ (at_end c.pos m.bits h ∙ ap (λ (b : ℕ). eqb c.pos b) (sym join.ends))
+          λ _. both _ _ fault.PastTarget _ _ (same_past c.jumps c.pos) λ _. same_on c n d (m.fetch c.pos) refl (join.fetched c.pos h)
 
       -- an open target past the end is never accepted
       never : (s : State) (o : Open) (opens : List Open) → s.opens ≡ o ∷ opens → m.bits < o.target → (g : ℕ) → accepted (run m g s) ≡ false

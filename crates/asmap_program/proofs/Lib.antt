@@ -1,5 +1,6 @@
 pub mod Length
 pub mod Widths
+pub mod Verdicts
 pub mod Tree
 pub mod Depth
 pub mod Loop

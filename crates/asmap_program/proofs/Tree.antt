@@ -19,6 +19,10 @@ use Rattle.asmap_program.specs.Map.{RETURN, JUMP, MATCH, end_of, target_of, Fetc
 use Rattle.asmap_program.specs.Tree.{Tree, return, jump, match, default, Program, JumpsInside}
 use Rattle.asmap_program.specs.Check.{Open, is_default, is_short, State, Outcome, Next, Done, Refuse, guard, past, closing, step_whole, step_on, step, after, run, listed, reads, start, check, unpacked, after_match}
 use Rattle.asmap_program.specs.Verdict.{Accepted, Verdict}
+use Rattle.asmap_program.proofs.Verdicts.{accepted-same}
+use Rattle.refusals.specs.declared.Fault.{Fault}
+use Rattle.refusals.specs.declared.Fault.TheVariants as fault
+use Rattle.refusals.specs.Numbers.{fault_number}
 
 module _ (m : Map) where
   -- What is left to read in a state: a tree up to each open target, the innermost first, then one up to the padding.
@@ -69,36 +73,36 @@ module _ (m : Map) where
   abbrev pub View : State → Outcome → Type 0
   View s (Next i s') = (m.fetch s.at ≡ Whole i) × Moves s i s'
   View s (Done i c d) = Ends s i c d
-  View s (Refuse n) = 2 ≤ n
+  View s (Refuse f) = 2 ≤ fault_number f
 
-  guarded : (s : State) (b : Bool) (n : ℕ) → T (leb 2 n) → (o : Outcome) → (b ≡ false → View s o) → View s (guard b n o)
+  guarded : (s : State) (b : Bool) (f : Fault) → T (leb 2 (fault_number f)) → (o : Outcome) → (b ≡ false → View s o) → View s (guard b f o)
   unfolding guard
-  guarded s true n t o v = leb→le 2 n t
-  guarded s false n t o v = v refl
+  guarded s true f t o v = leb→le 2 (fault_number f) t
+  guarded s false f t o v = v refl
 
   closing_view : (s : State) (i : Instruction) → m.fetch s.at ≡ Whole i → i.opcode ≡ RETURN → is_default s.before ≡ false
       → (opens : List Open) → s.opens ≡ opens → View s (closing m s i opens)
   closing_view s i f e d [] q =
-      guarded s (not (m.padded (end_of i))) 6 tt (Done i (suc s.count) s.deepest)
+      guarded s (not (m.padded (end_of i))) fault.Padding tt (Done i (suc s.count) s.deepest)
       λ h. record { fetched = f; code = e; none = q; free = d; good = not-false _ h; counted = refl; deep = refl }
-  closing_view s i f e d (o ∷ opens) q = guarded s _ 7 tt _ λ h. (f, closes q e d (eqb-true _ _ (not-false _ h)))
+  closing_view s i f e d (o ∷ opens) q = guarded s _ fault.NotAtTarget tt _ λ h. (f, closes q e d (eqb-true _ _ (not-false _ h)))
 
   whole_view : (s : State) (i : Instruction) → m.fetch s.at ≡ Whole i → (k : ℕ) → i.opcode ≡ k → View s (step_whole m s i k)
-  whole_view s i f zero e = guarded s _ 5 tt (closing m s i s.opens) λ h. closing_view s i f e h s.opens refl
+  whole_view s i f zero e = guarded s _ fault.AfterDefault tt (closing m s i s.opens) λ h. closing_view s i f e h s.opens refl
   whole_view s i f (suc zero) e =
-      guarded s _ 8 tt _ λ h. guarded s _ 9 tt _ λ k. (f, opened e (omega (arith, eqb-false s.left 0 h)) k)
+      guarded s _ fault.NoBits tt _ λ h. guarded s _ fault.TargetsCross tt _ λ k. (f, opened e (omega (arith, eqb-false s.left 0 h)) k)
   whole_view s i f (suc (suc zero)) e =
-      guarded s _ 10 tt _ λ h. guarded s _ 8 tt _ λ k. (f, matched e (ltb-false _ _ k) h)
-  whole_view s i f (suc (suc (suc n))) e = guarded s _ 5 tt _ λ h. (f, defaulted e h)
+      guarded s _ fault.ShortMatches tt _ λ h. guarded s _ fault.NoBits tt _ λ k. (f, matched e (ltb-false _ _ k) h)
+  whole_view s i f (suc (suc (suc n))) e = guarded s _ fault.AfterDefault tt _ λ h. (f, defaulted e h)
 
   on_view : (s : State) (r : Fetched) → m.fetch s.at ≡ r → View s (step_on m s r)
   on_view s (Whole i) f = whole_view s i f i.opcode refl
   on_view s CutOpcode f = omega arith
-  on_view s (CutOperand op) f = guarded s _ 5 tt _ λ _. omega arith
+  on_view s (CutOperand op) f = guarded s _ fault.AfterDefault tt _ λ _. omega arith
 
   pub view : (s : State) → View s (step m s)
   unfolding step
-  view s = guarded s _ 2 tt _ λ _. guarded s _ 3 tt _ λ _. on_view s (m.fetch s.at) refl
+  view s = guarded s _ fault.MapEnds tt _ λ _. guarded s _ fault.PastTarget tt _ λ _. on_view s (m.fetch s.at) refl
 
   -- ---- an accepted run, without fuel
 
@@ -112,9 +116,8 @@ module _ (m : Map) where
       → (o : Outcome) → View s o → after k o ≡ Accepted c d → Accepts s (listed l o) c d
   accepts_on s k l ih (Next i s') v h = more v.0 v.1 (ih s' h)
   accepts_on {c} {d} s k l ih (Done i c' d') v h =
-      let e : c' ≡ c = cc in
-      let q : d' ≡ d = cc in
-      rw (← e, ← q) (last v)
+      let e = accepted-same h in
+      rw (← e.0, ← e.1) (last v)
   accepts_on s k l ih (Refuse n) v h = let z : ◌≡◌ {A = ℕ} 0 1 = cc in absurd (omega arith)
 
   pub accepts : {c d : ℕ} (f : ℕ) (s : State) → run m f s ≡ Accepted c d → Accepts s (reads m f s) c d

@@ -8,12 +8,14 @@ use native.Mathlib.Omega.{arith}
 use lib.Dec.{eqb}
 use borrow.Author.Tests.{ne_eqb, eqb-true}
 use Rattle.asmap_program.specs.Widths.{is_width, at_width}
+use Rattle.refusals.specs.declared.Refusal.{Refusal}
+use Rattle.refusals.specs.declared.Refusal.TheVariants as refusal
 
-pub at_width_lem : {A : Type 0} (w : ℕ) (refused : ℕ → A) (answer : A) → is_width w ≡ true → at_width w refused answer ≡ answer
+pub at_width_lem : {A : Type 0} (w : ℕ) (refused : Refusal → A) (answer : A) → is_width w ≡ true → at_width w refused answer ≡ answer
 unfolding at_width
 at_width_lem w refused answer e = rw e
 
-pub no_width : {A : Type 0} (w : ℕ) (refused : ℕ → A) (answer : A) → is_width w ≡ false → at_width w refused answer ≡ refused 18
+pub no_width : {A : Type 0} (w : ℕ) (refused : Refusal → A) (answer : A) → is_width w ≡ false → at_width w refused answer ≡ refused refusal.Width
 unfolding at_width
 no_width w refused answer e = rw e
 
