@@ -1,5 +1,6 @@
 pub mod BitLaws
 pub mod RowLaws
+pub mod Readings
 pub mod CodeLaws
 pub mod RoundTrip
 pub mod Inside

@@ -19,6 +19,7 @@ use Rattle.asmap_codes.specs.Code.{tail, code}
 use Rattle.asmap_codes.specs.Encode.{encode, encode_of}
 use Rattle.asmap_codes.proofs.BitLaws.{AllBits, number_lt, number-below, bits-take}
 use Rattle.asmap_codes.specs.Reading.{Cut, Value}
+use Rattle.asmap_codes.proofs.Readings.{value-same}
 
 pub length_high : (n x : ℕ) → length (high n x) ≡ n
 length_high zero x = refl
@@ -78,7 +79,7 @@ pub tail_read : (s v at : ℕ) (bs : List ℕ) (y n : ℕ) → tail s v at bs �
 tail_read s v at bs y n e = go (dec_le s (length bs))
   where
     go : Dec (s ≤ length bs) → (y ≡ v + number (take s bs)) × (n ≡ at + s) × (s ≤ length bs)
-    go (yes l) = let q = rw (le-leb s (length bs) l) at e in (cc, cc, l)
+    go (yes l) = let q = value-same (rw (le-leb s (length bs) l) at e) in (sym q.0, sym q.1, l)
     go (no g) = let q = rw (lt-leb s (length bs) (omega arith)) at e in let z : ◌≡◌ {A = ℕ} 0 1 = cc in absurd (omega arith)
 
 -- s bits of bs, read as a number and written again
