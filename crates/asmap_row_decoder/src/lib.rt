@@ -7,7 +7,7 @@ ghost use Rattle.asmap_codes.specs.Bits.{map_bits, number, low};
 ghost use Rattle.asmap_codes.specs.Row.{type_row, asn_row, match_row, jump_row, operand_row, span};
 ghost use Rattle.asmap_codes.specs.models.Grown.{slow, grown};
 ghost use Rattle.asmap_codes.specs.Code.{pick, code_at};
-ghost use Rattle.asmap_codes.specs.declared.Code.TheVariants.{Value, Cut};
+ghost use Rattle.asmap_codes.specs.Reading.{Value, Cut};
 ghost use Rattle.asmap_window.specs.models.Window.{Window};
 ghost use Rattle.asmap_row_decoder.specs.models.InWindow.{Holds, code_in, row_in, Stopped, ones_of};
 

@@ -5,7 +5,7 @@ ghost use Rattle.std.specs.Prelude.{◌≡◌, ℕ, ◌+◌, ◌*◌, ◌≤◌,
 ghost use Rattle.std.proofs.lemmas.List.Edits.{sets};
 ghost use Rattle.asmap_program.specs.Map.{limit};
 ghost use Rattle.asmap_program.specs.Check.{check, unpacked};
-ghost use Rattle.asmap_program.specs.declared.Verdict.TheVariants.{Accepted};
+ghost use Rattle.asmap_program.specs.Verdict.{Accepted};
 ghost use Rattle.asmap_codes.specs.Instruction.{map_of};
 ghost use Rattle.asmap_records.specs.Record.{record_of, records_of};
 ghost use Rattle.asmap_records.specs.Output.{Hands};
