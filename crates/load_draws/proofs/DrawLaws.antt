@@ -12,6 +12,7 @@ use borrow.Author.Tests.{eq-eqb, ne_eqb}
 use lib.Bits.{bit_xor, xor_add_and, and_le_l, and_le_r, xor_lt}
 use Rattle.load_draws.specs.Draw.{up, down, next, draw, seeded_by, drawn_after}
 use Rattle.load_draws.specs.declared.Generator.{Generator}
+use Rattle.refusals.specs.declared.Refusal.{Refusal}
 use Rattle.refusals.specs.declared.Refusal.TheVariants as refusal
 use Rattle.std.specs.Prelude.{Ok, Err}
 
@@ -30,15 +31,15 @@ pub started : (s : ℕ) (g : Generator) → seeded_by s ≡ Ok g → (s ≢ 0) �
 started s g e = go (ℕ_discrete s 0)
   where
     go : Dec (s ≡ 0) → (s ≢ 0) × (g.state ≡ s)
-    go (yes z) = let q : Err refusal.Load ≡ Ok g = sym (seeded-zero s z) ∙ e in let y : ◌≡◌ {A = ℕ} 0 1 = cc in absurd (omega arith)
-    go (no z) = let q : Ok (record { state = s }) ≡ Ok g = sym (seeded-some s z) ∙ e in (z, cc)
+    go (yes z) = let q = sym (seeded-zero s z) ∙ e in cc
+    go (no z) = let q = sym (seeded-some s z) ∙ e in (z, cc)
 
-pub not_started : (s n : ℕ) → seeded_by s ≡ Err n → (s ≡ 0) × (n ≡ 20)
-not_started s n e = go (ℕ_discrete s 0)
+pub not_started : (s : ℕ) (r : Refusal) → seeded_by s ≡ Err r → (s ≡ 0) × (r ≡ refusal.Load)
+not_started s r e = go (ℕ_discrete s 0)
   where
-    go : Dec (s ≡ 0) → (s ≡ 0) × (n ≡ 20)
-    go (yes z) = let q : Err refusal.Load ≡ Err n = sym (seeded-zero s z) ∙ e in (z, cc)
-    go (no z) = let q : Ok (record { state = s }) ≡ Err n = sym (seeded-some s z) ∙ e in let y : ◌≡◌ {A = ℕ} 0 1 = cc in absurd (omega arith)
+    go : Dec (s ≡ 0) → (s ≡ 0) × (r ≡ refusal.Load)
+    go (yes z) = let q = sym (seeded-zero s z) ∙ e in (z, cc)
+    go (no z) = let q = sym (seeded-some s z) ∙ e in cc
 
 -- a draw from a plain number
 pub drawn-zero : (s : ℕ) → s ≡ 0 → drawn_after s ≡ Err refusal.Load

@@ -44,21 +44,20 @@ impl Generator {
         ensures value { result ≡ record { state = next self.state } }
         ensures some { self.state ≢ 0 → result.state ≢ 0 }
     {
-        let s = self.state;
-        let s = s ^ (s << 13);
-        let s = s ^ (s >> 7);
-        let s = s ^ (s << 17);
-        Generator { state: s }
+        let mut state = self.state;
+        state ^= state << 13;
+        state ^= state >> 7;
+        state ^= state << 17;
+        Generator { state }
     }
 }
 
 // The draw after s, for callers who hold the seed, and then what was drawn, as a plain number: the start seeded with s, and its next draw. Refusal
 // 20 for 0, which no draw is.
+#[tactic(auto, unfolding(crate::specs::Draw::seeded_by, crate::specs::Draw::drawn_after))]
 pub fn next_draw(s: u64) -> Result<u64, Refusal>
     ensures value { result ≡ drawn_after s }
     ensures some { (n : ℕ) → result ≡ Ok n → n ≢ 0 }
 {
-    let generator = Generator::seeded(s)?;
-    let drawn = generator.next();
-    Ok(drawn.state)
+    Ok(Generator::seeded(s)?.next().state)
 }
