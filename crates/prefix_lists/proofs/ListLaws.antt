@@ -5,6 +5,7 @@ use Prim.Native.Nat.{ℕ, zero, suc, ◌+◌, ◌-◌, ◌%◌, ◌≤◌, ◌<�
 use mathlib.Core.Bool.{Bool, true, false}
 use mathlib.Core.Path.{◌≡◌, refl, sym, subst, ◌∙◌}
 use mathlib.Core.List.{List}
+use mathlib.Core.Logic.{◌⊎◌, inl, inr}
 use native.Mathlib.Nat.{add-suc}
 use native.Mathlib.Omega.{arith}
 use lib.Dec.{leb}
@@ -23,18 +24,14 @@ use Rattle.refusals.specs.declared.Refusal.TheVariants as refusal
 -- ---- a list that is not refused
 
 -- a refusal is not "listed"
-refused : (n : ℕ) → Err n ≡ Listed → ⊥
-refused n e = subst told e tt
-  where
-    told : Result (Unit {0}) Refusal → Type 0
-    told Listed = ⊥
-    told (Err n) = Unit {0}
+refused : (r : Refusal) → Err r ≡ Listed → ⊥
+refused r e = cc
 
 -- a test that a listed one passed, and what was said later
-needed : (b : Bool) (n : ℕ) (later : Result (Unit {0}) Refusal) → need b n later ≡ Listed → (b ≡ true) × (later ≡ Listed)
+needed : (b : Bool) (r : Refusal) (later : Result (Unit {0}) Refusal) → need b r later ≡ Listed → (b ≡ true) × (later ≡ Listed)
 unfolding need
-needed true n later h = (refl, h)
-needed false n later h = absurd (refused n h)
+needed true r later h = (refl, h)
+needed false r later h = absurd (refused r h)
 
 -- a number that passes the test
 number : (n : ℕ) → is_number n ≡ true → Number n
@@ -57,8 +54,8 @@ judged_from : (w : ℕ) (l : List ℕ) (n i : ℕ) (later : Result (Unit {0}) Re
 unfolding judge_from
 judged_from w l zero i later h = (λ k d. absurd (omega (arith, d)), h)
 judged_from w l (suc n) i later h =
-    let a = needed _ 21 _ h in
-    let b = needed _ 22 _ a.1 in
+    let a = needed _ refusal.Prefix _ h in
+    let b = needed _ refusal.Number _ a.1 in
     let r = judged_from w l n (suc i) later b.1 in
     (front w l n i (a.0, b.0) r.0, r.1)
 
@@ -71,12 +68,12 @@ pub record Judgement (w : ℕ) (l : List ℕ) (given : ℕ) : Type 0 where
 pub judged : (w : ℕ) (l : List ℕ) (given : ℕ) → judge w l given ≡ Listed → Judgement w l given
 unfolding judge
 judged w l given e =
-    let a = needed _ 21 _ e in
+    let a = needed _ refusal.Prefix _ e in
     let r = judged_from w l (count_of l) 0 _ a.1 in
     record {
       whole = eqb-true (length l % 24) 0 a.0;
       each = λ i d. subst (Passes w l) (omega arith) (r.0 i d);
-      last = (needed _ 22 _ r.1).0;
+      last = (needed _ refusal.Number _ r.1).0;
     }
 
 -- and a list of which all of it is so is not refused
@@ -142,30 +139,31 @@ judged_rising w l given bytes e = let j = judged w l given e in (rise w l bytes 
 
 -- ---- a list that is refused
 
--- listed, or refused with 21 or 22
+-- for its prefixes or for a number
+abbrev pub PrefixOrNumber : Refusal → Type 0
+PrefixOrNumber r = (r ≡ refusal.Prefix) ⊎ (r ≡ refusal.Number)
+
+-- listed, or refused for one of the two
 abbrev Told : Result (Unit {0}) Refusal → Type 0
 Told Listed = Unit {0}
-Told (Err n) = (21 ≤ n) × (n ≤ 22)
+Told (Err r) = PrefixOrNumber r
 
--- a test that refuses with 21 or 22
-need_told : (b : Bool) (n : ℕ) (later : Result (Unit {0}) Refusal) → (21 ≤ n) × (n ≤ 22) → Told later → Told (need b n later)
+-- a test that refuses for one of the two
+need_told : (b : Bool) (r : Refusal) (later : Result (Unit {0}) Refusal) → PrefixOrNumber r → Told later → Told (need b r later)
 unfolding need
-need_told true n later h t = t
-need_told false n later h t = h
+need_told true r later h t = t
+need_told false r later h t = h
 
 -- the tests of the records
 from_told : (w : ℕ) (l : List ℕ) (n i : ℕ) (later : Result (Unit {0}) Refusal) → Told later → Told (judge_from w l n i later)
 unfolding judge_from
 from_told w l zero i later t = t
-from_told w l (suc n) i later t =
-    need_told _ 21 _ (omega arith, omega arith) (need_told _ 22 _ (omega arith, omega arith) (from_told w l n (suc i) later t))
+from_told w l (suc n) i later t = need_told _ _ _ (inl refl) (need_told _ _ _ (inr refl) (from_told w l n (suc i) later t))
 
--- a refusal is 21 or 22
-pub judged_refused : (w : ℕ) (l : List ℕ) (given n : ℕ) → judge w l given ≡ Err n → (21 ≤ n) × (n ≤ 22)
+-- a refusal is for the prefixes, 21, or for a number, 22
+pub judged_refused : (w : ℕ) (l : List ℕ) (given : ℕ) (r : Refusal) → judge w l given ≡ Err r → PrefixOrNumber r
 unfolding judge
-judged_refused w l given n e =
-    subst Told e
-    (need_told _ 21 _ (omega arith, omega arith) (from_told w l (count_of l) 0 _ (need_told (is_number given) 22 Listed (omega arith, omega arith) tt)))
+judged_refused w l given r e = subst Told e (need_told _ _ _ (inl refl) (from_told w l (count_of l) 0 _ (need_told (is_number given) _ Listed (inr refl) tt)))
 
 -- ---- a greater width
 
