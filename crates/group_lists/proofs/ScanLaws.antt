@@ -15,7 +15,9 @@ use Rattle.group_lists.specs.Scan.{in_front, scanned, scan_of}
 use Rattle.group_lists.proofs.Scans.{front-first, front-next, front_most, front_here, front_on, has_front}
 use Rattle.group_lists.specs.Scanned.{Hit, Missed}
 use Rattle.refusals.specs.declared.Refusal.TheVariants as refusal
-use Rattle.std.specs.Prelude.{Err}
+use Rattle.std.specs.Prelude.{Result, Ok, Err, Option, Some, None}
+use Rattle.refusals.specs.declared.Refusal.{Refusal}
+use Rattle.group_lists.specs.declared.Scan.{Scan}
 
 module _ (g : ℕ) (gs : List ℕ) where
   pub scan_refused : 4096 < length gs → scan_of g gs ≡ Err refusal.TooMany
@@ -31,18 +33,32 @@ module _ (g : ℕ) (gs : List ℕ) where
   scanned_missed h = rw (has_front g gs, le-ltb (in_front g gs) (length gs) h)
 
 -- what a scan says is so
+abbrev hit_of : Result Scan Refusal → Option ℕ
+hit_of (Ok scan) = scan.hit
+hit_of (Err n) = None
+
+abbrev read_of : Result Scan Refusal → ℕ
+read_of (Ok scan) = scan.read
+read_of (Err n) = 0
+
+pub hit_or_missed : {A : Type 0} (p m n : ℕ) → Hit p m ≡ Missed n → A
+hit_or_missed p m n e = let q : Some p ≡ None = ap hit_of e in absurd cc
+
+pub same_hit : (p q m n : ℕ) → Hit p m ≡ Hit q n → (p ≡ q) × (m ≡ n)
+same_hit p q m n e = let s : Some p ≡ Some q = ap hit_of e in (cc, ap read_of e)
+
 module _ (x y z : ℕ) where
   if_hit : (b : Bool) (p n : ℕ) → cond b (Hit x y) (Missed z) ≡ Hit p n → b ≡ true
   if_hit true p n e = refl
-  if_hit false p n e = let q : ◌≡◌ {A = ℕ} 0 1 = cc in absurd (omega arith)
+  if_hit false p n e = hit_or_missed p n z (sym e)
 
   if_missed : (b : Bool) (n : ℕ) → cond b (Hit x y) (Missed z) ≡ Missed n → b ≡ false
-  if_missed true n e = let q : ◌≡◌ {A = ℕ} 0 1 = cc in absurd (omega arith)
+  if_missed true n e = hit_or_missed x y n e
   if_missed false n e = refl
 
-  never_refused : (b : Bool) (n : ℕ) → cond b (Hit x y) (Missed z) ≡ Err n → ⊥
-  never_refused true n e = let q : ◌≡◌ {A = ℕ} 0 1 = cc in omega arith
-  never_refused false n e = let q : ◌≡◌ {A = ℕ} 0 1 = cc in omega arith
+  never_refused : (b : Bool) (n : Refusal) → cond b (Hit x y) (Missed z) ≡ Err n → ⊥
+  never_refused true n e = cc
+  never_refused false n e = cc
 
 module _ (g : ℕ) (gs : List ℕ) (few : length gs ≤ 4096) where
   pub hit_has : (p n : ℕ) → scan_of g gs ≡ Hit p n → has g gs ≡ true
@@ -51,7 +67,7 @@ module _ (g : ℕ) (gs : List ℕ) (few : length gs ≤ 4096) where
   pub missed_has : (n : ℕ) → scan_of g gs ≡ Missed n → has g gs ≡ false
   missed_has n e = if_missed (in_front g gs) (in_front g gs + 1) (length gs) (has g gs) n (sym (scan-taken g gs few) ∙ e)
 
-  pub not_refused : (n : ℕ) → scan_of g gs ≡ Err n → ⊥
+  pub not_refused : (n : Refusal) → scan_of g gs ≡ Err n → ⊥
   not_refused n e = never_refused (in_front g gs) (in_front g gs + 1) (length gs) (has g gs) n (sym (scan-taken g gs few) ∙ e)
 
 -- the group stands where the hit is

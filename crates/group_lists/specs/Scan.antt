@@ -27,6 +27,4 @@ scan_of g occupied = unless (too_many (length occupied)) (scanned g occupied)
 
 -- a scan that hit read no group past the hit: with any others behind it, it would have said the same
 unfoldable pub Unread : ℕ → List ℕ → Result Scan Refusal → Type 0
-Unread g occupied (Hit place read) = (others : List ℕ) → scanned g (take read occupied ++ others) ≡ Hit place read
-Unread g occupied (Missed read) = Unit {0}
-Unread g occupied (Err n) = Unit {0}
+Unread g occupied result = (place read : ℕ) → result ≡ Hit place read → (others : List ℕ) → scanned g (take read occupied ++ others) ≡ Hit place read

@@ -2,7 +2,7 @@
 use Rattle.std.proofs.Common.{◌≡◌, ◌∙◌, ◌<◌, sym, ap, arith, length}
 use Rattle.group_lists.specs.Scan.{in_front, Unread}
 use Rattle.group_lists.proofs.Scans.{front_most}
-use Rattle.group_lists.proofs.ScanLaws.{scan-taken, scanned_hit, scanned_missed, hit-unread}
+use Rattle.group_lists.proofs.ScanLaws.{scan-taken, scanned_hit, scanned_missed, same_hit, hit-unread}
 use Rattle.group_lists.proofs.scan_occupied.Goals as goal
 use Rattle.group_lists.specs.Scanned.{Missed}
 
@@ -21,7 +21,9 @@ returns-then-place-occupied-clause-unread c =
     let gs = c.args.occupied.now in
     let e = c.place_of-place.ensures in
     let h : in_front g gs < length gs = omega (arith, e, c.if-place-occupied.true) in
-    rw e (λ others. hit-unread g gs others h)
+    λ place read q others.
+    let s = same_hit _ place _ read q in
+    rw (← s.0, ← s.1, e) (hit-unread g gs others h)
 
 pub returns-clause-value : goal.returns-clause-value
 returns-clause-value c =
