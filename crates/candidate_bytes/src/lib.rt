@@ -14,9 +14,7 @@ fn same_front(a: &[u8], b: &[u8], n: usize) -> bool
     requires { (n ≤ length a.now) × (n ≤ length b.now) }
     ensures { result ≡ same (take n a.now) (take n b.now) }
 {
-    let mut i = n;
-    while 0 < i {
-        i -= 1;
+    for i in (0..n).rev() {
         if a[i] != b[i] {
             return false;
         }
@@ -54,10 +52,7 @@ pub fn is_mapped(candidate: &[u8]) -> bool
     ensures { result ≡ mapped candidate.now }
 {
     // The four bytes come first: other addresses hardly ever begin with zeros, and a group by its prefix reads the same bytes.
-    if byte_numbers::half_at(candidate, 2) != 0 {
-        return false;
-    }
-    byte_numbers::word_at(candidate, 6) == MAPPED_WORD
+    byte_numbers::half_at(candidate, 2) == 0 && byte_numbers::word_at(candidate, 6) == MAPPED_WORD
 }
 
 // Whether bytes are a candidate: 20 of them, family 6, or 4 with the mapped form, and a zero. Of family 4 two words hold the
@@ -72,8 +67,5 @@ pub fn is_candidate(candidate: &[u8]) -> bool
     if byte_numbers::word_at(candidate, 0) == 4 {
         return byte_numbers::word_at(candidate, 6) == MAPPED_WORD;
     }
-    if candidate[1] != 0 {
-        return false;
-    }
-    candidate[0] == 6
+    candidate[1] == 0 && candidate[0] == 6
 }

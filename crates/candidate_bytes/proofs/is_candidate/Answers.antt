@@ -8,5 +8,5 @@ returns-then-word_at-eq4 c =
     let v = c.word_at-then-word_at-eq4 in
     sym (four-valid c.args.candidate.now (omega arith) c.word_at.result c.word_at.ensures c.if-word_at-eq4.true v.result v.ensures)
 
-pub returns : goal.returns
-returns c = sym (other-valid c.args.candidate.now (omega arith) c.word_at.result c.word_at.ensures c.if-word_at-eq4.false (omega arith))
+pub returns-then-candidate-eq0 : goal.returns-then-candidate-eq0
+returns-then-candidate-eq0 c = sym (other-valid c.args.candidate.now (omega arith) c.word_at.result c.word_at.ensures c.if-word_at-eq4.false (omega arith))

@@ -5,6 +5,3 @@ use Rattle.candidate_bytes.proofs.same_front.Given as goal
 
 abbrev pub invariant-loop-i : goal.invariant-loop-i
 invariant-loop-i l = (l.i ≤ length l.a) × (l.i ≤ length l.b) × (same (take l.n l.a) (take l.n l.b) ≡ same (take l.i l.a) (take l.i l.b))
-
-abbrev pub decreases-loop-i : goal.decreases-loop-i
-decreases-loop-i l = l.i
