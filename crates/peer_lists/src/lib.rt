@@ -27,16 +27,10 @@ fn four_candidates(candidates: &[u8], i: usize) -> bool
     requires { i + 4 ≤ length candidates.now / 20 }
     ensures { result ≡ all_valid (take 4 (drop i (candidates_of candidates.now))) }
 {
-    if !is_candidate(candidate_at(candidates, i)) {
-        return false;
-    }
-    if !is_candidate(candidate_at(candidates, i + 1)) {
-        return false;
-    }
-    if !is_candidate(candidate_at(candidates, i + 2)) {
-        return false;
-    }
-    is_candidate(candidate_at(candidates, i + 3))
+    is_candidate(candidate_at(candidates, i))
+        && is_candidate(candidate_at(candidates, i + 1))
+        && is_candidate(candidate_at(candidates, i + 2))
+        && is_candidate(candidate_at(candidates, i + 3))
 }
 
 // Whether each from a place on is one, one by one.
@@ -44,12 +38,10 @@ fn candidates_from(candidates: &[u8], from: usize) -> bool
     requires { from ≤ length candidates.now / 20 }
     ensures { result ≡ all_valid (drop from (candidates_of candidates.now)) }
 {
-    let mut i = from;
-    while i < candidates.len() / 20 {
+    for i in from..candidates.len() / 20 {
         if !is_candidate(candidate_at(candidates, i)) {
             return false;
         }
-        i += 1;
     }
     true
 }
@@ -60,14 +52,12 @@ pub fn all_candidates(candidates: &[u8]) -> bool
     ensures { result ≡ all_valid (candidates_of candidates.now) }
 {
     let n = candidates.len() / 20;
-    let mut i: usize = 0;
-    while 4 <= n - i {
-        if !four_candidates(candidates, i) {
+    for turn in 0..n / 4 {
+        if !four_candidates(candidates, 4 * turn) {
             return false;
         }
-        i += 4;
     }
-    candidates_from(candidates, i)
+    candidates_from(candidates, n / 4 * 4)
 }
 
 // ---- why a list is refused
@@ -79,14 +69,11 @@ pub fn list_refusal(candidates: &[u8], occupied: &[u64]) -> Option<Refusal>
     if candidates.len() % 20 != 0 {
         return Some(Refusal::Candidate);
     }
-    if MAX_CANDIDATES < candidates.len() / 20 {
+    if MAX_CANDIDATES < candidates.len() / 20 || MAX_CANDIDATES < occupied.len() {
         return Some(Refusal::TooMany);
     }
-    if MAX_CANDIDATES < occupied.len() {
-        return Some(Refusal::TooMany);
+    if !all_candidates(candidates) {
+        return Some(Refusal::Candidate);
     }
-    if all_candidates(candidates) {
-        return None;
-    }
-    Some(Refusal::Candidate)
+    None
 }

@@ -1,13 +1,12 @@
 -- `all_candidates` is `all_valid`: four valid candidates leave it to those after them.
-use Rattle.std.proofs.Common.{◌∙◌, refl, sym, arith}
+use Rattle.std.proofs.Common.{◌≡◌, ◌∙◌, ◌+◌, ◌*◌, sym, arith}
 use Rattle.peer_lists.specs.Candidates.{candidates_of}
 use Rattle.peer_lists.proofs.Lists.{part-valid}
 use Rattle.peer_lists.proofs.all_candidates.Goals as goal
 
-pub loop-i-preserved : goal.loop-i-preserved
-loop-i-preserved c =
-    let all = candidates_of c.args.candidates.now in (
-      omega arith,
-      refl,
-      c.loop-i.invariant.2 ∙ part-valid all c.loop-i.i 4 (sym c.four_candidates.ensures ∙ c.if-not-four_candidates.false),
-    )
+pub loop-turn-preserved : goal.loop-turn-preserved
+loop-turn-preserved c =
+    let all = candidates_of c.args.candidates.now in
+    let i = 4 * c.loop-turn.turn in
+    let e : 4 * (c.loop-turn.turn + 1) ≡ i + 4 = omega arith in
+    (c.loop-turn.invariant.0, rw e (c.loop-turn.invariant.1 ∙ part-valid all i 4 (sym c.four_candidates.ensures ∙ c.if-not-four_candidates.false)))

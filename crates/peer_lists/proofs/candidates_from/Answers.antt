@@ -8,4 +8,4 @@ pub returns : goal.returns
 returns c =
     let bytes = c.args.candidates.now in
     let n = length_candidates bytes in
-    sym (c.loop-i.invariant.1 ∙ valid-done (candidates_of bytes) c.loop-i.i (omega arith))
+    sym (c.loop-i.invariant ∙ valid-done (candidates_of bytes) c.loop-i.i (omega arith))
