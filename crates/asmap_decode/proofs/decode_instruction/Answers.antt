@@ -34,32 +34,32 @@ returns-in_default c =
     sym (instruction_at_lem a.map.now a.at (omega arith) _ (fetch-cut a.map.now a.at first))
 
 pub operand_window-rest-requires : goal.operand_window-rest-requires
-operand_window-rest-requires c = (c.window-w.ensures, opcode c.args.map.now c.args.at _ _ _ c.window-w.ensures c.type_in-first.ensures c.in-Value.is)
+operand_window-rest-requires c = (c.window-w.ensures, opcode c.args.map.now c.args.at _ _ _ c.window-w.ensures c.type_in-first.ensures c.in-Some.is)
 
 pub operand_in-second-requires : goal.operand_in-second-requires
 operand_in-second-requires c =
     let a = c.args in
-    let first = opcode a.map.now a.at _ _ _ c.window-w.ensures c.type_in-first.ensures c.in-Value.is in
+    let first = opcode a.map.now a.at _ _ _ c.window-w.ensures c.type_in-first.ensures c.in-Some.is in
     omega (arith, (value_at a.map.now a.at type_row _ _ (lit< tt) first).inside)
 
 pub returns-in_default-second : goal.returns-in_default-second
 returns-in_default-second c =
     let a = c.args in
-    let first = opcode a.map.now a.at _ _ _ c.window-w.ensures c.type_in-first.ensures c.in-Value.is in
-    let second = operand a.map.now c.in-Value.opcode _ _ _ _ c.operand_window-rest.ensures c.operand_in-second.ensures c.in_default-second.is in
+    let first = opcode a.map.now a.at _ _ _ c.window-w.ensures c.type_in-first.ensures c.in-Some.is in
+    let second = operand a.map.now c.in-Some.opcode _ _ _ _ c.operand_window-rest.ensures c.operand_in-second.ensures c.in_default-second.is in
     sym (instruction_at_lem a.map.now a.at (omega arith) _ (fetch_operand a.map.now a.at _ _ first _ second))
 
 pub overflow_sub-result : goal.overflow_sub-result
 overflow_sub-result c =
     let a = c.args in
-    let first = opcode a.map.now a.at _ _ _ c.window-w.ensures c.type_in-first.ensures c.in-Value.is in
-    let second = operand a.map.now c.in-Value.opcode _ _ _ _ c.operand_window-rest.ensures c.operand_in-second.ensures c.in-Value-second.is in
+    let first = opcode a.map.now a.at _ _ _ c.window-w.ensures c.type_in-first.ensures c.in-Some.is in
+    let second = operand a.map.now c.in-Some.opcode _ _ _ _ c.operand_window-rest.ensures c.operand_in-second.ensures c.in-Some-second.is in
     let s = (laws a.map.now).stands a.at _ (fetch_operand a.map.now a.at _ _ first _ second) in
     omega (arith, s.some)
 
 pub returns : goal.returns
 returns c =
     let a = c.args in
-    let first = opcode a.map.now a.at _ _ _ c.window-w.ensures c.type_in-first.ensures c.in-Value.is in
-    let second = operand a.map.now c.in-Value.opcode _ _ _ _ c.operand_window-rest.ensures c.operand_in-second.ensures c.in-Value-second.is in
+    let first = opcode a.map.now a.at _ _ _ c.window-w.ensures c.type_in-first.ensures c.in-Some.is in
+    let second = operand a.map.now c.in-Some.opcode _ _ _ _ c.operand_window-rest.ensures c.operand_in-second.ensures c.in-Some-second.is in
     sym (instruction_at_lem a.map.now a.at (omega arith) _ (fetch_operand a.map.now a.at _ _ first _ second))

@@ -32,4 +32,4 @@ pub returns : goal.returns
 returns c =
     let a = c.args in
     let row : Row = record { least = a.least; sizes = a.sizes.now } in
-    sym (read_at a.map.now a.at row (omega arith) _ _ (read a.map.now a.at _ row _ _ c.requires.0 c.window-w.ensures c.decode_bits-got.ensures c.in-Value.is))
+    sym (read_at a.map.now a.at row (omega arith) _ _ (read a.map.now a.at _ row _ _ c.requires.0 c.window-w.ensures c.decode_bits-got.ensures c.in-Some.is))
