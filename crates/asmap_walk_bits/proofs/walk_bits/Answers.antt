@@ -39,23 +39,23 @@ pub returns-in_default : goal.returns-in_default
 returns-in_default c = c.abort.ensures ∙ cut_opcode c.walk.invariant.0 (typed c.args.map.now c.walk.walker.at _ _ _ c.window-w.ensures c.type_in-first.ensures c.in_default.is)
 
 pub operand_window-rest-requires : goal.operand_window-rest-requires
-operand_window-rest-requires c = (c.window-w.ensures, typed c.args.map.now c.walk.walker.at _ _ _ c.window-w.ensures c.type_in-first.ensures c.in-Value.is)
+operand_window-rest-requires c = (c.window-w.ensures, typed c.args.map.now c.walk.walker.at _ _ _ c.window-w.ensures c.type_in-first.ensures c.in-Some.is)
 
 pub operand_in-second-requires : goal.operand_in-second-requires
 operand_in-second-requires c =
     let v = c.walk.invariant.0 in
-    omega (arith, (opcode_read_lem v (typed c.args.map.now c.walk.walker.at _ _ _ c.window-w.ensures c.type_in-first.ensures c.in-Value.is)).0, v.fits)
+    omega (arith, (opcode_read_lem v (typed c.args.map.now c.walk.walker.at _ _ _ c.window-w.ensures c.type_in-first.ensures c.in-Some.is)).0, v.fits)
 
 pub returns-in_default-second : goal.returns-in_default-second
 returns-in_default-second c =
-    let o = typed c.args.map.now c.walk.walker.at _ _ _ c.window-w.ensures c.type_in-first.ensures c.in-Value.is in
-    let x = operand c.args.map.now c.in-Value.opcode _ _ _ _ c.operand_window-rest.ensures c.operand_in-second.ensures c.in_default-second.is in
+    let o = typed c.args.map.now c.walk.walker.at _ _ _ c.window-w.ensures c.type_in-first.ensures c.in-Some.is in
+    let x = operand c.args.map.now c.in-Some.opcode _ _ _ _ c.operand_window-rest.ensures c.operand_in-second.ensures c.in_default-second.is in
     c.abort-in_default-second.ensures ∙ cut_operand c.walk.invariant.0 o x
 
 pub overflow_add-count : goal.overflow_add-count
 overflow_add-count c =
     let v = c.walk.invariant.0 in
-    let t = taken v _ _ _ _ _ _ _ _ c.window-w.ensures c.type_in-first.ensures c.in-Value.is c.operand_window-rest.ensures c.operand_in-second.ensures c.in-Value-second.is in
+    let t = taken v _ _ _ _ _ _ _ _ c.window-w.ensures c.type_in-first.ensures c.in-Some.is c.operand_window-rest.ensures c.operand_in-second.ensures c.in-Some-second.is in
     let r = read t in omega (arith, r.start, r.near, v.few)
 
 -- ---- RETURN
@@ -63,7 +63,7 @@ overflow_add-count c =
 pub returns-in-0 : goal.returns-in-0
 returns-in-0 c =
     let v = c.walk.invariant.0 in
-    let t = taken v _ _ _ _ _ _ _ _ c.window-w.ensures c.type_in-first.ensures c.in-Value.is c.operand_window-rest.ensures c.operand_in-second.ensures c.in-Value-second.is in
+    let t = taken v _ _ _ _ _ _ _ _ c.window-w.ensures c.type_in-first.ensures c.in-Some.is c.operand_window-rest.ensures c.operand_in-second.ensures c.in-Some-second.is in
     c.finish.ensures ∙ returns_ends t c.in-0.is
 
 -- ---- JUMP
@@ -71,44 +71,44 @@ returns-in-0 c =
 pub returns-then-walker : goal.returns-then-walker
 returns-then-walker c =
     let v = c.walk.invariant.0 in
-    let t = taken v _ _ _ _ _ _ _ _ c.window-w.ensures c.type_in-first.ensures c.in-Value.is c.operand_window-rest.ensures c.operand_in-second.ensures c.in-Value-second.is in
+    let t = taken v _ _ _ _ _ _ _ _ c.window-w.ensures c.type_in-first.ensures c.in-Some.is c.operand_window-rest.ensures c.operand_in-second.ensures c.in-Some-second.is in
     c.abort-then-walker.ensures ∙ jump_ends t c.in-1.is (omega (arith, c.if-walker.true, c.walk.invariant.1))
 
 pub overflow_add-walker-then-bit-eq1 : goal.overflow_add-walker-then-bit-eq1
 overflow_add-walker-then-bit-eq1 c =
     let v = c.walk.invariant.0 in
-    let t = taken v _ _ _ _ _ _ _ _ c.window-w.ensures c.type_in-first.ensures c.in-Value.is c.operand_window-rest.ensures c.operand_in-second.ensures c.in-Value-second.is in
+    let t = taken v _ _ _ _ _ _ _ _ c.window-w.ensures c.type_in-first.ensures c.in-Some.is c.operand_window-rest.ensures c.operand_in-second.ensures c.in-Some-second.is in
     let r = read t in omega (arith, r.near)
 
 pub returns-then-end-walker : goal.returns-then-end-walker
 returns-then-end-walker c =
     let v = c.walk.invariant.0 in
-    let t = taken v _ _ _ _ _ _ _ _ c.window-w.ensures c.type_in-first.ensures c.in-Value.is c.operand_window-rest.ensures c.operand_in-second.ensures c.in-Value-second.is in
+    let t = taken v _ _ _ _ _ _ _ _ c.window-w.ensures c.type_in-first.ensures c.in-Some.is c.operand_window-rest.ensures c.operand_in-second.ensures c.in-Some-second.is in
     c.abort-then-end-walker.ensures
     ∙ jump_past t c.in-1.is (omega (arith, c.if-walker.false, c.walk.invariant.1)) (eq-eqb _ 1 (sym c.address_bit-bit.ensures ∙ c.if-bit-eq1.true)) (omega (arith, c.if-end-walker.true))
 
 pub walk-smaller-else-end-walker : goal.walk-smaller-else-end-walker
 walk-smaller-else-end-walker c =
     let v = c.walk.invariant.0 in
-    let t = taken v _ _ _ _ _ _ _ _ c.window-w.ensures c.type_in-first.ensures c.in-Value.is c.operand_window-rest.ensures c.operand_in-second.ensures c.in-Value-second.is in
+    let t = taken v _ _ _ _ _ _ _ _ c.window-w.ensures c.type_in-first.ensures c.in-Some.is c.operand_window-rest.ensures c.operand_in-second.ensures c.in-Some-second.is in
     let o = jump_onward t c.in-1.is true in omega (arith, o.0, o.1)
 
 pub walk-preserved-else-end-walker : goal.walk-preserved-else-end-walker
 walk-preserved-else-end-walker c =
     let v = c.walk.invariant.0 in
-    let t = taken v _ _ _ _ _ _ _ _ c.window-w.ensures c.type_in-first.ensures c.in-Value.is c.operand_window-rest.ensures c.operand_in-second.ensures c.in-Value-second.is in
+    let t = taken v _ _ _ _ _ _ _ _ c.window-w.ensures c.type_in-first.ensures c.in-Some.is c.operand_window-rest.ensures c.operand_in-second.ensures c.in-Some-second.is in
     (jump_goes t c.in-1.is (omega (arith, c.if-walker.false, c.walk.invariant.1)) true (eq-eqb _ 1 (sym c.address_bit-bit.ensures ∙ c.if-bit-eq1.true)), c.walk.invariant.1)
 
 pub walk-smaller-else-bit-eq1 : goal.walk-smaller-else-bit-eq1
 walk-smaller-else-bit-eq1 c =
     let v = c.walk.invariant.0 in
-    let t = taken v _ _ _ _ _ _ _ _ c.window-w.ensures c.type_in-first.ensures c.in-Value.is c.operand_window-rest.ensures c.operand_in-second.ensures c.in-Value-second.is in
+    let t = taken v _ _ _ _ _ _ _ _ c.window-w.ensures c.type_in-first.ensures c.in-Some.is c.operand_window-rest.ensures c.operand_in-second.ensures c.in-Some-second.is in
     let o = jump_onward t c.in-1.is false in omega (arith, o.0, o.1)
 
 pub walk-preserved-else-bit-eq1 : goal.walk-preserved-else-bit-eq1
 walk-preserved-else-bit-eq1 c =
     let v = c.walk.invariant.0 in
-    let t = taken v _ _ _ _ _ _ _ _ c.window-w.ensures c.type_in-first.ensures c.in-Value.is c.operand_window-rest.ensures c.operand_in-second.ensures c.in-Value-second.is in
+    let t = taken v _ _ _ _ _ _ _ _ c.window-w.ensures c.type_in-first.ensures c.in-Some.is c.operand_window-rest.ensures c.operand_in-second.ensures c.in-Some-second.is in
     (jump_goes t c.in-1.is (omega (arith, c.if-walker.false, c.walk.invariant.1)) false (ne_eqb _ 1 (λ z. c.if-bit-eq1.false (c.address_bit-bit.ensures ∙ z))), c.walk.invariant.1)
 
 -- ---- MATCH
@@ -116,26 +116,26 @@ walk-preserved-else-bit-eq1 c =
 pub match_length-length-requires : goal.match_length-length-requires
 match_length-length-requires c =
     let v = c.walk.invariant.0 in
-    let t = taken v _ _ _ _ _ _ _ _ c.window-w.ensures c.type_in-first.ensures c.in-Value.is c.operand_window-rest.ensures c.operand_in-second.ensures c.in-Value-second.is in
+    let t = taken v _ _ _ _ _ _ _ _ c.window-w.ensures c.type_in-first.ensures c.in-Some.is c.operand_window-rest.ensures c.operand_in-second.ensures c.in-Some-second.is in
     omega (arith, match_some t c.in-2.is)
 
 pub returns-then-walker-length : goal.returns-then-walker-length
 returns-then-walker-length c =
     let v = c.walk.invariant.0 in
-    let t = taken v _ _ _ _ _ _ _ _ c.window-w.ensures c.type_in-first.ensures c.in-Value.is c.operand_window-rest.ensures c.operand_in-second.ensures c.in-Value-second.is in
+    let t = taken v _ _ _ _ _ _ _ _ c.window-w.ensures c.type_in-first.ensures c.in-Some.is c.operand_window-rest.ensures c.operand_in-second.ensures c.in-Some-second.is in
     c.abort-then-walker-length.ensures
     ∙ match_ends t c.in-2.is (omega (arith, c.if-walker-length.true, c.match_length-length.ensures, v.room, c.walk.invariant.1))
 
 pub equal_front-front-requires : goal.equal_front-front-requires
 equal_front-front-requires c =
     let v = c.walk.invariant.0 in
-    let t = taken v _ _ _ _ _ _ _ _ c.window-w.ensures c.type_in-first.ensures c.in-Value.is c.operand_window-rest.ensures c.operand_in-second.ensures c.in-Value-second.is in
+    let t = taken v _ _ _ _ _ _ _ _ c.window-w.ensures c.type_in-first.ensures c.in-Some.is c.operand_window-rest.ensures c.operand_in-second.ensures c.in-Some-second.is in
     omega (arith, match_most t c.in-2.is, c.match_length-length.ensures)
 
 pub loop-left-init : goal.loop-left-init
 loop-left-init c =
     let v = c.walk.invariant.0 in
-    let t = taken v _ _ _ _ _ _ _ _ c.window-w.ensures c.type_in-first.ensures c.in-Value.is c.operand_window-rest.ensures c.operand_in-second.ensures c.in-Value-second.is in
+    let t = taken v _ _ _ _ _ _ _ _ c.window-w.ensures c.type_in-first.ensures c.in-Some.is c.operand_window-rest.ensures c.operand_in-second.ensures c.in-Some-second.is in
     let r = c.equal_front-front in
     let s = comparing_start t c.in-2.is _ c.match_length-length.ensures (omega (arith, c.if-walker-length.false, v.room, c.walk.invariant.1)) in
     let u = c.walk.walker.used in
@@ -145,14 +145,14 @@ loop-left-init c =
 pub walk-smaller-in-loop-left : goal.walk-smaller-in-loop-left
 walk-smaller-in-loop-left c =
     let v = c.walk.invariant.0 in
-    let t = taken v _ _ _ _ _ _ _ _ c.window-w.ensures c.type_in-first.ensures c.in-Value.is c.operand_window-rest.ensures c.operand_in-second.ensures c.in-Value-second.is in
+    let t = taken v _ _ _ _ _ _ _ _ c.window-w.ensures c.type_in-first.ensures c.in-Some.is c.operand_window-rest.ensures c.operand_in-second.ensures c.in-Some-second.is in
     let r = read t in omega (arith, r.start, r.near, c.loop-left.invariant.1.0)
 
 pub walk-preserved-in-loop-left : goal.walk-preserved-in-loop-left
 walk-preserved-in-loop-left c =
     let v = c.walk.invariant.0 in
-    let t = taken v _ _ _ _ _ _ _ _ c.window-w.ensures c.type_in-first.ensures c.in-Value.is c.operand_window-rest.ensures c.operand_in-second.ensures c.in-Value-second.is in
-    let l = comparing c.args.address.now c.args.width c.in-Value-second.operand c.walk.walker.used c.equal_front-front.result _ _ c.loop-left.invariant.0 in
+    let t = taken v _ _ _ _ _ _ _ _ c.window-w.ensures c.type_in-first.ensures c.in-Some.is c.operand_window-rest.ensures c.operand_in-second.ensures c.in-Some-second.is in
+    let l = comparing c.args.address.now c.args.width c.in-Some-second.operand c.walk.walker.used c.equal_front-front.result _ _ c.loop-left.invariant.0 in
     let s = c.loop-left.invariant.1 in
     let z : c.loop-left.left ≡ 0 = omega (arith, c.loop-left-test.false) in
     (match_goes t c.in-2.is l.room (all_equal l z) _ (omega (arith, l.place, z)) s.0 s.2, s.1 ∙ c.walk.invariant.1)
@@ -165,20 +165,20 @@ loop-left-preserved c = (equal_goes c.loop-left.invariant.0 c.loop-left-test.tru
 pub walk-smaller : goal.walk-smaller
 walk-smaller c =
     let v = c.walk.invariant.0 in
-    let t = taken v _ _ _ _ _ _ _ _ c.window-w.ensures c.type_in-first.ensures c.in-Value.is c.operand_window-rest.ensures c.operand_in-second.ensures c.in-Value-second.is in
+    let t = taken v _ _ _ _ _ _ _ _ c.window-w.ensures c.type_in-first.ensures c.in-Some.is c.operand_window-rest.ensures c.operand_in-second.ensures c.in-Some-second.is in
     let r = read t in omega (arith, r.start, r.near)
 
 pub walk-preserved : goal.walk-preserved
 walk-preserved c =
     let v = c.walk.invariant.0 in
-    let t = taken v _ _ _ _ _ _ _ _ c.window-w.ensures c.type_in-first.ensures c.in-Value.is c.operand_window-rest.ensures c.operand_in-second.ensures c.in-Value-second.is in
+    let t = taken v _ _ _ _ _ _ _ _ c.window-w.ensures c.type_in-first.ensures c.in-Some.is c.operand_window-rest.ensures c.operand_in-second.ensures c.in-Some-second.is in
     (default_goes t (omega arith) (omega arith) (omega arith), c.walk.invariant.1)
 
 pub returns : goal.returns
 returns c =
     let v = c.walk.invariant.0 in
-    let t = taken v _ _ _ _ _ _ _ _ c.window-w.ensures c.type_in-first.ensures c.in-Value.is c.operand_window-rest.ensures c.operand_in-second.ensures c.in-Value-second.is in
-    let l = comparing c.args.address.now c.args.width c.in-Value-second.operand c.walk.walker.used c.equal_front-front.result _ _ c.loop-left.invariant.0 in
+    let t = taken v _ _ _ _ _ _ _ _ c.window-w.ensures c.type_in-first.ensures c.in-Some.is c.operand_window-rest.ensures c.operand_in-second.ensures c.in-Some-second.is in
+    let l = comparing c.args.address.now c.args.width c.in-Some-second.operand c.walk.walker.used c.equal_front-front.result _ _ c.loop-left.invariant.0 in
     c.finish-2.ensures
     ∙ match_differs t c.in-2.is l.room _
     (different_ends l c.loop-left-test.true (λ z. c.if-address_bit-bit_of.true (c.address_bit.ensures ∙ z ∙ sym c.bit_of.ensures))) c.loop-left.invariant.1.2
