@@ -19,6 +19,7 @@ use Rattle.asmap_code_parts.specs.models.Parts.{InRow}
 use Rattle.asmap_encode.specs.models.Words.{length_written}
 use Rattle.asmap_code_parts.specs.declared.Parts.{Parts}
 use Rattle.asmap_encode.specs.declared.Word.{Word}
+use Rattle.refusals.specs.declared.Refusal.{Refusal}
 use Rattle.refusals.specs.declared.Refusal.TheVariants as refusal
 use Rattle.std.specs.Prelude.{Ok, Err}
 
@@ -39,9 +40,9 @@ written-bits : (b : Bool) (u w : Word) → pick_written b (Ok u) (Err refusal.Ou
 written-bits true u w e = (refl, cc)
 written-bits false u w e = let z : ◌≡◌ {A = ℕ} 0 1 = cc in absurd (omega arith)
 
-refused-bits : (b : Bool) (u : Word) (n : ℕ) → pick_written b (Ok u) (Err refusal.OutOfRange) ≡ Err n → b ≡ false
+refused-bits : (b : Bool) (u : Word) (n : Refusal) → pick_written b (Ok u) (Err refusal.OutOfRange) ≡ Err n → (b ≡ false) × (refusal.OutOfRange ≡ n)
 refused-bits true u n e = let z : ◌≡◌ {A = ℕ} 0 1 = cc in absurd (omega arith)
-refused-bits false u n e = refl
+refused-bits false u n e = (refl, cc)
 
 module _ (op : ℕ) (w : Word) (e : write_code type_row op ≡ Ok w) where
   -- room for the operand after the opcode
@@ -56,9 +57,11 @@ module _ (op : ℕ) (w : Word) (e : write_code type_row op ≡ Ok w) where
       let h = written-bits (in_range type_row op) (puts none (encode_of type_row op)) w e in
       rw (h.0, puts-append none (encode_of type_row op) (encode_of (operand_row op) v), h.1)
 
-pub opcode_refused : (op v n : ℕ) → write_code type_row op ≡ Err n → write_instruction op v ≡ Err refusal.OutOfRange
+pub opcode_refused : (op v : ℕ) (n : Refusal) → write_code type_row op ≡ Err n → write_instruction op v ≡ Err n
 unfolding write_instruction
-opcode_refused op v n e = rw (refused-bits (in_range type_row op) (puts none (encode_of type_row op)) n e)
+opcode_refused op v n e =
+    let h = refused-bits (in_range type_row op) (puts none (encode_of type_row op)) n e in
+    rw (h.0, ← h.1)
 
 -- ---- how many bits are written
 

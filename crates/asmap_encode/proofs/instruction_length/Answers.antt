@@ -6,8 +6,8 @@ pub returns-in_default : goal.returns-in_default
 returns-in_default c = length_no_opcode c.args.opcode c.args.operand c.in_default.ensures
 
 pub returns-in_default-second : goal.returns-in_default-second
-returns-in_default-second c = length_no_operand c.args.opcode c.args.operand c.in-In.ensures.ranged c.in_default-second.ensures
+returns-in_default-second c = length_no_operand c.args.opcode c.args.operand c.in-Some.ensures.ranged c.in_default-second.ensures
 
 pub returns : goal.returns
 returns c =
-    length_both c.args.opcode c.args.operand c.in-In.prefix c.in-In.parts c.in-In-second.next_prefix c.in-In-second.next c.in-In.ensures c.in-In-second.ensures
+    length_both c.args.opcode c.args.operand c.in-Some.prefix c.in-Some.parts c.in-Some-second.next_prefix c.in-Some-second.next c.in-Some.ensures c.in-Some-second.ensures
