@@ -47,7 +47,7 @@ module _ (op v : ℕ) where
         bits = rw (h.bits, h.len) (low-word_all l (bits_instruction op v));
       }
 
-  written_none : (n : ℕ) → write_instruction op v ≡ Err n → (in_range type_row op && in_range (operand_row op) v) ≡ false
+  written_none : (n : Refusal) → write_instruction op v ≡ Err n → (in_range type_row op && in_range (operand_row op) v) ≡ false
   unfolding write_instruction
   written_none n e = go (in_range type_row op && in_range (operand_row op) v) e
     where
@@ -56,7 +56,7 @@ module _ (op v : ℕ) where
       go false q = refl
 
   -- an instruction in range is not refused
-  pub written_never : (n : ℕ) → (in_range type_row op && in_range (operand_row op) v) ≡ true → write_instruction op v ≡ Err n → ⊥
+  pub written_never : (n : Refusal) → (in_range type_row op && in_range (operand_row op) v) ≡ true → write_instruction op v ≡ Err n → ⊥
   written_never n h e = differ (sym h ∙ written_none n e)
     where
       differ : true ≡ false → ⊥

@@ -9,10 +9,10 @@ returns-in_default c = absurd (written_never c.args.opcode c.args.operand c.in_d
 
 pub push_word-requires : goal.push_word-requires
 push_word-requires c =
-    let u = written_some c.args.opcode c.args.operand c.in-Bits.word (sym c.in-Bits.ensures) in
+    let u = written_some c.args.opcode c.args.operand c.in-Ok.word (sym c.in-Ok.ensures) in
     (c.requires.0, u.small, omega (arith, u.short), omega (arith, u.len, c.requires.2))
 
 pub returns : goal.returns
 returns c =
-    let u = written_some c.args.opcode c.args.operand c.in-Bits.word (sym c.in-Bits.ensures) in
+    let u = written_some c.args.opcode c.args.operand c.in-Ok.word (sym c.in-Ok.ensures) in
     moved_as c.push_word.ensures u.bits
