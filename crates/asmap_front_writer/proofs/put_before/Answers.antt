@@ -11,15 +11,15 @@ returns-in_default c = absurd (written_never c.args.opcode c.args.operand c.in_d
 pub put_word_before-requires : goal.put_word_before-requires
 put_word_before-requires c =
     let a = c.args in
-    let u = written_some a.opcode a.operand c.in-Bits.word (sym c.in-Bits.ensures) in
-    (room_word a.out.now a.front a.opcode a.operand a.writes c.in-Bits.word u c.if-writes.true c.requires, u.small, u.short, c.requires.few)
+    let u = written_some a.opcode a.operand c.in-Ok.word (sym c.in-Ok.ensures) in
+    (room_word a.out.now a.front a.opcode a.operand a.writes c.in-Ok.word u c.if-writes.true c.requires, u.small, u.short, c.requires.few)
 
 pub returns-then-writes : goal.returns-then-writes
 returns-then-writes c =
     let a = c.args in
-    let u = written_some a.opcode a.operand c.in-Bits.word (sym c.in-Bits.ensures) in
+    let u = written_some a.opcode a.operand c.in-Ok.word (sym c.in-Ok.ensures) in
     let e = c.put_word_before.ensures in
-    emitted_written a.out.now a.front a.opcode a.operand a.writes c.in-Bits.word u c.if-writes.true c.put_word_before.new.out c.put_word_before.result e.0 e.1 e.2
+    emitted_written a.out.now a.front a.opcode a.operand a.writes c.in-Ok.word u c.if-writes.true c.put_word_before.new.out c.put_word_before.result e.0 e.1 e.2
 
 pub overflow_add-done : goal.overflow_add-done
 overflow_add-done c =
