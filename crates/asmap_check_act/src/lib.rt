@@ -76,7 +76,14 @@ fn padded(map: &[u8], at: usize) -> bool
 // ---- the arms: an operand that starts at bit `at`, in the window `w`, and the tests in document 01's order
 
 // RETURN: 5 after DEFAULT, 19 cut; with no open jump 6 where no padding follows, with one 7 where it does not end at the target.
-fn sanity_return(map: &[u8], w: u64, at: usize, previous: Previous, depth: usize, top: u32) -> Result<Act, Fault>
+fn sanity_return(
+    map: &[u8],
+    w: u64,
+    at: usize,
+    previous: Previous,
+    depth: usize,
+    top: u32,
+) -> Result<Act, Fault>
     requires { (length map.now ≤ limit) × (at < 2 ^ 34) × Holds asn_row map.now at w }
     ensures { result ≡ on_return map.now previous depth top (code_at map.now at asn_row) }
 {
@@ -100,7 +107,14 @@ fn sanity_return(map: &[u8], w: u64, at: usize, previous: Previous, depth: usize
 }
 
 // JUMP: 19 cut, 8 with no bit left, 9 where its target is at or past the innermost. The target is counted from the JUMP's end.
-fn sanity_jump(map: &[u8], w: u64, at: usize, bits: u8, depth: usize, top: u32) -> Result<Act, Fault>
+fn sanity_jump(
+    map: &[u8],
+    w: u64,
+    at: usize,
+    bits: u8,
+    depth: usize,
+    top: u32,
+) -> Result<Act, Fault>
     requires { (length map.now ≤ limit) × (at < 2 ^ 34) × Holds jump_row map.now at w }
     ensures { result ≡ on_jump bits depth top (code_at map.now at jump_row) }
 {

@@ -45,50 +45,50 @@ returns-in_default c =
     rw (sym c.past.ensures ∙ c.if-past.false, read)
 
 pub operand_window-rest-requires : goal.operand_window-rest-requires
-operand_window-rest-requires c = (c.window-w.ensures, typed c.args.map.now c.args.pos _ _ _ c.window-w.ensures c.type_in-got.ensures c.in-Value.is)
+operand_window-rest-requires c = (c.window-w.ensures, typed c.args.map.now c.args.pos _ _ _ c.window-w.ensures c.type_in-got.ensures c.in-Some.is)
 
 pub sanity_return-requires : goal.sanity_return-requires
 sanity_return-requires c =
-    let read = typed c.args.map.now c.args.pos _ _ _ c.window-w.ensures c.type_in-got.ensures c.in-Value.is in
+    let read = typed c.args.map.now c.args.pos _ _ _ c.window-w.ensures c.type_in-got.ensures c.in-Some.is in
     near c.args.map.now c.args.pos _ _ _ 0 c.requires.0 read c.operand_window-rest.ensures c.if-opcode-eq-RETURN.true
 
 pub returns-then-opcode-eq-RETURN : goal.returns-then-opcode-eq-RETURN
 returns-then-opcode-eq-RETURN c =
     let a = c.args in
-    let read = typed a.map.now a.pos _ _ _ c.window-w.ensures c.type_in-got.ensures c.in-Value.is in
+    let read = typed a.map.now a.pos _ _ _ c.window-w.ensures c.type_in-got.ensures c.in-Some.is in
     c.sanity_return.ensures ∙ arm a.map.now a.previous a.bits a.depth a.top a.pos _ _ 0 _ c.past.ensures c.if-past.false read c.if-opcode-eq-RETURN.true
 
 pub sanity_jump-requires : goal.sanity_jump-requires
 sanity_jump-requires c =
-    let read = typed c.args.map.now c.args.pos _ _ _ c.window-w.ensures c.type_in-got.ensures c.in-Value.is in
+    let read = typed c.args.map.now c.args.pos _ _ _ c.window-w.ensures c.type_in-got.ensures c.in-Some.is in
     near c.args.map.now c.args.pos _ _ _ 1 c.requires.0 read c.operand_window-rest.ensures c.if-opcode-eq-JUMP.true
 
 pub returns-then-opcode-eq-JUMP : goal.returns-then-opcode-eq-JUMP
 returns-then-opcode-eq-JUMP c =
     let a = c.args in
-    let read = typed a.map.now a.pos _ _ _ c.window-w.ensures c.type_in-got.ensures c.in-Value.is in
+    let read = typed a.map.now a.pos _ _ _ c.window-w.ensures c.type_in-got.ensures c.in-Some.is in
     c.sanity_jump.ensures ∙ arm a.map.now a.previous a.bits a.depth a.top a.pos _ _ 1 _ c.past.ensures c.if-past.false read c.if-opcode-eq-JUMP.true
 
 pub sanity_match-requires : goal.sanity_match-requires
 sanity_match-requires c =
-    let read = typed c.args.map.now c.args.pos _ _ _ c.window-w.ensures c.type_in-got.ensures c.in-Value.is in
+    let read = typed c.args.map.now c.args.pos _ _ _ c.window-w.ensures c.type_in-got.ensures c.in-Some.is in
     near c.args.map.now c.args.pos _ _ _ 2 c.requires.0 read c.operand_window-rest.ensures c.if-opcode-eq-MATCH.true
 
 pub returns-then-opcode-eq-MATCH : goal.returns-then-opcode-eq-MATCH
 returns-then-opcode-eq-MATCH c =
     let a = c.args in
-    let read = typed a.map.now a.pos _ _ _ c.window-w.ensures c.type_in-got.ensures c.in-Value.is in
+    let read = typed a.map.now a.pos _ _ _ c.window-w.ensures c.type_in-got.ensures c.in-Some.is in
     c.sanity_match.ensures ∙ arm a.map.now a.previous a.bits a.depth a.top a.pos _ _ 2 _ c.past.ensures c.if-past.false read c.if-opcode-eq-MATCH.true
 
 pub sanity_default-requires : goal.sanity_default-requires
 sanity_default-requires c =
-    let read = typed c.args.map.now c.args.pos _ _ _ c.window-w.ensures c.type_in-got.ensures c.in-Value.is in
+    let read = typed c.args.map.now c.args.pos _ _ _ c.window-w.ensures c.type_in-got.ensures c.in-Some.is in
     let e = last c.args.map.now c.args.pos _ _ read c.if-opcode-eq-RETURN.false c.if-opcode-eq-JUMP.false c.if-opcode-eq-MATCH.false in
     near c.args.map.now c.args.pos _ _ _ 3 c.requires.0 read c.operand_window-rest.ensures e
 
 pub returns : goal.returns
 returns c =
     let a = c.args in
-    let read = typed a.map.now a.pos _ _ _ c.window-w.ensures c.type_in-got.ensures c.in-Value.is in
+    let read = typed a.map.now a.pos _ _ _ c.window-w.ensures c.type_in-got.ensures c.in-Some.is in
     let e = last a.map.now a.pos _ _ read c.if-opcode-eq-RETURN.false c.if-opcode-eq-JUMP.false c.if-opcode-eq-MATCH.false in
     c.sanity_default.ensures ∙ arm a.map.now a.previous a.bits a.depth a.top a.pos _ _ 3 _ c.past.ensures c.if-past.false read e

@@ -21,4 +21,4 @@ unfolding refusing
 returns c =
     let a = c.args in
     let code = sym (c.asn_in-got.ensures ∙ row-window a.map.now a.at a.w asn_row (lit< tt) c.requires.2) in
-    rw (sym c.is_default.ensures ∙ c.if-is_default.false, code ∙ c.in-Value.is)
+    rw (sym c.is_default.ensures ∙ c.if-is_default.false, code ∙ c.in-Some.is)

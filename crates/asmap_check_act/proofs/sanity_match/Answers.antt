@@ -18,7 +18,7 @@ pub match_length-length-requires : goal.match_length-length-requires
 match_length-length-requires c =
     let a = c.args in
     let code = sym (c.match_in-got.ensures ∙ row-window a.map.now a.at a.w match_row (lit< tt) c.requires.2) in
-    let inside = value_at a.map.now a.at match_row _ _ (lit< tt) (code ∙ c.in-Value.is) in
+    let inside = value_at a.map.now a.at match_row _ _ (lit< tt) (code ∙ c.in-Some.is) in
     omega (arith, inside.above)
 
 pub returns-then-short_again : goal.returns-then-short_again
@@ -26,18 +26,18 @@ unfolding refusing
 returns-then-short_again c =
     let a = c.args in
     let code = sym (c.match_in-got.ensures ∙ row-window a.map.now a.at a.w match_row (lit< tt) c.requires.2) in
-    rw (code ∙ c.in-Value.is, ← c.match_length-length.ensures, sym c.short_again.ensures ∙ c.if-short_again.true)
+    rw (code ∙ c.in-Some.is, ← c.match_length-length.ensures, sym c.short_again.ensures ∙ c.if-short_again.true)
 
 pub returns-then-bits-length : goal.returns-then-bits-length
 unfolding refusing
 returns-then-bits-length c =
     let a = c.args in
     let code = sym (c.match_in-got.ensures ∙ row-window a.map.now a.at a.w match_row (lit< tt) c.requires.2) in
-    rw (code ∙ c.in-Value.is, ← c.match_length-length.ensures, sym c.short_again.ensures ∙ c.if-short_again.false, lt-ltb _ _ c.if-bits-length.true)
+    rw (code ∙ c.in-Some.is, ← c.match_length-length.ensures, sym c.short_again.ensures ∙ c.if-short_again.false, lt-ltb _ _ c.if-bits-length.true)
 
 pub returns : goal.returns
 unfolding refusing
 returns c =
     let a = c.args in
     let code = sym (c.match_in-got.ensures ∙ row-window a.map.now a.at a.w match_row (lit< tt) c.requires.2) in
-    rw (code ∙ c.in-Value.is, ← c.match_length-length.ensures, sym c.short_again.ensures ∙ c.if-short_again.false, le-ltb _ _ c.if-bits-length.false)
+    rw (code ∙ c.in-Some.is, ← c.match_length-length.ensures, sym c.short_again.ensures ∙ c.if-short_again.false, le-ltb _ _ c.if-bits-length.false)

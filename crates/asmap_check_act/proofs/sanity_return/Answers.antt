@@ -22,32 +22,32 @@ pub padded-requires : goal.padded-requires
 padded-requires c =
     let a = c.args in
     let code = sym (c.asn_in-got.ensures ∙ row-window a.map.now a.at a.w asn_row (lit< tt) c.requires.2) in
-    (c.requires.0, (value_at a.map.now a.at asn_row _ _ (lit< tt) (code ∙ c.in-Value.is)).inside)
+    (c.requires.0, (value_at a.map.now a.at asn_row _ _ (lit< tt) (code ∙ c.in-Some.is)).inside)
 
 pub returns-then-padded : goal.returns-then-padded
 unfolding refusing
 returns-then-padded c =
     let a = c.args in
     let code = sym (c.asn_in-got.ensures ∙ row-window a.map.now a.at a.w asn_row (lit< tt) c.requires.2) in
-    rw (sym c.is_default.ensures ∙ c.if-is_default.false, code ∙ c.in-Value.is, eq-eqb _ _ c.if-depth-eq0.true, sym c.padded.ensures ∙ c.if-padded.true)
+    rw (sym c.is_default.ensures ∙ c.if-is_default.false, code ∙ c.in-Some.is, eq-eqb _ _ c.if-depth-eq0.true, sym c.padded.ensures ∙ c.if-padded.true)
 
 pub returns-then-depth-eq0 : goal.returns-then-depth-eq0
 unfolding refusing
 returns-then-depth-eq0 c =
     let a = c.args in
     let code = sym (c.asn_in-got.ensures ∙ row-window a.map.now a.at a.w asn_row (lit< tt) c.requires.2) in
-    rw (sym c.is_default.ensures ∙ c.if-is_default.false, code ∙ c.in-Value.is, eq-eqb _ _ c.if-depth-eq0.true, sym c.padded.ensures ∙ c.if-padded.false)
+    rw (sym c.is_default.ensures ∙ c.if-is_default.false, code ∙ c.in-Some.is, eq-eqb _ _ c.if-depth-eq0.true, sym c.padded.ensures ∙ c.if-padded.false)
 
 pub returns-then-next-top : goal.returns-then-next-top
 unfolding refusing
 returns-then-next-top c =
     let a = c.args in
     let code = sym (c.asn_in-got.ensures ∙ row-window a.map.now a.at a.w asn_row (lit< tt) c.requires.2) in
-    rw (sym c.is_default.ensures ∙ c.if-is_default.false, code ∙ c.in-Value.is, ne_eqb _ _ c.if-depth-eq0.false, eq-eqb _ _ c.if-next-top.true)
+    rw (sym c.is_default.ensures ∙ c.if-is_default.false, code ∙ c.in-Some.is, ne_eqb _ _ c.if-depth-eq0.false, eq-eqb _ _ c.if-next-top.true)
 
 pub returns : goal.returns
 unfolding refusing
 returns c =
     let a = c.args in
     let code = sym (c.asn_in-got.ensures ∙ row-window a.map.now a.at a.w asn_row (lit< tt) c.requires.2) in
-    rw (sym c.is_default.ensures ∙ c.if-is_default.false, code ∙ c.in-Value.is, ne_eqb _ _ c.if-depth-eq0.false, ne_eqb _ _ c.if-next-top.false)
+    rw (sym c.is_default.ensures ∙ c.if-is_default.false, code ∙ c.in-Some.is, ne_eqb _ _ c.if-depth-eq0.false, ne_eqb _ _ c.if-next-top.false)
