@@ -1,6 +1,6 @@
 -- Bytes as one number, the first lowest: how the code compares several bytes at a time.
 -- Assumes nothing.
-use Rattle.std.specs.Prelude.{◌≡◌, ℕ, zero, suc, ◌+◌, ◌*◌, ◌/◌, ◌%◌, ◌<◌, List, [], ◌∷◌}
+use Rattle.std.specs.Prelude.{◌≡◌, ℕ, ◌+◌, ◌*◌, ◌<◌, List, [], ◌∷◌}
 
 abbrev pub number : List ℕ → ℕ
 number [] = 0
@@ -14,8 +14,3 @@ Bytes (b ∷ bs) = (b < 256) × Bytes bs
 pub record Word (w : ℕ) (bs : List ℕ) : Type 0 where
   pub value : w ≡ number bs
   pub small : Bytes bs
-
--- so many bytes of a number, the lowest first
-abbrev pub digits : ℕ → ℕ → List ℕ
-digits zero x = []
-digits (suc n) x = x % 256 ∷ digits n (x / 256)

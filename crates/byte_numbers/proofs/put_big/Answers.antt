@@ -1,0 +1,7 @@
+-- The bytes are copied into their part (sets_part).
+use Rattle.std.proofs.Common.{◌∙◌, refl}
+use Rattle.byte_numbers.proofs.Buffers.{sets_part}
+use Rattle.byte_numbers.proofs.put_big.Goals as goal
+
+pub returns : goal.returns
+returns c = sets_part c.args.out.now c.args.at 8 _ c.copy_from_slice.new.self (c.copy_from_slice.ensures.after ∙ c.to_be_bytes.ensures) refl c.requires
