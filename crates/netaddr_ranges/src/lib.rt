@@ -38,9 +38,7 @@ pub fn ipv4_reserved(v: [u8; 4]) -> bool
 pub fn ipv4_unroutable(v: [u8; 4]) -> bool
     ensures { result ≡ unroutable4 v }
 {
-    let a = v[0];
-    let b = v[1];
-    let c = v[2];
+    let [a, b, c, _] = v;
     let private_10 = a == 10;
     let loopback = a == 127;
     let link_local = (a == 169) & (b == 254);
