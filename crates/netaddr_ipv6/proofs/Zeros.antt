@@ -1,38 +1,20 @@
--- Runs of zero bytes: found by a search, and as the part of a prefix that is zero. Assumes nothing.
-use Prim.Native.Nat.{ℕ, zero, suc, ◌+◌, ◌-◌, ◌≤◌, ◌<◌}
-use mathlib.Core.Bool.{true, false, ◌&&◌, and_assoc, and-true, and-false}
-use mathlib.Core.List.{List}
-use mathlib.Core.Path.{◌≡◌, ◌∙◌, sym, ap}
-use native.Mathlib.Omega.{arith}
-use borrow.Author.Tests.{eq-eqb, ne_eqb, eqb-true}
-use lib.Dec.{eqb}
+-- Runs of zero bytes: as the bytes of a slice, and as the part of a prefix that is zero. Assumes nothing.
+use Rattle.std.proofs.Common.{ℕ, zero, suc, ◌+◌, ◌≤◌, true, List, length, take, drop, ◌≡◌, ◌∙◌, refl, sym, ap, add-one, eqb, arith}
+use Rattle.std.proofs.lemmas.List.{length-drop, get_or-drop}
+use Rattle.std.proofs.lemmas.List.Folds.{list_all_more}
+use Rattle.std.specs.List.{list_all}
+use mathlib.Core.Bool.{◌&&◌, and_assoc, and-true}
+use borrow.Author.Tests.{eqb-true}
 use Rattle.netaddr_ranges.specs.Prefix.{byte, same_bytes}
 use Rattle.netaddr_ranges.specs.Unroutable.{zeros}
 use Rattle.netaddr_ranges.proofs.Truth.{both_left, both_right}
 
--- a byte of the run that is not zero, k before its end
-not-zero : (i n k : ℕ) (a : List ℕ) → (byte (i + n) a ≡ 0 → ⊥) → zeros i (k + suc n) a ≡ false
+-- The bytes of a slice are all zero where they are a run of zeros.
+pub run : (i n : ℕ) (a : List ℕ) → i + n ≤ length a → list_all (λ x. eqb x 0) (take n (drop i a)) ≡ zeros i n a
 unfolding zeros
-not-zero i n zero a z =
-    let e : 0 + suc n ≡ suc n = omega arith in
-    ap (λ m. zeros i m a) e ∙ (ap (λ t. zeros i n a && t) (ne_eqb (byte (i + n) a) 0 z) ∙ and-false (zeros i n a))
-not-zero i n (suc k) a z =
-    let e : suc k + suc n ≡ suc (k + suc n) = omega arith in
-    ap (λ m. zeros i m a) e ∙ ap (λ t. t && eqb (byte (i + (k + suc n)) a) 0) (not-zero i n k a z)
-
-module _ (from i to : ℕ) (a : List ℕ) (start : from ≤ i) where
-  pub zeros_more : zeros from (i - from) a ≡ true → byte i a ≡ 0 → zeros from (i + 1 - from) a ≡ true
-  unfolding zeros
-  zeros_more h z =
-      let e : i + 1 - from ≡ suc (i - from) = omega arith in
-      let f : from + (i - from) ≡ i = omega arith in
-      ap (λ n. zeros from n a) e ∙ (ap (λ t. t && eqb (byte (from + (i - from)) a) 0) h ∙ eq-eqb _ 0 (ap (λ j. byte j a) f ∙ z))
-
-  pub zeros_not : i < to → (byte i a ≡ 0 → ⊥) → zeros from (to - from) a ≡ false
-  zeros_not h z =
-      let e : to - from ≡ to - suc i + suc (i - from) = omega arith in
-      let f : from + (i - from) ≡ i = omega arith in
-      ap (λ n. zeros from n a) e ∙ not-zero from (i - from) (to - suc i) a (λ q. z (sym (ap (λ j. byte j a) f) ∙ q))
+run i zero a h = refl
+run i (suc n) a h =
+    rw (← add-one n, list_all_more (λ x. eqb x 0) (drop i a) n 0 (omega (arith, length-drop {A = ℕ})), get_or-drop i a n 0, run i n a (omega arith))
 
 -- Where the bytes of a prefix from k on are zero, those of the address are asked to be a run of zeros.
 pub zero_tail : (k n : ℕ) (p a : List ℕ) → zeros k n p ≡ true → same_bytes (n + k) p a ≡ (same_bytes k p a && zeros k n a)

@@ -14,14 +14,7 @@ fn zero_bytes(o: [u8; 16], from: usize, to: usize) -> bool
     requires { (from ≤ to) × (to ≤ 16) }
     ensures { result ≡ zeros from (to - from) o }
 {
-    let mut i: usize = from;
-    while i < to {
-        if o[i] != 0 {
-            return false;
-        }
-        i += 1;
-    }
-    true
+    o[from..to].iter().all(|&byte| byte == 0)
 }
 
 // fc00::/8, the addresses of CJDNS; RFC 4193 has fc00::/7.
@@ -35,8 +28,7 @@ pub fn is_cjdns_ip(o: [u8; 16]) -> bool
 pub fn ipv6_scope_unroutable(o: [u8; 16]) -> bool
     ensures { result ≡ decided scope_rows o }
 {
-    let a = o[0];
-    let b = o[1];
+    let [a, b, ..] = o;
     let loopback = zero_bytes(o, 0, 15) & (o[15] == 1);
     let link_local = (a == 0xfe) & (b / 64 == 2);
     let unique_local = a == 0xfd;
@@ -49,10 +41,7 @@ pub fn ipv6_scope_unroutable(o: [u8; 16]) -> bool
 pub fn ipv6_special_unroutable(o: [u8; 16]) -> bool
     ensures { result ≡ decided special_rows o }
 {
-    let a = o[0];
-    let b = o[1];
-    let c = o[2];
-    let d = o[3];
+    let [a, b, c, d, ..] = o;
     let documentation = (a == 0x20) & (b == 0x01) & (c == 0x0d) & (d == 0xb8);
     let documentation_3fff = (a == 0x3f) & (b == 0xff) & (c / 16 == 0);
     let orchid = (a == 0x20) & (b == 0x01) & (c == 0x00) & (d / 16 == 1);
@@ -89,12 +78,7 @@ fn ipv4_compatible(o: [u8; 16]) -> bool
 pub fn ipv6_embedded_bogon(o: [u8; 16]) -> bool
     ensures { result ≡ decided embedded_rows o }
 {
-    let a = o[0];
-    let b = o[1];
-    let c = o[2];
-    let d = o[3];
-    let e = o[4];
-    let f = o[5];
+    let [a, b, c, d, e, f, ..] = o;
     let teredo = (a == 0x20) & (b == 0x01) & (c == 0x00) & (d == 0x00);
     let six_to_four = (a == 0x20) & (b == 0x02);
     let local_nat64 = (a == 0x00)

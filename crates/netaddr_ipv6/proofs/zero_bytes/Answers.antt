@@ -1,19 +1,13 @@
--- The bytes before `i` are zero; the first that is not ends the search, and otherwise all are.
-use Rattle.std.proofs.Common.{◌≡◌, ◌-◌, ap, sym, arith}
-use Rattle.netaddr_ranges.specs.Unroutable.{zeros}
-use Rattle.netaddr_ipv6.proofs.Zeros.{zeros_more, zeros_not}
+-- The bytes are a slice's, and each is asked.
+use Rattle.std.proofs.Common.{◌-◌, ◌∙◌, eqb, rules, arith}
+use Rattle.std.proofs.lemmas.Iterator.{YieldsList-from_slice}
+use Rattle.std.proofs.lemmas.Iterator.Search.{all_from_yields_List}
+use borrow.Author.Tests.{tests}
+use Rattle.std.specs.List.{slice_range}
+use Rattle.netaddr_ipv6.proofs.Zeros.{run}
 use Rattle.netaddr_ipv6.proofs.zero_bytes.Goals as goal
 
-pub loop-i-init : goal.loop-i-init
-unfolding zeros
-loop-i-init c = let a = c.args in
-    let e : a.from - a.from ≡ 0 = omega arith in
-    (omega arith, ap (λ n. zeros a.from n a.o) e)
-
-pub returns-then-o-i-ne0 : goal.returns-then-o-i-ne0
-returns-then-o-i-ne0 c = let a = c.args in let l = c.loop-i in
-    sym (zeros_not a.from l.i a.to a.o l.invariant.0.0 (omega arith) c.if-o-i-ne0.true)
-
-pub loop-i-preserved : goal.loop-i-preserved
-loop-i-preserved c = let a = c.args in let l = c.loop-i in
-    (omega arith, zeros_more a.from l.i a.to a.o l.invariant.0.0 l.invariant.1 c.if-o-i-ne0.false)
+pub returns : goal.returns
+returns c = let a = c.args in
+    all_from_yields_List (λ x. eqb x 0) _ _ _ c.all.ensures.ran (YieldsList-from_slice (slice_range a.o a.from a.to) cc) (λ x b q k. search (rules, tests))
+    ∙ run a.from (a.to - a.from) a.o (omega arith)
