@@ -1,2 +1,1 @@
 mod Begins
-mod Octets

@@ -11,23 +11,12 @@ use netaddr_ipv6::{
 };
 use netaddr_ranges::ipv4_unroutable;
 
-// The bytes of an IPv4 address.
-pub fn octets4(s: &[u8]) -> [u8; 4]
-    requires { length s.now ≡ 4 }
-    ensures { result ≡ s.now }
+// The bytes of an address, of which there are as many as it has.
+pub fn octets<const N: usize>(address: &[u8]) -> [u8; N]
+    requires { length address.now ≡ N }
+    ensures { result ≡ address.now }
 {
-    [s[0], s[1], s[2], s[3]]
-}
-
-// The bytes of an IPv6 address.
-pub fn octets16(s: &[u8]) -> [u8; 16]
-    requires { length s.now ≡ 16 }
-    ensures { result ≡ s.now }
-{
-    [
-        s[0], s[1], s[2], s[3], s[4], s[5], s[6], s[7], s[8], s[9], s[10], s[11], s[12], s[13],
-        s[14], s[15],
-    ]
+    *address.as_array().unwrap()
 }
 
 // The last four bytes of an IPv6 address, where its mapped form has the IPv4.
@@ -57,7 +46,8 @@ fn ipv4_mapped(address: &[u8]) -> bool
         & (address[11] == 0xff)
 }
 
-// An address of 16 bytes that is not IPv4 in its mapped form is unroutable.
+// An address of 16 bytes that is not IPv4 in its mapped form is unroutable. Few come this far: the code for the others is faster without it.
+#[inline(never)]
 fn ipv6_unroutable(o: [u8; 16]) -> bool
     requires { within (ipv6 (0 ∷ 0 ∷ 0 ∷ 0 ∷ 0 ∷ 0xffff ∷ []) 96) o ≡ false }
     ensures { result ≡ unroutable16 o }
@@ -68,21 +58,18 @@ fn ipv6_unroutable(o: [u8; 16]) -> bool
     ipv6_scope_unroutable(o) | ipv6_special_unroutable(o) | ipv6_embedded_bogon(o)
 }
 
-// An address of 16 bytes is unroutable. Most are told by a few bytes: IPv4 in its mapped form, and IPv6 whose first byte no range has,
-// one from 02 to fb but for 20 and 3f. The others are asked in `ipv6_unroutable`; two calls of it keep it out of this function's code.
+// An address of 16 bytes is unroutable. Most are told by a few bytes: IPv6 whose first byte no range has, one from 02 to fb but for 20 and 3f, and
+// IPv4 in its mapped form.
 pub fn ip_unroutable(address: &[u8]) -> bool
     requires { length address.now ≡ 16 }
     ensures { result ≡ unroutable16 address.now }
 {
     let a = address[0];
-    if a == 0x00 {
-        if ipv4_mapped(address) {
-            return ipv4_unroutable(last_four(address));
-        }
-        return ipv6_unroutable(octets16(address));
-    }
     if (a > 0x01) & (a < 0xfc) & (a != 0x20) & (a != 0x3f) {
         return false;
     }
-    ipv6_unroutable(octets16(address))
+    if ipv4_mapped(address) {
+        return ipv4_unroutable(last_four(address));
+    }
+    ipv6_unroutable(octets(address))
 }
