@@ -3,11 +3,11 @@
 
 ghost use Rattle.std.specs.Prelude.{◌≡◌, true, length};
 ghost use Rattle.netaddr.specs.Filter.{filter_of};
-ghost use Rattle.netaddr.specs.Relay.{length_fits, outside_cjdns, skips, relay_of};
+ghost use Rattle.netaddr.specs.Relay.{length_fits, skips, relay_of};
 
 use netaddr_ipv6::is_cjdns_ip;
 use netaddr_ranges::ipv4_unroutable;
-use netaddr_unroutable::{ip_unroutable, octets4, octets16};
+use netaddr_unroutable::{ip_unroutable, octets};
 use refusals::Refusal;
 
 // Network ids of BIP155.
@@ -34,6 +34,7 @@ pub fn clearnet_unroutable(address: &[u8]) -> Result<bool, Refusal>
 }
 
 // The BIP155 network id has addresses of this many bytes.
+#[tactic(auto, unfolding(crate::specs::Relay::length_fits))]
 fn length_fits(id: u8, n: usize) -> bool
     ensures { result ≡ length_fits id n }
 {
@@ -48,41 +49,21 @@ fn length_fits(id: u8, n: usize) -> bool
     }
 }
 
-// A CJDNS entry whose address lies outside fc00::/8.
-fn outside_cjdns(id: u8, address: &[u8]) -> bool
-    requires { length_fits id (length address.now) ≡ true }
-    ensures { result ≡ outside_cjdns id address.now }
-{
-    if id == CJDNS {
-        return !is_cjdns_ip(octets16(address));
-    }
-    false
-}
-
 // Whether an entry whose address has the id's length is not sent on. I2P is advertised with port 0, so that its test comes before the port's.
+#[tactic(auto, unfolding(crate::specs::Relay::length_fits, crate::specs::Relay::outside_cjdns, crate::specs::Relay::skips))]
 fn skip_relay(id: u8, address: &[u8], port: u16) -> bool
     requires { length_fits id (length address.now) ≡ true }
     ensures { result ≡ skips id address.now port }
 {
-    if id == I2P {
-        return false; // at port 0 too
+    match id {
+        I2P => false, // at port 0 too
+        TOR_V2 => true,
+        CJDNS if !is_cjdns_ip(octets(address)) => true,
+        _ if port == 0 => true,
+        IPV4 => ipv4_unroutable(octets(address)),
+        IPV6 => ip_unroutable(address),
+        _ => false,
     }
-    if id == TOR_V2 {
-        return true;
-    }
-    if outside_cjdns(id, address) {
-        return true;
-    }
-    if port == 0 {
-        return true;
-    }
-    if id == IPV4 {
-        return ipv4_unroutable(octets4(address));
-    }
-    if id == IPV6 {
-        return ip_unroutable(address);
-    }
-    false
 }
 
 // Whether an entry of an addrv2 message is not sent on: its BIP155 network id, address bytes and port. Refuses a length that the id does
