@@ -14,23 +14,14 @@ pub fn bit_at(map: &[u8], at: usize) -> u32
     (byte >> (at % 8)) % 2
 }
 
-// A byte as a word.
-fn wide(b: u8) -> u64
-    ensures { (result ≡ b) × (b < 256) }
-{
-    b as u64
-}
-
 // The bytes from byte b to the map's end, fewer than eight.
 fn load_tail(map: &[u8], b: usize) -> u64
     requires { (b ≤ length map.now) × (length map.now < b + 8) }
     ensures { Window 64 result (drop (8 * b) (map_bits map.now)) }
 {
     let mut w: u64 = 0;
-    let mut i = map.len();
-    while b < i {
-        i -= 1;
-        w = w * 256 + wide(map[i]);
+    for i in (b..map.len()).rev() {
+        w = w * 256 + map[i] as u64;
     }
     w
 }

@@ -12,7 +12,7 @@ overflow_mul-w c =
 pub overflow_add-w : goal.overflow_add-w
 overflow_add-w c =
     let l = c.loop-i.invariant in
-    record { fits = omega (arith, tail-fits _ _ l.within (omega arith) l.bytes, l.read, c.wide.ensures.0, c.wide.ensures.1) }
+    record { fits = omega (arith, tail-fits _ _ l.within (omega arith) l.bytes, l.read, c.type_inv.map c.loop-i.i) }
 
 pub returns : goal.returns
 returns c i h =

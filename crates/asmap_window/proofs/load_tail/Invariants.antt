@@ -10,6 +10,3 @@ invariant-loop-i l = record {
   read : l.w ≡ number (drop l.i l.map);
   bytes : Bytes (drop l.i l.map);
 }
-
-abbrev pub decreases-loop-i : goal.decreases-loop-i
-decreases-loop-i l = l.i
