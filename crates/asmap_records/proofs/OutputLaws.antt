@@ -16,7 +16,7 @@ use Rattle.refusals.specs.declared.Refusal.TheVariants as refusal
 use Rattle.std.specs.Prelude.{Result, Ok, Err}
 
 -- what no test refused was made
-pub passed : (b : Bool) (n : ℕ) (r : Making) (bs : List ℕ) → refuse b n r ≡ Made bs → (b ≡ false) × (r ≡ Made bs)
+pub passed : (b : Bool) (n : Refusal) (r : Making) (bs : List ℕ) → refuse b n r ≡ Made bs → (b ≡ false) × (r ≡ Made bs)
 unfolding refuse
 passed true n r bs e = let z : ◌≡◌ {A = ℕ} 0 1 = cc in absurd (omega arith)
 passed false n r bs e = (refl, e)
@@ -29,7 +29,7 @@ hands made r o q = record { answer = sym (ap answer_of q); output = sym (ap (λ 
 
 module _ (made : Making) (o : List ℕ) where
   -- refused before the output is looked at
-  pub hands_no : (n : ℕ) → made ≡ No n → Hands made o o (Err n)
+  pub hands_no : (n : Refusal) → made ≡ No n → Hands made o o (Err n)
   hands_no n e = hands made (No n) o (ap (within (length o)) e)
 
   -- the output is too short
@@ -54,4 +54,4 @@ hands_at w made o o' r t h = subst (λ (x : Making). Hands x o o' r) (sym (at_wi
 
 -- at any other number nothing is
 pub hands_no_width : (w : ℕ) (made : Making) (o : List ℕ) → is_width w ≡ false → Hands (at_width w No made) o o (Err refusal.Width)
-hands_no_width w made o t = hands_no (at_width w No made) o 18 (no_width w No made t)
+hands_no_width w made o t = hands_no (at_width w No made) o refusal.Width (no_width w No made t)

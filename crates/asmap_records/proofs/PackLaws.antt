@@ -73,9 +73,9 @@ module _ (op : ℕ) (zeros : Bool) (v place size at : ℕ) where
   pub field_right : (bs : List ℕ) → field_bits op zeros v place size at ≡ Made bs → Right bs
   unfolding field_bits
   field_right bs e =
-      let a = passed _ 15 _ bs e in
-      let b = passed _ 16 _ bs a.1 in
-      let c = passed _ 1 _ bs b.1 in
+      let a = passed _ refusal.OutOfRange _ bs e in
+      let b = passed _ refusal.Record _ bs a.1 in
+      let c = passed _ (refusal.Map fault.MapTooLong) _ bs b.1 in
       let d = and_both (zeros && eqb place at) (eqb size (length (instruction_bits op v))) (not-false _ b.0) in
       let f = and_both zeros (eqb place at) d.0 in
       record {

@@ -36,6 +36,7 @@ use Rattle.asmap_check.proofs.Limit.{accepted_within}
 use Rattle.asmap_records.proofs.UnpackLaws.{unpack_as_lem}
 use Rattle.asmap_records.proofs.Reading.{instruction, Stands, stands, fetched, padding}
 use Rattle.asmap_program.specs.Verdict.{Accepted}
+use Rattle.refusals.specs.declared.Refusal.TheVariants as refusal
 
 -- ---- bytes and their bits
 
@@ -179,7 +180,7 @@ packs rs m h = go (pack_bits rs) refl h
   where
     go : (r : Making) → pack_bits rs ≡ r → on (λ (bs : List ℕ). Made (bytes_of bs)) r ≡ Made m → Packs rs m
     go (Made bs) e q =
-        let p = passed _ 16 _ bs e in
+        let p = passed _ refusal.Record _ bs e in
         record { bits = bs; whole = eqb-true (length rs % 16) 0 (not-false _ p.0); made = p.1; bytes = made_same q }
     go (No n) e q = let z : ◌≡◌ {A = ℕ} 0 1 = cc in absurd (omega arith)
 

@@ -39,6 +39,6 @@ module _ (m : List ℕ) (w : ℕ) where
     where
       go : (a : Verdict) → check_of m w ≡ a → unpack_as m w a ≡ Made rs → Unpacks rs
       go (Ok got) e q =
-          let s = accepted_within m w c d e in
-          record { count = c; depth = d; short = s.0; accepted = s.1; records = cc }
+          let s = accepted_within m w got.count got.depth e in
+          record { count = got.count; depth = got.depth; short = s.0; accepted = s.1; records = cc }
       go (Err n) e q = let z : ◌≡◌ {A = ℕ} 0 1 = cc in absurd (omega arith)
