@@ -19,6 +19,7 @@ use Rattle.asmap_records.proofs.PackLaws.{field_range, field_wrong, field_long, 
 use Rattle.asmap_pack.specs.models.Size.{size_from}
 use Rattle.asmap_bit_writer.proofs.WrittenLaws.{Measured}
 use Rattle.refusals.specs.declared.Fault.TheVariants as fault
+use Rattle.refusals.specs.declared.Refusal.{Refusal}
 use Rattle.refusals.specs.declared.Refusal.TheVariants as refusal
 use Rattle.std.specs.Prelude.{Ok, Err}
 
@@ -27,7 +28,7 @@ pub ends_made : (at e : ℕ) (r : Making) → size_from at r ≡ Ok e → (bs : 
 ends_made at e (Made bs) h = (bs, refl, cc)
 ends_made at e (No n) h = let z : ◌≡◌ {A = ℕ} 0 1 = cc in absurd (omega arith)
 
-pub wrong_no : (at n : ℕ) (r : Making) → size_from at r ≡ Err n → r ≡ No n
+pub wrong_no : (at : ℕ) (n : Refusal) (r : Making) → size_from at r ≡ Err n → r ≡ No n
 wrong_no at n (Made bs) h = let z : ◌≡◌ {A = ℕ} 0 1 = cc in absurd (omega arith)
 wrong_no at n (No k) h = cc
 
@@ -100,7 +101,7 @@ module _ (l : List ℕ) (from at : ℕ) where
 
 -- ---- the first record, and the rest
 
-on_wrong : (at n : ℕ) (k : List ℕ → Making) (r : Making) → size_from at r ≡ Err n → size_from at (on k r) ≡ Err n
+on_wrong : (at : ℕ) (n : Refusal) (k : List ℕ → Making) (r : Making) → size_from at r ≡ Err n → size_from at (on k r) ≡ Err n
 on_wrong at n k (Made bs) e = let z : ◌≡◌ {A = ℕ} 0 1 = cc in absurd (omega arith)
 on_wrong at n k (No j) e = e
 
@@ -121,7 +122,7 @@ rest-suc k from h g l = omega arith
 
 module _ (rs : List ℕ) (from at : ℕ) (h : length rs % 16 ≡ 0) (g : from % 16 ≡ 0) (l : from < length rs) where
   -- where the records from this byte on end is told by the first of them
-  pub records_wrong : (k : ℕ) → size_from at (record_bits (drop from rs) at) ≡ Err k
+  pub records_wrong : (k : Refusal) → size_from at (record_bits (drop from rs) at) ≡ Err k
       → size_from at (records_bits ((length rs - from) / 16) (drop from rs) at) ≡ Err k
   records_wrong k e =
       ap (λ (n : ℕ). size_from at (records_bits n (drop from rs) at)) (rest-suc (length rs) from h g l) ∙ on_wrong at k _ (record_bits (drop from rs) at) e
