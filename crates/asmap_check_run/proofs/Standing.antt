@@ -17,6 +17,7 @@ use Rattle.asmap_check_run.specs.models.State.{judged}
 use Rattle.asmap_codes.proofs.MapLaws.{laws, map-bits}
 use Rattle.asmap_program.specs.Verdict.{Accepted}
 use Rattle.std.specs.Prelude.{Err}
+use Rattle.refusals.specs.declared.Fault.{Fault}
 
 module _ (m : List ℕ) (w : ℕ) where
   pub record Standing (s : State) : Type 0 where
@@ -64,7 +65,7 @@ module _ (m : List ℕ) (w : ℕ) where
       let q : n + 1 ≡ count_pieces (unpacked (map_of m) w) = sym (counting s n k (Done i c d) e ∙ omega (arith, p)) in
       λ j. record { verdict = sym (answer s h (Done i c d) e) j; place = sym (placed s h (Done i c d) e) j; pieces = q j }
 
-  pub standing_refused : (s : State) → Standing s → (n : ℕ) → Counting s n → (r : ℕ) → step (map_of m) s ≡ Refuse r
+  pub standing_refused : (s : State) → Standing s → (n : ℕ) → Counting s n → (r : Fault) → step (map_of m) s ≡ Refuse r
       → record { verdict = Err r; place = s.at; pieces = n } ≡ judged m w
   unfolding count_pieces
   standing_refused s h n k r e =

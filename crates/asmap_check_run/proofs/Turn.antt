@@ -44,7 +44,7 @@ pub turn_end : (m : List ℕ) (w : ℕ) (st : CheckState) (pos : ℕ) (prev : Pr
     → Standing m w (state_of st pos prev count deepest) → Counting m w (state_of st pos prev count deepest) n → 8 * length m ≤ pos
     → record { verdict = Err fault.MapEnds; place = pos; pieces = n } ≡ judged m w
 turn_end m w st pos prev count deepest n h c k =
-    standing_refused m w _ h n c 2 (end_is m st.targets st.saved st.bits pos prev count deepest st.depth k)
+    standing_refused m w _ h n c fault.MapEnds (end_is m st.targets st.saved st.bits pos prev count deepest st.depth k)
 
 module _ {m : List ℕ} {w : ℕ} {st : CheckState} {pos : ℕ} {prev : Previous} {count deepest pieces : ℕ} {a : Result Act Fault} (T : Turn m w st pos prev count deepest pieces a) where
   abbrev s : State
@@ -120,5 +120,5 @@ module _ {m : List ℕ} {w : ℕ} {st : CheckState} {pos : ℕ} {prev : Previous
   turn_accepts e =
       rw (add-one count) (standing-done m w s T.standing pieces T.counting (here m pos) (suc count) deepest (step_is Accepts e) (told Accepts e))
 
-  pub turn_refuses : (n : ℕ) → a ≡ Refuses n → record { verdict = Err n; place = pos; pieces = pieces } ≡ judged m w
+  pub turn_refuses : (n : Fault) → a ≡ Refuses n → record { verdict = Err n; place = pos; pieces = pieces } ≡ judged m w
   turn_refuses n e = standing_refused m w s T.standing pieces T.counting n (step_is (Refuses n) e)

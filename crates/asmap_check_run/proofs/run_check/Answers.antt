@@ -1,11 +1,13 @@
 -- Each turn of the loop is a step of the definition (`Turn`); the check from where it stands is the check, and what it counted is what it passed.
-use Rattle.std.proofs.Common.{◌≡◌, ◌∙◌, ℕ, ◌+◌, ◌-◌, ◌*◌, ◌≤◌, ◌<◌, List, length, max, sym, ap, arith, Result}
+use Rattle.std.proofs.Common.{◌≡◌, ◌∙◌, ℕ, ◌+◌, ◌-◌, ◌*◌, ◌≤◌, ◌<◌, List, length, max, sym, ap, arith, Result, Ok}
 use lib.ListN.{set}
+use mathlib.Core.Path.{subst}
 use Rattle.asmap_program.specs.declared.Previous.{Previous}
 use Rattle.asmap_program.specs.declared.Previous.TheVariants.{Other}
 use Rattle.asmap_check_run.specs.declared.CheckState.{CheckState}
 use Rattle.asmap_check_run.specs.declared.Judged.{Judged}
 use Rattle.asmap_check_act.specs.declared.Act.{Act}
+use Rattle.asmap_check_act.specs.declared.Act.TheVariants as act
 use Rattle.asmap_check_act.specs.models.Acts.{Opens, Closes, Uses}
 use Rattle.asmap_check_run.specs.models.State.{top, state_of}
 use Rattle.asmap_check_act.specs.models.Act.{acts}
@@ -14,6 +16,10 @@ use Rattle.asmap_check_run.proofs.StateLaws.{length_opens}
 use Rattle.asmap_check_run.proofs.Turn.{Turn, Turned, turn_end, less, certain, room_opens, turn_opens, turn_closes, turn_uses, turn_keeps, turn_accepts, turn_refuses}
 use Rattle.asmap_check_run.proofs.run_check.Goals as goal
 use Rattle.refusals.specs.declared.Fault.{Fault}
+
+-- what `sanity_act` asks, out of its Result
+acted : {a : Result Act Fault} {x : Act} (y : Act) → a ≡ Ok x → x ≡ y → a ≡ Ok y
+acted {a} y e f = subst (λ (z : Act). a ≡ Ok z) f e
 
 module _ (m : List ℕ) (w : ℕ) (st : CheckState) (pos : ℕ) (prev : Previous) (count deepest pieces : ℕ) where
   -- what is known in a turn, said once: after `sanity_act`
@@ -58,50 +64,50 @@ pub use_bits-state-requires : goal.use_bits-state-requires
 use_bits-state-requires c =
     let l = c.loop-pos in
     let t = turn c.args.map.now c.args.bits l.state l.pos l.previous l.count l.deepest l.pieces _ _ l.invariant c.loop-pos-test.true c.innermost-top.ensures c.sanity_act-asked.ensures in
-    certain t (Opens _ _) c.in-Opens.is
+    certain t (Opens _ _) (acted (act.Opens c.in-Ok-Opens.next c.in-Ok-Opens.target) c.in-Ok-Opens.is (rw c.in-Ok-Opens.is at c.in-Ok-Opens.field-0-is))
 
 pub offset_bounds-state-depth : goal.offset_bounds-state-depth
 offset_bounds-state-depth c =
     let l = c.loop-pos in
     let t = turn c.args.map.now c.args.bits l.state l.pos l.previous l.count l.deepest l.pieces _ _ l.invariant c.loop-pos-test.true c.innermost-top.ensures c.sanity_act-asked.ensures in
-    let d = room_opens t _ _ c.in-Opens.is in
+    let d = room_opens t _ _ (acted (act.Opens c.in-Ok-Opens.next c.in-Ok-Opens.target) c.in-Ok-Opens.is (rw c.in-Ok-Opens.is at c.in-Ok-Opens.field-0-is)) in
     omega (arith, d, c.requires.1)
 
 pub bounds-state-depth : goal.bounds-state-depth
 bounds-state-depth c =
     let l = c.loop-pos in
     let t = turn c.args.map.now c.args.bits l.state l.pos l.previous l.count l.deepest l.pieces _ _ l.invariant c.loop-pos-test.true c.innermost-top.ensures c.sanity_act-asked.ensures in
-    let d = room_opens t _ _ c.in-Opens.is in
+    let d = room_opens t _ _ (acted (act.Opens c.in-Ok-Opens.next c.in-Ok-Opens.target) c.in-Ok-Opens.is (rw c.in-Ok-Opens.is at c.in-Ok-Opens.field-0-is)) in
     omega (arith, d, c.requires.1)
 
-pub bounds-state-depth-in-Opens : goal.bounds-state-depth-in-Opens
-bounds-state-depth-in-Opens c =
+pub bounds-state-depth-in-Ok-Opens : goal.bounds-state-depth-in-Ok-Opens
+bounds-state-depth-in-Ok-Opens c =
     let l = c.loop-pos in
     let t = turn c.args.map.now c.args.bits l.state l.pos l.previous l.count l.deepest l.pieces _ _ l.invariant c.loop-pos-test.true c.innermost-top.ensures c.sanity_act-asked.ensures in
-    let d = room_opens t _ _ c.in-Opens.is in
+    let d = room_opens t _ _ (acted (act.Opens c.in-Ok-Opens.next c.in-Ok-Opens.target) c.in-Ok-Opens.is (rw c.in-Ok-Opens.is at c.in-Ok-Opens.field-0-is)) in
     omega (arith, d, c.requires.1)
 
 pub open_jump-state-requires : goal.open_jump-state-requires
 open_jump-state-requires c =
     let l = c.loop-pos in
     let t = turn c.args.map.now c.args.bits l.state l.pos l.previous l.count l.deepest l.pieces _ _ l.invariant c.loop-pos-test.true c.innermost-top.ensures c.sanity_act-asked.ensures in
-    let d = room_opens t _ _ c.in-Opens.is in
+    let d = room_opens t _ _ (acted (act.Opens c.in-Ok-Opens.next c.in-Ok-Opens.target) c.in-Ok-Opens.is (rw c.in-Ok-Opens.is at c.in-Ok-Opens.field-0-is)) in
     omega (arith, d, c.requires.1, ap (λ (x : CheckState). x.depth) c.use_bits-state.ensures.0)
 
-pub loop-pos-smaller-in-Opens : goal.loop-pos-smaller-in-Opens
-loop-pos-smaller-in-Opens c =
+pub loop-pos-smaller-in-Ok-Opens : goal.loop-pos-smaller-in-Ok-Opens
+loop-pos-smaller-in-Ok-Opens c =
     let l = c.loop-pos in
     let t = turn c.args.map.now c.args.bits l.state l.pos l.previous l.count l.deepest l.pieces _ _ l.invariant c.loop-pos-test.true c.innermost-top.ensures c.sanity_act-asked.ensures in
-    let d = room_opens t _ _ c.in-Opens.is in
-    let o = opened c.args.map.now c.args.bits l.state l.pos l.previous l.count l.deepest l.pieces _ t _ _ _ c.in-Opens.is (omega (arith, d, c.requires.1, c.use_bits-state.ensures.1.0)) (omega (arith, d, c.requires.1, c.use_bits-state.ensures.1.1)) _ _ c.use_bits-state.ensures.0 c.open_jump-state.ensures c.larger-deepest.ensures in
+    let d = room_opens t _ _ (acted (act.Opens c.in-Ok-Opens.next c.in-Ok-Opens.target) c.in-Ok-Opens.is (rw c.in-Ok-Opens.is at c.in-Ok-Opens.field-0-is)) in
+    let o = opened c.args.map.now c.args.bits l.state l.pos l.previous l.count l.deepest l.pieces _ t _ _ _ (acted (act.Opens c.in-Ok-Opens.next c.in-Ok-Opens.target) c.in-Ok-Opens.is (rw c.in-Ok-Opens.is at c.in-Ok-Opens.field-0-is)) (omega (arith, d, c.requires.1, c.use_bits-state.ensures.1.0)) (omega (arith, d, c.requires.1, c.use_bits-state.ensures.1.1)) _ _ c.use_bits-state.ensures.0 c.open_jump-state.ensures c.larger-deepest.ensures in
     less t o
 
-pub loop-pos-preserved-in-Opens : goal.loop-pos-preserved-in-Opens
-loop-pos-preserved-in-Opens c =
+pub loop-pos-preserved-in-Ok-Opens : goal.loop-pos-preserved-in-Ok-Opens
+loop-pos-preserved-in-Ok-Opens c =
     let l = c.loop-pos in
     let t = turn c.args.map.now c.args.bits l.state l.pos l.previous l.count l.deepest l.pieces _ _ l.invariant c.loop-pos-test.true c.innermost-top.ensures c.sanity_act-asked.ensures in
-    let d = room_opens t _ _ c.in-Opens.is in
-    let o = opened c.args.map.now c.args.bits l.state l.pos l.previous l.count l.deepest l.pieces _ t _ _ _ c.in-Opens.is (omega (arith, d, c.requires.1, c.use_bits-state.ensures.1.0)) (omega (arith, d, c.requires.1, c.use_bits-state.ensures.1.1)) _ _ c.use_bits-state.ensures.0 c.open_jump-state.ensures c.larger-deepest.ensures in
+    let d = room_opens t _ _ (acted (act.Opens c.in-Ok-Opens.next c.in-Ok-Opens.target) c.in-Ok-Opens.is (rw c.in-Ok-Opens.is at c.in-Ok-Opens.field-0-is)) in
+    let o = opened c.args.map.now c.args.bits l.state l.pos l.previous l.count l.deepest l.pieces _ t _ _ _ (acted (act.Opens c.in-Ok-Opens.next c.in-Ok-Opens.target) c.in-Ok-Opens.is (rw c.in-Ok-Opens.is at c.in-Ok-Opens.field-0-is)) (omega (arith, d, c.requires.1, c.use_bits-state.ensures.1.0)) (omega (arith, d, c.requires.1, c.use_bits-state.ensures.1.1)) _ _ c.use_bits-state.ensures.0 c.open_jump-state.ensures c.larger-deepest.ensures in
     (o.standing, o.counting)
 
 -- ---- RETURN
@@ -110,56 +116,56 @@ pub overflow_sub-saved : goal.overflow_sub-saved
 overflow_sub-saved c =
     let l = c.loop-pos in
     let t = turn c.args.map.now c.args.bits l.state l.pos l.previous l.count l.deepest l.pieces _ _ l.invariant c.loop-pos-test.true c.innermost-top.ensures c.sanity_act-asked.ensures in
-    certain t (Closes _) c.in-Closes.is
+    certain t (Closes _) (acted (act.Closes c.in-Ok-Closes.next) c.in-Ok-Closes.is (rw c.in-Ok-Closes.is at c.in-Ok-Closes.field-0-is))
 
-pub bounds-state-depth-in-Closes : goal.bounds-state-depth-in-Closes
-bounds-state-depth-in-Closes c =
+pub bounds-state-depth-in-Ok-Closes : goal.bounds-state-depth-in-Ok-Closes
+bounds-state-depth-in-Ok-Closes c =
     let l = c.loop-pos in
     let t = turn c.args.map.now c.args.bits l.state l.pos l.previous l.count l.deepest l.pieces _ _ l.invariant c.loop-pos-test.true c.innermost-top.ensures c.sanity_act-asked.ensures in
-    omega (arith, (standing_room _ _ _ l.invariant.0).now, length_opens l.state.targets l.state.saved l.state.depth, c.requires.1, certain t (Closes _) c.in-Closes.is)
+    omega (arith, (standing_room _ _ _ l.invariant.0).now, length_opens l.state.targets l.state.saved l.state.depth, c.requires.1, certain t (Closes _) (acted (act.Closes c.in-Ok-Closes.next) c.in-Ok-Closes.is (rw c.in-Ok-Closes.is at c.in-Ok-Closes.field-0-is)))
 
 pub close_jump-state-requires : goal.close_jump-state-requires
 close_jump-state-requires c =
     let l = c.loop-pos in
     let t = turn c.args.map.now c.args.bits l.state l.pos l.previous l.count l.deepest l.pieces _ _ l.invariant c.loop-pos-test.true c.innermost-top.ensures c.sanity_act-asked.ensures in
-    certain t (Closes _) c.in-Closes.is
+    certain t (Closes _) (acted (act.Closes c.in-Ok-Closes.next) c.in-Ok-Closes.is (rw c.in-Ok-Closes.is at c.in-Ok-Closes.field-0-is))
 
-pub loop-pos-smaller-in-Closes : goal.loop-pos-smaller-in-Closes
-loop-pos-smaller-in-Closes c =
+pub loop-pos-smaller-in-Ok-Closes : goal.loop-pos-smaller-in-Ok-Closes
+loop-pos-smaller-in-Ok-Closes c =
     let l = c.loop-pos in
     let t = turn c.args.map.now c.args.bits l.state l.pos l.previous l.count l.deepest l.pieces _ _ l.invariant c.loop-pos-test.true c.innermost-top.ensures c.sanity_act-asked.ensures in
-    let o = turn_closes t _ c.in-Closes.is c.close_jump-state.result c.close_jump-state.ensures in
+    let o = turn_closes t _ (acted (act.Closes c.in-Ok-Closes.next) c.in-Ok-Closes.is (rw c.in-Ok-Closes.is at c.in-Ok-Closes.field-0-is)) c.close_jump-state.result c.close_jump-state.ensures in
     less t o
 
-pub loop-pos-preserved-in-Closes : goal.loop-pos-preserved-in-Closes
-loop-pos-preserved-in-Closes c =
+pub loop-pos-preserved-in-Ok-Closes : goal.loop-pos-preserved-in-Ok-Closes
+loop-pos-preserved-in-Ok-Closes c =
     let l = c.loop-pos in
     let t = turn c.args.map.now c.args.bits l.state l.pos l.previous l.count l.deepest l.pieces _ _ l.invariant c.loop-pos-test.true c.innermost-top.ensures c.sanity_act-asked.ensures in
-    let o = turn_closes t _ c.in-Closes.is c.close_jump-state.result c.close_jump-state.ensures in
+    let o = turn_closes t _ (acted (act.Closes c.in-Ok-Closes.next) c.in-Ok-Closes.is (rw c.in-Ok-Closes.is at c.in-Ok-Closes.field-0-is)) c.close_jump-state.result c.close_jump-state.ensures in
     (o.standing, o.counting)
 
 -- ---- MATCH
 
-pub use_bits-state-requires-in-Uses : goal.use_bits-state-requires-in-Uses
-use_bits-state-requires-in-Uses c =
+pub use_bits-state-requires-in-Ok-Uses : goal.use_bits-state-requires-in-Ok-Uses
+use_bits-state-requires-in-Ok-Uses c =
     let l = c.loop-pos in
     let t = turn c.args.map.now c.args.bits l.state l.pos l.previous l.count l.deepest l.pieces _ _ l.invariant c.loop-pos-test.true c.innermost-top.ensures c.sanity_act-asked.ensures in
-    certain t (Uses _ _) c.in-Uses.is
+    certain t (Uses _ _) (acted (act.Uses c.in-Ok-Uses.next c.in-Ok-Uses.length) c.in-Ok-Uses.is (rw c.in-Ok-Uses.is at c.in-Ok-Uses.field-0-is))
 
-pub loop-pos-smaller-in-Uses : goal.loop-pos-smaller-in-Uses
-loop-pos-smaller-in-Uses c =
+pub loop-pos-smaller-in-Ok-Uses : goal.loop-pos-smaller-in-Ok-Uses
+loop-pos-smaller-in-Ok-Uses c =
     let l = c.loop-pos in
     let t = turn c.args.map.now c.args.bits l.state l.pos l.previous l.count l.deepest l.pieces _ _ l.invariant c.loop-pos-test.true c.innermost-top.ensures c.sanity_act-asked.ensures in
-    let k = short c.args.map.now c.args.bits l.state l.pos l.previous l.count l.deepest l.pieces _ t _ _ c.in-Uses.is c.requires.1 in
-    let o = turn_uses t _ _ c.in-Uses.is c.use_bits-state-in-Uses.result c.after_match-previous.result c.use_bits-state-in-Uses.ensures.0 c.after_match-previous.ensures k in
+    let k = short c.args.map.now c.args.bits l.state l.pos l.previous l.count l.deepest l.pieces _ t _ _ (acted (act.Uses c.in-Ok-Uses.next c.in-Ok-Uses.length) c.in-Ok-Uses.is (rw c.in-Ok-Uses.is at c.in-Ok-Uses.field-0-is)) c.requires.1 in
+    let o = turn_uses t _ _ (acted (act.Uses c.in-Ok-Uses.next c.in-Ok-Uses.length) c.in-Ok-Uses.is (rw c.in-Ok-Uses.is at c.in-Ok-Uses.field-0-is)) c.use_bits-state-in-Ok-Uses.result c.after_match-previous.result c.use_bits-state-in-Ok-Uses.ensures.0 c.after_match-previous.ensures k in
     less t o
 
-pub loop-pos-preserved-in-Uses : goal.loop-pos-preserved-in-Uses
-loop-pos-preserved-in-Uses c =
+pub loop-pos-preserved-in-Ok-Uses : goal.loop-pos-preserved-in-Ok-Uses
+loop-pos-preserved-in-Ok-Uses c =
     let l = c.loop-pos in
     let t = turn c.args.map.now c.args.bits l.state l.pos l.previous l.count l.deepest l.pieces _ _ l.invariant c.loop-pos-test.true c.innermost-top.ensures c.sanity_act-asked.ensures in
-    let k = short c.args.map.now c.args.bits l.state l.pos l.previous l.count l.deepest l.pieces _ t _ _ c.in-Uses.is c.requires.1 in
-    let o = turn_uses t _ _ c.in-Uses.is c.use_bits-state-in-Uses.result c.after_match-previous.result c.use_bits-state-in-Uses.ensures.0 c.after_match-previous.ensures k in
+    let k = short c.args.map.now c.args.bits l.state l.pos l.previous l.count l.deepest l.pieces _ t _ _ (acted (act.Uses c.in-Ok-Uses.next c.in-Ok-Uses.length) c.in-Ok-Uses.is (rw c.in-Ok-Uses.is at c.in-Ok-Uses.field-0-is)) c.requires.1 in
+    let o = turn_uses t _ _ (acted (act.Uses c.in-Ok-Uses.next c.in-Ok-Uses.length) c.in-Ok-Uses.is (rw c.in-Ok-Uses.is at c.in-Ok-Uses.field-0-is)) c.use_bits-state-in-Ok-Uses.result c.after_match-previous.result c.use_bits-state-in-Ok-Uses.ensures.0 c.after_match-previous.ensures k in
     (o.standing, o.counting)
 
 -- ---- DEFAULT
@@ -168,14 +174,14 @@ pub loop-pos-smaller : goal.loop-pos-smaller
 loop-pos-smaller c =
     let l = c.loop-pos in
     let t = turn c.args.map.now c.args.bits l.state l.pos l.previous l.count l.deepest l.pieces _ _ l.invariant c.loop-pos-test.true c.innermost-top.ensures c.sanity_act-asked.ensures in
-    let o = turn_keeps t _ c.in-Keeps.is in
+    let o = turn_keeps t _ (acted (act.Keeps c.in-Ok-Keeps.next) c.in-Ok-Keeps.is (rw c.in-Ok-Keeps.is at c.in-Ok-Keeps.field-0-is)) in
     less t o
 
 pub loop-pos-preserved : goal.loop-pos-preserved
 loop-pos-preserved c =
     let l = c.loop-pos in
     let t = turn c.args.map.now c.args.bits l.state l.pos l.previous l.count l.deepest l.pieces _ _ l.invariant c.loop-pos-test.true c.innermost-top.ensures c.sanity_act-asked.ensures in
-    let o = turn_keeps t _ c.in-Keeps.is in
+    let o = turn_keeps t _ (acted (act.Keeps c.in-Ok-Keeps.next) c.in-Ok-Keeps.is (rw c.in-Ok-Keeps.is at c.in-Ok-Keeps.field-0-is)) in
     (o.standing, o.counting)
 
 -- ---- the answers
@@ -183,19 +189,19 @@ loop-pos-preserved c =
 pub overflow_cast-greatest : goal.overflow_cast-greatest
 overflow_cast-greatest c = omega (arith, (standing_room _ _ _ c.loop-pos.invariant.0).deep, c.requires.1)
 
-pub returns-in-Accepts : goal.returns-in-Accepts
-returns-in-Accepts c =
+pub returns-in-Ok-Accepts : goal.returns-in-Ok-Accepts
+returns-in-Ok-Accepts c =
     let l = c.loop-pos in
     let t = turn c.args.map.now c.args.bits l.state l.pos l.previous l.count l.deepest l.pieces _ _ l.invariant c.loop-pos-test.true c.innermost-top.ensures c.sanity_act-asked.ensures in
     let n = pieces-few _ _ _ _ l.invariant.0 l.invariant.1 c.requires.0 in
-    (c.judge.ensures ∙ turn_accepts t c.in-Accepts.is, omega (arith, ap (λ (j : Judged). j.pieces) c.judge.ensures, n))
+    (c.judge.ensures ∙ turn_accepts t (acted act.Accepts c.in-Ok-Accepts.is (rw c.in-Ok-Accepts.is at c.in-Ok-Accepts.field-0-is)), omega (arith, ap (λ (j : Judged). j.pieces) c.judge.ensures, n))
 
-pub returns-in-Refuses : goal.returns-in-Refuses
-returns-in-Refuses c =
+pub returns-in-Err : goal.returns-in-Err
+returns-in-Err c =
     let l = c.loop-pos in
     let t = turn c.args.map.now c.args.bits l.state l.pos l.previous l.count l.deepest l.pieces _ _ l.invariant c.loop-pos-test.true c.innermost-top.ensures c.sanity_act-asked.ensures in
     let n = pieces-few _ _ _ _ l.invariant.0 l.invariant.1 c.requires.0 in
-    (c.judge-in-Refuses.ensures ∙ turn_refuses t _ c.in-Refuses.is, omega (arith, ap (λ (j : Judged). j.pieces) c.judge-in-Refuses.ensures, n))
+    (c.judge-in-Err.ensures ∙ turn_refuses t _ c.in-Err.is, omega (arith, ap (λ (j : Judged). j.pieces) c.judge-in-Err.ensures, n))
 
 pub returns : goal.returns
 returns c =
