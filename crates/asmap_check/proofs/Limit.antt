@@ -13,7 +13,7 @@ use Rattle.asmap_program.proofs.Wider.{accepted_wider}
 use Rattle.asmap_codes.specs.Instruction.{map_of}
 use Rattle.asmap_check_run.specs.declared.Judged.{Judged}
 use Rattle.asmap_check_run.specs.models.State.{judged}
-use Rattle.asmap_check.specs.Check.{unless_long, check_of, reason_of, stopped_of}
+use Rattle.asmap_check.specs.Check.{unless_long, check_of, wrong_of, stopped_of}
 use Rattle.asmap_check.specs.models.Counted.{counted_as, counted_of}
 use Rattle.asmap_program.specs.Verdict.{Accepted}
 use Rattle.asmap_check.specs.Stop.{At}
@@ -30,7 +30,7 @@ module _ (m : List ℕ) (w : ℕ) where
   pub stopped_long : 16777216 < length m → Err fault.MapTooLong ≡ stopped_of m w
   stopped_long h = rw (lt-ltb 16777216 (length m) h)
 
-  pub stopped_at_lem : length m ≤ 16777216 → (j : Judged) → j ≡ judged m w → At (reason_of j.verdict) j.place ≡ stopped_of m w
+  pub stopped_at_lem : length m ≤ 16777216 → (j : Judged) → j ≡ judged m w → At (wrong_of j.verdict) j.place ≡ stopped_of m w
   stopped_at_lem h j e = rw (e, le-ltb 16777216 (length m) h)
 
   pub counted_long : 16777216 < length m → Err fault.MapTooLong ≡ counted_of m w

@@ -9,18 +9,19 @@ use mathlib.Core.List.{List}
 use native.Mathlib.Omega.{arith}
 use lib.Dec.{ltb}
 use lib.ListN.{length}
-use Rattle.asmap_program.specs.Map.{limit, Map, Opcode, Operand, cut_reason}
+use Rattle.asmap_program.specs.Map.{limit, Map}
 use Rattle.asmap_program.specs.Check.{State, Outcome, Next, Done, Refuse, step, after, run, start, check}
 use Rattle.asmap_program.proofs.Refusals.{test-number, Refuses, step_refuses}
 use Rattle.asmap_codes.specs.Instruction.{map_of}
 use Rattle.asmap_check.specs.Check.{unless_long, check_of, Reason}
 use Rattle.asmap_program.specs.Verdict.{Verdict}
+use Rattle.refusals.specs.Numbers.{fault_number}
 use Rattle.std.specs.Prelude.{Err, Ok}
 
--- of a verdict that refuses
+-- of the number of a verdict that refuses
 abbrev pub Judged : (ℕ → Type 0) → Verdict → Type 0
 Judged P (Ok got) = Unit {0}
-Judged P (Err n) = P n
+Judged P (Err f) = P (fault_number f)
 
 -- none of them is 0, and a byte has room for each with 100 more
 pub reason-some : (n : ℕ) → Reason n → 0 < n
@@ -32,14 +33,14 @@ reason_small n (inl h) = omega arith
 reason_small n (inr e) = omega arith
 
 module _ (P : ℕ → Type 0) (reason : (n : ℕ) → Reason n → P n) where
-  stepped : (m : Map) (s : State) → Refuses m s P (step m s)
+  stepped : (m : Map) (s : State) → Refuses m s (λ f. P (fault_number f)) (step m s)
   stepped m s =
-      step_refuses m s P
-      (λ n t. let k = test-number n t in reason n (inl (k.0, k.1.0)))
-      (λ e. reason (cut_reason Opcode) (inl (omega arith, omega arith)))
-      (λ op e. reason (cut_reason Operand) (inr refl))
+      step_refuses m s (λ f. P (fault_number f))
+      (λ f t. let k = test-number f t in reason (fault_number f) (inl (k.0, k.1.0)))
+      (λ e. reason 4 (inl (omega arith, omega arith)))
+      (λ op e. reason 19 (inr refl))
 
-  judged_after : (m : Map) (s : State) (k : State → Verdict) → ((s : State) → Judged P (k s)) → (o : Outcome) → Refuses m s P o → Judged P (after k o)
+  judged_after : (m : Map) (s : State) (k : State → Verdict) → ((s : State) → Judged P (k s)) → (o : Outcome) → Refuses m s (λ f. P (fault_number f)) o → Judged P (after k o)
   judged_after m s k h (Next i s') v = h s'
   judged_after m s k h (Done i c d) v = tt
   judged_after m s k h (Refuse n) v = v

@@ -1,6 +1,6 @@
 -- What the check answers for a list of bytes (document 01, Check and "What a call hands back").
 -- Assumes nothing.
-use Rattle.std.specs.Prelude.{ℕ, ◌≤◌, Bool, true, false, ◌≡◌, ◌⊎◌, List, ltb, length, Result, Err, Ok}
+use Rattle.std.specs.Prelude.{ℕ, ◌≤◌, Bool, true, false, ◌≡◌, ◌⊎◌, List, ltb, length, Option, Some, None, Result, Err, Ok}
 use Rattle.refusals.specs.declared.Refusal.{Refusal}
 use Rattle.refusals.specs.Numbers.{of_map}
 use Rattle.asmap_program.specs.declared.Accepted as struct
