@@ -21,7 +21,7 @@ pub fn hand_code(got: Result<Code, Fault>, value: &mut u32, next: &mut usize) ->
             *next = end;
             0
         }
-        Err(why) => why.number(),
+        Err(fault) => fault.number(),
     }
 }
 
@@ -42,7 +42,7 @@ pub fn hand_instruction(
             *size = found.size;
             0
         }
-        Err(why) => why.number(),
+        Err(fault) => fault.number(),
     }
 }
 
@@ -57,6 +57,6 @@ pub fn hand_bits(got: Result<Word, Refusal>, bits: &mut u64, len: &mut usize) ->
             *len = word.len;
             0
         }
-        Err(why) => why.number(),
+        Err(refusal) => refusal.number(),
     }
 }
