@@ -103,3 +103,13 @@ module _ (g : ℕ) (xs : List ℕ) (i : ℕ) where
 
   pub front-done : length xs ≤ i → in_front g (drop i xs) ≡ 0
   front-done h = rw (ended xs i h)
+
+-- with k groups more behind it
+module _ (g : ℕ) (xs : List ℕ) (i k : ℕ) (h : i < length xs) where
+  pub next_hit : g ≡ get_or xs i 0 → in_front g (take (1 + k) (drop i xs)) ≡ 0
+  next_hit e =
+      let z = one_hit g xs i h e in
+      part_here g xs i 1 (omega arith) k (omega (arith, z)) ∙ z
+
+  pub next_missed : (g ≡ get_or xs i 0 → ⊥) → in_front g (take (1 + k) (drop i xs)) ≡ 1 + in_front g (take k (drop (i + 1) xs))
+  next_missed e = part_on g xs i 1 (omega arith) k (omega (arith, one_missed g xs i h e))

@@ -16,42 +16,18 @@ pub struct Scan {
     pub read: usize,
 }
 
-// How many of two groups, from a place on, stand in front of the first that is a given one: both where neither is.
-fn front_of_two(groups: &[u64], i: usize, group: u64) -> usize
-    requires { i + 2 ≤ length groups.now }
-    ensures { result ≡ in_front group (take 2 (drop i groups.now)) }
+// How many of the next groups from a place on, so many, stand in front of the first that is a given one: all where none of them is. With
+// a number that is known when the program is made the compiler writes one comparison behind the other.
+fn front_of<const N: usize>(groups: &[u64], i: usize, group: u64) -> usize
+    requires { i + N ≤ length groups.now }
+    ensures { result ≡ in_front group (take N (drop i groups.now)) }
 {
-    if group == groups[i] {
-        return 0;
+    for k in 0..N {
+        if group == groups[i + k] {
+            return k;
+        }
     }
-    if group == groups[i + 1] {
-        return 1;
-    }
-    2
-}
-
-// How many of four.
-fn front_of_four(groups: &[u64], i: usize, group: u64) -> usize
-    requires { i + 4 ≤ length groups.now }
-    ensures { result ≡ in_front group (take 4 (drop i groups.now)) }
-{
-    let front = front_of_two(groups, i, group);
-    if front < 2 {
-        return front;
-    }
-    2 + front_of_two(groups, i + 2, group)
-}
-
-// How many of eight.
-fn front_of_eight(groups: &[u64], i: usize, group: u64) -> usize
-    requires { i + 8 ≤ length groups.now }
-    ensures { result ≡ in_front group (take 8 (drop i groups.now)) }
-{
-    let front = front_of_four(groups, i, group);
-    if front < 4 {
-        return front;
-    }
-    4 + front_of_four(groups, i + 4, group)
+    N
 }
 
 // The place of the first that is a given one, from a place on, one by one: the end where none is.
@@ -59,14 +35,12 @@ fn place_from(groups: &[u64], from: usize, group: u64) -> usize
     requires { from ≤ length groups.now }
     ensures { result ≡ from + in_front group (drop from groups.now) }
 {
-    let mut i = from;
-    while i < groups.len() {
+    for i in from..groups.len() {
         if group == groups[i] {
             return i;
         }
-        i += 1;
     }
-    i
+    groups.len()
 }
 
 // The place of the first that is a given one: the end where none is. No group behind it is read. Eight are compared in each turn:
@@ -74,15 +48,13 @@ fn place_from(groups: &[u64], from: usize, group: u64) -> usize
 fn place_of(groups: &[u64], group: u64) -> usize
     ensures { result ≡ in_front group groups.now }
 {
-    let mut i: usize = 0;
-    while 8 <= groups.len() - i {
-        let front = front_of_eight(groups, i, group);
+    for turn in 0..groups.len() / 8 {
+        let front = front_of::<8>(groups, 8 * turn, group);
         if front < 8 {
-            return i + front;
+            return 8 * turn + front;
         }
-        i += 8;
     }
-    place_from(groups, i, group)
+    place_from(groups, groups.len() / 8 * 8, group)
 }
 
 // Whether a group is in a list of groups.

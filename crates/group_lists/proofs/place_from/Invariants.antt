@@ -1,10 +1,7 @@
 -- The groups from `i` on decide.
-use Rattle.std.proofs.Common.{◌≡◌, ◌≤◌, ◌-◌, ◌+◌, length, drop}
+use Rattle.std.proofs.Common.{◌≡◌, ◌+◌, drop}
 use Rattle.group_lists.specs.Scan.{in_front}
 use Rattle.group_lists.proofs.place_from.Given as goal
 
 abbrev pub invariant-loop-i : goal.invariant-loop-i
-invariant-loop-i l = (l.i ≤ length l.groups) × (l.from + in_front l.group (drop l.from l.groups) ≡ l.i + in_front l.group (drop l.i l.groups))
-
-abbrev pub decreases-loop-i : goal.decreases-loop-i
-decreases-loop-i l = length l.groups - l.i
+invariant-loop-i l = l.from + in_front l.group (drop l.from l.groups) ≡ l.i + in_front l.group (drop l.i l.groups)

@@ -1,10 +1,7 @@
--- The groups from `i` on decide.
-use Rattle.std.proofs.Common.{◌≡◌, ◌≤◌, ◌-◌, ◌+◌, length, drop}
+-- The groups behind the turns decide.
+use Rattle.std.proofs.Common.{◌≡◌, ◌*◌, ◌+◌, drop}
 use Rattle.group_lists.specs.Scan.{in_front}
 use Rattle.group_lists.proofs.place_of.Given as goal
 
-abbrev pub invariant-loop-i : goal.invariant-loop-i
-invariant-loop-i l = (l.i ≤ length l.groups) × (in_front l.group l.groups ≡ l.i + in_front l.group (drop l.i l.groups))
-
-abbrev pub decreases-loop-i : goal.decreases-loop-i
-decreases-loop-i l = length l.groups - l.i
+abbrev pub invariant-loop-turn : goal.invariant-loop-turn
+invariant-loop-turn l = in_front l.group l.groups ≡ 8 * l.turn + in_front l.group (drop (8 * l.turn) l.groups)
