@@ -1,4 +1,4 @@
-// What the filters came to (document 01, Filters), as numbers: 1 for yes, 0 for no. The exported calls hand it out by these functions.
+// What the filters came to (document 01, Filters), as a number: 1 for yes, 0 for no. The exported calls hand it out by this function.
 #![tactic(auto)]
 
 ghost use Rattle.std.specs.Prelude.{◌≡◌, ◌∷◌, []};
@@ -7,28 +7,14 @@ ghost use Rattle.answer_filters.specs.Filters.{said};
 
 use refusals::Refusal;
 
-// What the filter says, as an answer and a lent number.
+// What a filter says, as an answer and a lent number.
 #[tactic(auto, unfolding(answer_outcome::specs::Outcome::handed, crate::specs::Filters::said))]
-pub fn hand_filtered(got: Result<bool, Refusal>, unroutable: &mut u8) -> u8
-    ensures { result ∷ unroutable.new ∷ [] ≡ handed (said got) (unroutable.old ∷ []) }
+pub fn hand_said(got: Result<bool, Refusal>, answer: &mut u8) -> u8
+    ensures { result ∷ answer.new ∷ [] ≡ handed (said got) (answer.old ∷ []) }
 {
     match got {
         Ok(is_so) => {
-            *unroutable = is_so as u8;
-            0
-        }
-        Err(refusal) => refusal.number(),
-    }
-}
-
-// What relay says.
-#[tactic(auto, unfolding(answer_outcome::specs::Outcome::handed, crate::specs::Filters::said))]
-pub fn hand_relay(got: Result<bool, Refusal>, skips: &mut u8) -> u8
-    ensures { result ∷ skips.new ∷ [] ≡ handed (said got) (skips.old ∷ []) }
-{
-    match got {
-        Ok(is_so) => {
-            *skips = is_so as u8;
+            *answer = u8::from(is_so);
             0
         }
         Err(refusal) => refusal.number(),

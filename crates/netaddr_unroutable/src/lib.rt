@@ -11,7 +11,7 @@ use netaddr_ipv6::{
 };
 use netaddr_ranges::ipv4_unroutable;
 
-// The bytes of an address, of which there are as many as it has.
+// The bytes of an address as an array.
 pub fn octets<const N: usize>(address: &[u8]) -> [u8; N]
     requires { length address.now ≡ N }
     ensures { result ≡ address.now }
