@@ -2,7 +2,7 @@
 -- zeros that the window would start with if each bit were the other (ones_trailing).
 -- Assumes nothing.
 use mathlib.Core.Path.{◌≡◌, ◌∙◌, refl, sym, ap}
-use Prim.Native.Nat.{ℕ, zero, suc, ◌+◌, ◌-◌, ◌*◌, ◌/◌, ◌%◌, ◌^◌, ◌≤◌, ◌<◌}
+use Prim.Native.Nat.{ℕ, zero, suc, ◌+◌, ◌-◌, ◌*◌, ◌/◌, ◌%◌, ◌^◌, ◌≤◌, ◌<◌, min}
 use native.Mathlib.Nat.{pow-succ', div-one}
 use native.Mathlib.Decide.{dec_lt}
 use native.Mathlib.Omega.{arith}
@@ -61,23 +61,14 @@ ones_trailing (suc n) (suc k) w h l = go (dec_lt (w % 2) 1) (ones_trailing n k (
         ∙ sym (ones_one n w (omega arith))
 
 -- fewer bits are looked at: as many ones, or all
-abbrev AtMost : ℕ → ℕ → ℕ → Type 0
-AtMost n m w = (ones_of m w ≤ n → ones_of m w ≡ ones_of n w) × (n < ones_of m w → n ≡ ones_of n w)
-
-pub ones_most : (n m w : ℕ) → n ≤ m → AtMost n m w
-ones_most zero m w h = (λ q. omega (arith, ones_none w), λ q. sym (ones_none w))
+pub ones_most : (n m w : ℕ) → n ≤ m → min n (ones_of m w) ≡ ones_of n w
+ones_most zero m w h = omega (arith, ones_none w)
 ones_most (suc n) zero w h = absurd (omega arith)
 ones_most (suc n) (suc m) w h = go (dec_lt (w % 2) 1) (ones_most n m (w / 2) (omega arith))
   where
-    go : Dec (w % 2 < 1) → AtMost n m (w / 2) → AtMost (suc n) (suc m) w
-    go (yes z) r =
-        let a = ones-zero m w (omega arith) in
-        let b = ones-zero n w (omega arith) in
-        (λ q. a ∙ sym b, λ q. absurd (omega (arith, a)))
-    go (no z) r =
-        let a = ones_one m w (omega arith) in
-        let b = ones_one n w (omega arith) in
-        (λ q. omega (arith, a, b, r.0 (omega (arith, a))), λ q. omega (arith, b, r.1 (omega (arith, a))))
+    go : Dec (w % 2 < 1) → min n (ones_of m (w / 2)) ≡ ones_of n (w / 2) → min (suc n) (ones_of (suc m) w) ≡ ones_of (suc n) w
+    go (yes z) r = omega (arith, ones-zero m w (omega arith), ones-zero n w (omega arith))
+    go (no z) r = omega (arith, ones_one m w (omega arith), ones_one n w (omega arith), r)
 
 -- ---- the code
 

@@ -20,11 +20,9 @@ fn first_bits(w: u64, size: u8) -> u32
 {
     let mut left = w;
     let mut value: u32 = 0;
-    let mut k: u8 = 0;
-    while k < size {
+    for _k in 0..size {
         value = value * 2 + (left % 2) as u32;
-        left = left / 2;
-        k += 1;
+        left /= 2;
     }
     value
 }
@@ -57,28 +55,25 @@ fn read_prefix(w: u64, least: u32, sizes: &[u8]) -> Prefix
     let last = sizes.len() - 1;
     let mut value = least;
     let mut left = w;
-    let mut i: usize = 0;
-    while i < last {
+    for i in 0..last {
         let size = sizes[i];
         let bit = left % 2;
-        left = left / 2;
+        left /= 2;
         if bit == 0 {
             return Prefix {
-                value: value,
-                left: left,
+                value,
+                left,
                 read: i + 1,
-                size: size,
+                size,
             };
         }
         value += asmap_codes::power(size);
-        i += 1;
     }
-    let size = sizes[i];
     Prefix {
-        value: value,
-        left: left,
-        read: i,
-        size: size,
+        value,
+        left,
+        read: last,
+        size: sizes[last],
     }
 }
 
@@ -93,16 +88,12 @@ fn decode_each(w: u64, at: usize, end: usize, least: u32, sizes: &[u8]) -> Optio
     coded(value, at + stop.read + size as usize, end)
 }
 
-// How many ones a window starts with, `most` at most: the zeros that it would start with if each bit were the other.
+// How many ones a window starts with, `most` at most.
 fn starting_ones(w: u64, most: usize) -> usize
     requires { most ≤ 64 }
     ensures { result ≡ ones_of most w }
 {
-    let ones = u64::trailing_zeros(18446744073709551615 - w) as usize;
-    if most < ones {
-        return most;
-    }
-    ones
+    most.min(w.trailing_ones() as usize)
 }
 
 // The code of a row whose sizes grow by one from `first` on, all at once: each one before the zero passes a size, and the sizes
