@@ -12,20 +12,20 @@ use Rattle.refusals.specs.declared.Refusal.{Refusal}
 walked : (m a : List ℕ) (w : ℕ) (r : Result Ending Refusal) → r ≡ interpret_over m a w → is_width w ≡ true → r ≡ interpret_at m a w
 walked m a w r e t = e ∙ sym (at_width_lem w Err (interpret_over m a w) t)
 
-pub returns-then-is_width-clause-walked : goal.returns-then-is_width-clause-walked
-returns-then-is_width-clause-walked c = walked c.args.map.now c.args.address.now c.args.width _ c.walk_over.ensures (sym c.is_width.ensures ∙ c.if-is_width.true)
-
-pub returns-then-is_width-clause-demand3 : goal.returns-then-is_width-clause-demand3
-returns-then-is_width-clause-demand3 c =
-    let a = c.args in
-    (promised_at a.map.now a.address.now a.width _ (walked a.map.now a.address.now a.width _ c.walk_over.ensures (sym c.is_width.ensures ∙ c.if-is_width.true))).1.0
-
-pub returns-then-is_width-clause-core : goal.returns-then-is_width-clause-core
-returns-then-is_width-clause-core c =
-    let a = c.args in
-    (promised_at a.map.now a.address.now a.width _ (walked a.map.now a.address.now a.width _ c.walk_over.ensures (sym c.is_width.ensures ∙ c.if-is_width.true))).1.1
-
 pub returns-clause-walked : goal.returns-clause-walked
-returns-clause-walked c =
+returns-clause-walked c = walked c.args.map.now c.args.address.now c.args.width _ c.walk_over.ensures (sym c.is_width.ensures ∙ c.if-not-is_width.false)
+
+pub returns-clause-demand3 : goal.returns-clause-demand3
+returns-clause-demand3 c =
     let a = c.args in
-    sym (no_width a.width Err (interpret_over a.map.now a.address.now a.width) (sym c.is_width.ensures ∙ c.if-is_width.false))
+    (promised_at a.map.now a.address.now a.width _ (walked a.map.now a.address.now a.width _ c.walk_over.ensures (sym c.is_width.ensures ∙ c.if-not-is_width.false))).1.0
+
+pub returns-clause-core : goal.returns-clause-core
+returns-clause-core c =
+    let a = c.args in
+    (promised_at a.map.now a.address.now a.width _ (walked a.map.now a.address.now a.width _ c.walk_over.ensures (sym c.is_width.ensures ∙ c.if-not-is_width.false))).1.1
+
+pub returns-then-not-is_width-clause-walked : goal.returns-then-not-is_width-clause-walked
+returns-then-not-is_width-clause-walked c =
+    let a = c.args in
+    sym (no_width a.width Err (interpret_over a.map.now a.address.now a.width) (sym c.is_width.ensures ∙ c.if-not-is_width.true))
