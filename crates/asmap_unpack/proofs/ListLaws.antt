@@ -12,6 +12,7 @@ use Rattle.asmap_codes.specs.Instruction.{map_of, read_instruction}
 use Rattle.asmap_codes.proofs.MapLaws.{instruction_at_lem, laws, map-bits}
 use Rattle.asmap_records.specs.Record.{record_of, records_of}
 use Rattle.byte_numbers.proofs.Buffers.{sets-append}
+use Rattle.refusals.specs.declared.Fault.{Fault}
 use Rattle.std.specs.Prelude.{Ok, Err}
 
 -- ---- what is listed, by what stands at a place
@@ -48,7 +49,7 @@ module _ (m : List ℕ) (p : ℕ) (h : length m ≤ 16777216) where
       go (CutOperand op) q = let r = sym (instruction_at_lem m p h (CutOperand op) q) ∙ e in let z : ◌≡◌ {A = ℕ} 0 1 = cc in absurd (omega arith)
 
   -- where none was read, none is listed
-  pub read_none : (n r : ℕ) → read_instruction m p ≡ Err r → list_from (map_of m) n p ≡ []
+  pub read_none : (n : ℕ) (r : Fault) → read_instruction m p ≡ Err r → list_from (map_of m) n p ≡ []
   read_none n r e = go ((map_of m).fetch p) refl
     where
       go : (f : Fetched) → (map_of m).fetch p ≡ f → list_from (map_of m) n p ≡ []

@@ -26,12 +26,12 @@ returns-in_default c =
 
 pub overflow_add-at : goal.overflow_add-at
 overflow_add-at c =
-    let t = turn_of c.args.map.now c.loop-i.at c.in-Found.instruction c.requires.0 (sym c.in-Found.ensures) in
+    let t = turn_of c.args.map.now c.loop-i.at c.in-Ok.instruction c.requires.0 (sym c.in-Ok.ensures) in
     omega (arith, t.inside)
 
 pub put_record-requires : goal.put_record-requires
 put_record-requires c =
-    let t = turn_of c.args.map.now c.loop-i.at c.in-Found.instruction c.requires.0 (sym c.in-Found.ensures) in
+    let t = turn_of c.args.map.now c.loop-i.at c.in-Ok.instruction c.requires.0 (sym c.in-Ok.ensures) in
     (omega arith, omega (arith, t.small), omega (arith, t.here, t.inside), omega (arith, t.inside))
 
 pub loop-i-preserved : goal.loop-i-preserved
@@ -39,8 +39,8 @@ loop-i-preserved c =
     let a = c.args in
     let l = c.loop-i in
     let m = a.map.now in
-    let i = c.in-Found.instruction in
-    let t = turn_of m l.at i c.requires.0 (sym c.in-Found.ensures) in
+    let i = c.in-Ok.instruction in
+    let t = turn_of m l.at i c.requires.0 (sym c.in-Ok.ensures) in
     let n : a.count - l.i - 1 ≡ a.count - (l.i + 1) = omega arith in
     let k : 16 * l.i + 16 ≡ 16 * (l.i + 1) = omega arith in
     let p : i.place + i.size ≡ l.at + i.size = ap (λ (x : ℕ). x + i.size) t.here in
