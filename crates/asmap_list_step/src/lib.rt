@@ -276,8 +276,14 @@ fn step(map: &[u8], s: Spot, bits: &mut [u8], numbers: &mut [u32]) -> Turn
     step_bit(map, s, bits, numbers)
 }
 
-// Steps up to the next piece: its prefix length and number, and where the listing stands then; none at the listing's end. All calls of `step` come through here, so that it is compiled once, into this loop, with the state in registers.
-pub fn next_piece(map: &[u8], from: Spot, bits: &mut [u8], numbers: &mut [u32]) -> Option<(u8, u32, Spot)>
+// Steps up to the next piece: its prefix length and number, and where the listing stands then; none at the listing's end. All calls of `step` come
+// through here, so that it is compiled once, into this loop, with the state in registers.
+pub fn next_piece(
+    map: &[u8],
+    from: Spot,
+    bits: &mut [u8],
+    numbers: &mut [u32],
+) -> Option<(u8, u32, Spot)>
     requires { (length map.now ≤ limit) × Sane map.now from bits.old numbers.old }
     ensures { Passed map.now from bits.old numbers.old bits.new numbers.new result }
 {

@@ -8,12 +8,12 @@ use Rattle.asmap_list_step.proofs.step_at.Goals as goal
 use Rattle.asmap_list_step.proofs.step_at.Goals.{After-operand_window-rest}
 use Rattle.asmap_codes.specs.Reading.{Value}
 
-reads : (k : After-operand_window-rest) (o : ℕ) → k.in-Value.opcode ≡ o → Reads k.args.map.now k.args.s o k.in-Value.from
+reads : (k : After-operand_window-rest) (o : ℕ) → k.in-Some.opcode ≡ o → Reads k.args.map.now k.args.s o k.in-Some.from
 reads k o e =
-    (k.requires.2, k.requires.3, opcode_read k.args.map.now k.args.s.at _ k.window-w.ensures k.type_in-got.ensures ∙ k.in-Value.is ∙ ap (λ (x : ℕ). Value x k.in-Value.from) e)
+    (k.requires.2, k.requires.3, opcode_read k.args.map.now k.args.s.at _ k.window-w.ensures k.type_in-got.ensures ∙ k.in-Some.is ∙ ap (λ (x : ℕ). Value x k.in-Some.from) e)
 
-held : (k : After-operand_window-rest) (o : ℕ) → k.in-Value.opcode ≡ o → Holds (operand_row o) k.args.map.now k.in-Value.from k.operand_window-rest.result
-held k o e = subst (λ (x : ℕ). Holds (operand_row x) k.args.map.now k.in-Value.from k.operand_window-rest.result) e k.operand_window-rest.ensures
+held : (k : After-operand_window-rest) (o : ℕ) → k.in-Some.opcode ≡ o → Holds (operand_row o) k.args.map.now k.in-Some.from k.operand_window-rest.result
+held k o e = subst (λ (x : ℕ). Holds (operand_row x) k.args.map.now k.in-Some.from k.operand_window-rest.result) e k.operand_window-rest.ensures
 
 pub returns-in_default : goal.returns-in_default
 returns-in_default c =
@@ -22,7 +22,7 @@ returns-in_default c =
 
 pub operand_window-rest-requires : goal.operand_window-rest-requires
 operand_window-rest-requires c =
-    (c.window-w.ensures, opcode_read c.args.map.now c.args.s.at _ c.window-w.ensures c.type_in-got.ensures ∙ c.in-Value.is)
+    (c.window-w.ensures, opcode_read c.args.map.now c.args.s.at _ c.window-w.ensures c.type_in-got.ensures ∙ c.in-Some.is)
 
 pub step_return-requires : goal.step_return-requires
 step_return-requires c =
@@ -43,5 +43,5 @@ pub step_default-requires : goal.step_default-requires
 step_default-requires c =
     let k = (goal.at.step_default-requires c).After-operand_window-rest in
     let l = opcode_small c.args.map.now c.args.s.at _ _ (reads k _ refl).2 in
-    let e : c.in-Value.opcode ≡ 3 = omega (arith, l) in
+    let e : c.in-Some.opcode ≡ 3 = omega (arith, l) in
     (c.requires.0, reads k 3 e, held k 3 e)

@@ -17,4 +17,4 @@ returns-in_default c bs ns sane =
 pub returns : goal.returns
 returns c bs ns sane =
     at_default c.args.map.now c.args.s bs ns sane DEFAULT _ c.requires.1 _ _
-    (was_read c.args.map.now c.args.from c.args.w asn_row (lit< tt) c.requires.2 c.asn_in-got.ensures ∙ c.in-Value.is) refl
+    (was_read c.args.map.now c.args.from c.args.w asn_row (lit< tt) c.requires.2 c.asn_in-got.ensures ∙ c.in-Some.is) refl

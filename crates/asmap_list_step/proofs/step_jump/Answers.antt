@@ -17,7 +17,7 @@ returns-in_default c =
 pub returns-then-used : goal.returns-then-used
 returns-then-used c =
     at-jump_full c.args.map.now c.args.s c.args.bits.now c.args.numbers.now c.requires.3 JUMP _ c.requires.1 _ _
-    (was_read c.args.map.now c.args.from c.args.w jump_row (lit< tt) c.requires.2 c.jump_in-got.ensures ∙ c.in-Value.is) refl c.if-used.true
+    (was_read c.args.map.now c.args.from c.args.w jump_row (lit< tt) c.requires.2 c.jump_in-got.ensures ∙ c.in-Some.is) refl c.if-used.true
 
 pub bounds-bits-depth : goal.bounds-bits-depth
 bounds-bits-depth c =
@@ -38,5 +38,5 @@ overflow_add-result-2 c =
 pub returns : goal.returns
 returns c =
     at-jump c.args.map.now c.args.s c.args.bits.now c.args.numbers.now c.requires.3 JUMP _ c.requires.1 _ _
-    (was_read c.args.map.now c.args.from c.args.w jump_row (lit< tt) c.requires.2 c.jump_in-got.ensures ∙ c.in-Value.is)
+    (was_read c.args.map.now c.args.from c.args.w jump_row (lit< tt) c.requires.2 c.jump_in-got.ensures ∙ c.in-Some.is)
     (c.args.s.used + 1) (c.args.s.depth + 1) refl (omega (arith, c.requires.3.bits)) (omega arith) (omega arith)
