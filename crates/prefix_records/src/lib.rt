@@ -6,11 +6,16 @@ ghost use Rattle.std.specs.Prelude.{◌≡◌, ◌+◌, ◌^◌, ◌<◌, ◌≤
 ghost use Rattle.std.proofs.lemmas.List.Edits.{sets};
 ghost use Rattle.prefix_records.specs.models.Cursor.{Behind, record_at};
 
-// An address of 128 bits.
-#[derive(Clone, Copy)]
+// An address of 128 bits, as two halves: they are ordered as the numbers are that they make.
+#[derive(Clone, Copy, Debug, PartialEq, Eq, PartialOrd, Ord)]
 pub struct Address {
     pub high: u64,
     pub low: u64,
+}
+
+impl Address {
+    // The first of all addresses.
+    pub const ZERO: Address = Address { high: 0, low: 0 };
 }
 
 fn power(k: u8) -> u64
@@ -25,35 +30,17 @@ pub fn behind(a: Address, length: u8) -> Address
     requires { length ≤ 128 }
     ensures { Behind a length result }
 {
-    let high = a.high;
-    let low = a.low;
     if length == 0 {
-        return Address {
-            high: high,
-            low: low,
-        };
+        return a;
     }
+    let Address { high, low } = a;
     if length <= 64 {
-        let size = power(64 - length);
-        let sum = std::num::wrapping_add_u64(high, size);
-        return Address {
-            high: sum,
-            low: low,
-        };
+        let high = high.wrapping_add(power(64 - length));
+        return Address { high, low };
     }
-    let size = power(128 - length);
-    let sum = std::num::wrapping_add_u64(low, size);
-    if 18446744073709551615 - low < size {
-        let next = std::num::wrapping_add_u64(high, 1);
-        return Address {
-            high: next,
-            low: sum,
-        };
-    }
-    Address {
-        high: high,
-        low: sum,
-    }
+    let (low, carried) = low.overflowing_add(power(128 - length));
+    let high = high.wrapping_add(u64::from(carried));
+    Address { high, low }
 }
 
 // The record of a piece that begins at an address. The length goes out as a number of four bytes: the upper three are the record's zeros.
@@ -61,10 +48,8 @@ pub fn put_record(out: &mut [u8], at: usize, a: Address, len: u8, number: u32)
     requires { at + 24 ≤ length out.old }
     ensures { out.new ≡ sets out.old at (record_at a len number) }
 {
-    let high = a.high;
-    let low = a.low;
-    byte_numbers::put_big(out, at, high);
-    byte_numbers::put_big(out, at + 8, low);
+    byte_numbers::put_big(out, at, a.high);
+    byte_numbers::put_big(out, at + 8, a.low);
     byte_numbers::put_number(out, at + 16, len as u32);
     byte_numbers::put_number(out, at + 20, number);
 }
