@@ -3,7 +3,7 @@
 // joined of pieces, the last first.
 #![tactic(auto)]
 
-ghost use Rattle.std.specs.Prelude.{◌≡◌, ◌^◌, ◌≤◌, ◌<◌, eqb};
+ghost use Rattle.std.specs.Prelude.{◌≡◌, ◌^◌, ◌≤◌, ◌<◌};
 ghost use Rattle.prefix_records.specs.models.Cursor.{value_of};
 ghost use Rattle.prefix_lists.specs.models.Listed.{Rising};
 ghost use Rattle.prefix_runs.specs.models.Runs.{Cut, RunAt, numbers, RunBelow};
@@ -12,21 +12,11 @@ ghost use Rattle.prefix_runs.specs.models.Pieces.{top, Joined};
 use prefix_records::Address;
 
 // A run of addresses with one number: where it starts, its number, and how many of the list's prefixes lie below it.
-#[derive(Clone, Copy)]
+#[derive(Clone, Copy, Debug, PartialEq, Eq)]
 pub struct Run {
     pub first: Address,
     pub number: u32,
     pub under: usize,
-}
-
-// Whether two addresses are one.
-fn same(a: Address, b: Address) -> bool
-    ensures { result ≡ eqb (value_of a) (value_of b) }
-{
-    if a.high == b.high {
-        return a.low == b.low;
-    }
-    false
 }
 
 // The piece that ends at an address, 0 standing for the one behind all addresses. It is the last of the prefixes below, or the gap behind it.
@@ -36,7 +26,7 @@ fn piece_below(records: &[u8], given: u32, end: Address, under: usize) -> Run
 {
     if under == 0 {
         return Run {
-            first: Address { high: 0, low: 0 },
+            first: Address::ZERO,
             number: given,
             under: 0,
         };
@@ -45,18 +35,17 @@ fn piece_below(records: &[u8], given: u32, end: Address, under: usize) -> Run
     let at = 24 * last;
     let first = prefix_lists::address_at(records, at);
     let past = prefix_records::behind(first, records[at + 16]);
-    if same(past, end) {
-        let number = byte_numbers::number_at(records, at + 20);
+    if past == end {
         return Run {
-            first: first,
-            number: number,
+            first,
+            number: byte_numbers::number_at(records, at + 20),
             under: last,
         };
     }
     Run {
         first: past,
         number: given,
-        under: under,
+        under,
     }
 }
 
@@ -65,9 +54,8 @@ fn run_below(records: &[u8], given: u32, end: Address, under: usize) -> Run
     requires { Rising 128 records.now × Cut records.now (top (value_of end)) under }
     ensures { RunBelow records.now given (top (value_of end)) result }
 {
-    let start = Address { high: 0, low: 0 };
     let mut run = piece_below(records, given, end, under);
-    while !same(run.first, start) {
+    while run.first != Address::ZERO {
         let next = piece_below(records, given, run.first, run.under);
         if next.number != run.number {
             return run;
@@ -82,12 +70,7 @@ pub fn last_run(records: &[u8], given: u32) -> Run
     requires { Rising 128 records.now }
     ensures { RunBelow records.now given (2 ^ 128) result }
 {
-    run_below(
-        records,
-        given,
-        Address { high: 0, low: 0 },
-        records.len() / 24,
-    )
+    run_below(records, given, Address::ZERO, records.len() / 24)
 }
 
 // The run that ends below an address, where the one before it starts there; else that one still.
@@ -96,7 +79,7 @@ pub fn run_before(records: &[u8], given: u32, first: Address, run: Run) -> Run
         × RunAt (numbers records.now given) (Cut records.now) (value_of first) run }
     ensures { RunBelow records.now given (value_of first) result }
 {
-    if same(run.first, first) {
+    if run.first == first {
         return run_below(records, given, first, run.under);
     }
     run

@@ -1,7 +1,8 @@
 -- Without a prefix below, the piece is the gap from 0 on; else the last prefix below or the gap behind it.
-use Rattle.std.proofs.Common.{◌≡◌, ℕ, suc, ◌-◌, sym, subst, arith, eqb-true}
+use Rattle.std.proofs.Common.{◌≡◌, ℕ, suc, ◌-◌, sym, ◌∙◌, subst, arith, eqb-true}
 use Rattle.std.proofs.lemmas.Bool.{eqb-false}
 use Rattle.prefix_records.specs.models.Cursor.{value_of}
+use Rattle.prefix_records.proofs.AddressLaws.{same_address}
 use Rattle.prefix_runs.specs.models.Runs.{Cut}
 use Rattle.prefix_runs.specs.models.Pieces.{top, Joined}
 use Rattle.prefix_runs.proofs.EndLaws.{address_below}
@@ -16,14 +17,15 @@ behind-past-requires c =
     let j = c.args.under - 1 in
     omega (arith, c.requires.0.short j (omega (arith, c.requires.1.some)), piece-length c.args.records.now j)
 
-pub returns-then-same : goal.returns-then-same
-returns-then-same c =
+pub returns-then-eq : goal.returns-then-eq
+returns-then-eq c =
     let j = c.args.under - 1 in
     let s : c.args.under ≡ suc j = omega arith in
     let cut = subst (Cut c.args.records.now (top (value_of c.args.end))) s c.requires.1 in
+    let same = sym (same_address c.behind-past.result c.args.end (omega arith) (omega arith)) ∙ sym c.eq.ensures ∙ c.if-eq.true in
     record-piece c.args.records.now c.args.given (value_of c.args.end) c.requires.0 j cut _ _ c.address_at-first.ensures c.behind-past.ensures _
-    (eqb-true _ _ (sym c.if-same.ensures))
-    c.number_at-number.ensures
+    (eqb-true _ _ same)
+    c.number_at.ensures
 
 pub returns : goal.returns
 returns c =
@@ -31,7 +33,8 @@ returns c =
     let u = value_of c.args.end in
     let s : c.args.under ≡ suc j = omega arith in
     let cut = subst (Cut c.args.records.now (top u)) s c.requires.1 in
+    let same = sym (same_address c.behind-past.result c.args.end (omega arith) (omega arith)) ∙ sym c.eq.ensures ∙ c.if-eq.false in
     subst (λ (n : ℕ). Joined c.args.records.now c.args.given (top u) (record { first = c.behind-past.result; number = c.args.given; under = n })) (sym s)
     (gap-piece c.args.records.now c.args.given u c.requires.0 j cut _ c.behind-past.result c.address_at-first.ensures c.behind-past.ensures
     (address_below c.args.end (omega arith) (omega arith))
-    (eqb-false _ _ (sym c.if-same.ensures)))
+    (eqb-false _ _ same))

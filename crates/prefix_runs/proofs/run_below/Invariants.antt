@@ -4,8 +4,8 @@ use Rattle.prefix_records.specs.models.Cursor.{value_of}
 use Rattle.prefix_runs.specs.models.Pieces.{Joined}
 use Rattle.prefix_runs.proofs.run_below.Given as goal
 
-abbrev pub invariant-loop-start : goal.invariant-loop-start
-invariant-loop-start l = (e : ℕ) → Joined l.records l.given e l.initial.run → Joined l.records l.given e l.run
+abbrev pub invariant-loop-next : goal.invariant-loop-next
+invariant-loop-next l = (e : ℕ) → Joined l.records l.given e l.initial.run → Joined l.records l.given e l.run
 
-abbrev pub decreases-loop-start : goal.decreases-loop-start
-decreases-loop-start l = value_of l.run.first
+abbrev pub decreases-loop-next : goal.decreases-loop-next
+decreases-loop-next l = value_of l.run.first
