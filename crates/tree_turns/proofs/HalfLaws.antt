@@ -1,4 +1,4 @@
--- Addresses in two halves of 64 bits: which half a bit of the value lies in, steps to where the halves of a subtree start, and comparisons.
+-- Addresses in two halves of 64 bits: which half a bit of the value lies in, and steps to where the halves of a subtree start.
 -- 2 ^ 64 is a variable where a product of it occurs. Assumes nothing.
 use Prim.Native.Nat.{ℕ, suc, ◌+◌, ◌-◌, ◌*◌, ◌/◌, ◌%◌, ◌^◌, ◌≤◌, ◌<◌}
 use mathlib.Core.Path.{◌≡◌, sym, ap, subst, ◌∙◌}
@@ -141,17 +141,3 @@ module _ (a : Address) (d : ℕ) (half : a.low < 2 ^ 64) where
   -- that step is the one in the value
   pub zero-low : 65 ≤ d → value_of a / 2 ^ (128 - d) % 2 ≡ 1 → a.high * 2 ^ 64 + (a.low - 1 * 2 ^ (128 - d) % 2 ^ 64) ≡ value_of a - 2 ^ (128 - d)
   zero-low k e = low_less (a.high * 2 ^ 64) a.low _ _ (zero-low-fits k e) (power_of (128 - d) (omega arith))
-
--- ---- addresses compared by their halves
-
--- over b for 2 ^ 64: what is less in the upper half is less
-less : (b h l g m : ℕ) → l < b → h < g → h * b + l < g * b + m
-less b h l g m f k = omega (arith, mul-le-mul_right b k, suc-mul h b)
-
--- an address that is less in the upper half is less
-pub less_high : (a b : Address) → a.low < 2 ^ 64 → a.high < b.high → value_of a < value_of b
-less_high a b f k = less (2 ^ 64) a.high a.low b.high b.low f k
-
--- where the upper halves are equal the lower ones decide
-pub less-low : (a b : Address) → a.high ≡ b.high → a.low < b.low → value_of a < value_of b
-less-low a b e k = omega arith

@@ -10,7 +10,7 @@ use prefix_records::Address;
 
 // What is done at a subtree. One still to do that has one number returns, any other is descended into, to its half with bit 1. One that is done is
 // closed by its JUMP where it is a half with bit 0; from a half with bit 1 the pass crosses to the half beside it.
-#[derive(Clone, Copy)]
+#[derive(Clone, Copy, Debug, PartialEq, Eq)]
 pub enum Turn {
     Returns,
     Descends,
@@ -23,18 +23,13 @@ pub fn one_half(first: Address, depth: usize) -> Address
     requires { (depth < 128) × (value_of first % 2 ^ (128 - depth) ≡ 0) }
     ensures { value_of result ≡ value_of first + 2 ^ (127 - depth) }
 {
+    let Address { high, low } = first;
     if depth < 64 {
-        let step = 1u64 << (63 - depth);
-        return Address {
-            high: first.high + step,
-            low: first.low,
-        };
+        let high = high + (1 << (63 - depth));
+        return Address { high, low };
     }
-    let step = 1u64 << (127 - depth);
-    Address {
-        high: first.high,
-        low: first.low + step,
-    }
+    let low = low + (1 << (127 - depth));
+    Address { high, low }
 }
 
 // Where the half with bit 0 starts that lies beside a subtree of `depth` bits, the last of which is 1.
@@ -42,18 +37,24 @@ pub fn zero_half(first: Address, depth: usize) -> Address
     requires { (1 ≤ depth) × (depth ≤ 128) × (value_of first / 2 ^ (128 - depth) % 2 ≡ 1) }
     ensures { value_of result ≡ value_of first - 2 ^ (128 - depth) }
 {
+    let Address { high, low } = first;
     if depth < 65 {
-        let step = 1u64 << (64 - depth);
-        return Address {
-            high: first.high - step,
-            low: first.low,
-        };
+        let high = high - (1 << (64 - depth));
+        return Address { high, low };
     }
-    let step = 1u64 << (128 - depth);
-    Address {
-        high: first.high,
-        low: first.low - step,
+    let low = low - (1 << (128 - depth));
+    Address { high, low }
+}
+
+// The last bit of a subtree of `depth` bits.
+fn last_bit(first: Address, depth: usize) -> u64
+    requires { (1 ≤ depth) × (depth ≤ 128) }
+    ensures { result ≡ value_of first / 2 ^ (128 - depth) % 2 }
+{
+    if depth < 65 {
+        return (first.high >> (64 - depth)) % 2;
     }
+    (first.low >> (128 - depth)) % 2
 }
 
 // Which turn comes at a subtree of `depth` bits: with it to do, by where the run starts that holds its last address; else by its last bit.
@@ -62,23 +63,12 @@ pub fn turn_of(todo: usize, first: Address, depth: usize, from: Address) -> Turn
     ensures { TurnOf todo (value_of first) depth (value_of from) result }
 {
     if todo == 1 {
-        if from.high < first.high {
+        if from <= first {
             return Turn::Returns;
-        }
-        if from.high == first.high {
-            if from.low <= first.low {
-                return Turn::Returns;
-            }
         }
         return Turn::Descends;
     }
-    if depth < 65 {
-        if (first.high >> (64 - depth)) % 2 == 0 {
-            return Turn::Closes;
-        }
-        return Turn::Crosses;
-    }
-    if (first.low >> (128 - depth)) % 2 == 0 {
+    if last_bit(first, depth) == 0 {
         return Turn::Closes;
     }
     Turn::Crosses
