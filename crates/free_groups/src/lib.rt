@@ -11,7 +11,8 @@ ghost use Rattle.group_lists.specs.Groups.{has};
 ghost use Rattle.free_groups.specs.Free.{free};
 ghost use Rattle.free_groups.specs.models.Marks.{Put, Linked};
 
-use group_lists::contains;
+use group_lists::{Scan, contains};
+use std::mem;
 
 // So many links are followed at most; what is left is scanned. Marks shared by more groups are rare unless somebody chose the groups so,
 // and then a scan costs less than following the links: it reads groups one behind the other.
@@ -37,10 +38,7 @@ fn put_mark(group: u64, place: usize, marks: &mut [u16]) -> u16
     ensures { Put marks.old group place result marks.new }
 {
     let at = (group % 4096) as usize;
-    let before = marks[at];
-    let count = place + 1;
-    marks[at] = count as u16;
-    before
+    mem::replace(&mut marks[at], (place + 1) as u16)
 }
 
 // Marks a group that has a place behind the used groups, and links the place to the one that was marked there before.
@@ -72,10 +70,8 @@ fn mark_from(occupied: &[u64], from: usize, marks: &mut [u16], links: &mut [u16]
     requires { (from ≤ length occupied.now) × (length occupied.now ≤ length links.old) × (length occupied.now ≤ 4096) × (Linked (take from occupied.now) marks.old links.old) }
     ensures { Linked occupied.now marks.new links.new }
 {
-    let mut i = from;
-    while i < occupied.len() {
+    for i in from..occupied.len() {
         mark(occupied[i], i, marks, links);
-        i += 1;
     }
 }
 
@@ -84,12 +80,10 @@ pub fn mark_groups(occupied: &[u64], marks: &mut [u16], links: &mut [u16])
     requires { (marks.old ≡ replicate 4096 0) × (length occupied.now ≤ length links.old) × (length occupied.now ≤ 4096) }
     ensures { Linked occupied.now marks.new links.new }
 {
-    let mut i: usize = 0;
-    while 4 <= occupied.len() - i {
-        mark_four(occupied, i, marks, links);
-        i += 4;
+    for turn in 0..occupied.len() / 4 {
+        mark_four(occupied, 4 * turn, marks, links);
     }
-    mark_from(occupied, i, marks, links);
+    mark_from(occupied, occupied.len() / 4 * 4, marks, links);
 }
 
 // The used group at a place.
@@ -108,10 +102,10 @@ fn is_occupied(group: u64, occupied: &[u64]) -> bool
     requires { length occupied.now ≤ 4096 }
     ensures { result ≡ has group occupied.now }
 {
-    match group_lists::scan_occupied(group, occupied) {
-        Ok(scan) => scan.hit.is_some(),
-        Err(_) => false,
-    }
+    matches!(
+        group_lists::scan_occupied(group, occupied),
+        Ok(Scan { hit: Some(_), .. })
+    )
 }
 
 // Whether a group is one of the first used ones: of so many.
@@ -122,10 +116,7 @@ fn is_among(group: u64, occupied: &[u64], taken: &[u64], count: usize) -> bool
     if count <= occupied.len() {
         return is_occupied(group, &occupied[..count]);
     }
-    if is_occupied(group, occupied) {
-        return true;
-    }
-    contains(&taken[..count - occupied.len()], group)
+    is_occupied(group, occupied) || contains(&taken[..count - occupied.len()], group)
 }
 
 // Whether a group is neither occupied nor taken. `count` used groups are left to look at; of these the last has the group's mark.
@@ -135,16 +126,14 @@ pub fn is_free(group: u64, occupied: &[u64], taken: &[u64], marks: &[u16], links
 {
     let at = (group % 4096) as usize;
     let mut count = marks[at] as usize;
-    let mut links_left = MOST_LINKS;
-    while 0 < count {
-        if links_left == 0 {
-            return !is_among(group, occupied, taken, count);
+    'links: for _ in 0..MOST_LINKS {
+        if count == 0 {
+            return true;
         }
         if used_at(occupied, taken, count - 1) == group {
             return false;
         }
         count = links[count - 1] as usize;
-        links_left -= 1;
     }
-    true
+    !is_among(group, occupied, taken, count)
 }

@@ -11,14 +11,15 @@ returns-then-is_occupied c =
     let os = c.args.occupied.now in
     let ts = c.args.taken.now in
     let n = c.args.count in
-    sym (
+    c.if-is_occupied.true
+    ∙ sym (
     ap (has g) (first_taken os ts n (omega (arith, c.if-count-occupied.false)))
     ∙ has-append g os (take (n - length os) ts)
     ∙ rw (sym c.is_occupied-2.ensures ∙ c.if-is_occupied.true)
     )
 
-pub returns : goal.returns
-returns c =
+pub returns-else-is_occupied : goal.returns-else-is_occupied
+returns-else-is_occupied c =
     let g = c.args.group in
     let os = c.args.occupied.now in
     let ts = c.args.taken.now in

@@ -1,10 +1,7 @@
 -- The groups before `i` are linked.
-use Rattle.std.proofs.Common.{◌≡◌, ◌≤◌, ◌-◌, length, take}
+use Rattle.std.proofs.Common.{◌≡◌, length, take}
 use Rattle.free_groups.specs.models.Marks.{Linked}
 use Rattle.free_groups.proofs.mark_from.Given as goal
 
 abbrev pub invariant-loop-i : goal.invariant-loop-i
-invariant-loop-i l = (l.i ≤ length l.occupied) × (length l.links ≡ length l.initial.links) × (Linked (take l.i l.occupied) l.marks l.links)
-
-abbrev pub decreases-loop-i : goal.decreases-loop-i
-decreases-loop-i l = length l.occupied - l.i
+invariant-loop-i l = (length l.links ≡ length l.initial.links) × (Linked (take l.i l.occupied) l.marks l.links)
