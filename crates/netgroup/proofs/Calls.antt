@@ -15,7 +15,7 @@ module _ (of_map : Option Refusal) (n : Numbering) (c : List ℕ) where
   pub call-invalid : valid c ≡ false → Err refusal.Candidate ≡ group_call of_map n c
   call-invalid h = rw h
 
-  pub call_refused : (k : ℕ) → valid c ≡ true → of_map ≡ Some k → Err k ≡ group_call of_map n c
+  pub call_refused : (k : Refusal) → valid c ≡ true → of_map ≡ Some k → Err k ≡ group_call of_map n c
   call_refused k h e = rw (h, e)
 
   pub call_group : valid c ≡ true → of_map ≡ None → Ok (group_of n c) ≡ group_call of_map n c

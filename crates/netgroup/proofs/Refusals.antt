@@ -15,10 +15,12 @@ use Rattle.netgroup.specs.Group.{Numbering, by_map, by_prefixes, by_old_prefixes
 use Rattle.netgroup.specs.Refusal.{verdict_refusal, limit_refusal, check_refusal}
 use Rattle.asmap_program.specs.Verdict.{Accepted, Verdict}
 use Rattle.std.specs.Prelude.{Err, None, Ok}
+use Rattle.refusals.specs.declared.Fault.TheVariants as fault
+use Rattle.refusals.specs.declared.Refusal.TheVariants as refusal
 
 -- a map that is not refused for its length
 pub none-limit : (g : Grouping) (m : List ℕ) → g ≡ Map → limit_refusal (numbering g m) ≡ None → length m ≤ 16777216
-none-limit Map m e h = none_more 16777216 (length m) 1 h
+none-limit Map m e h = none_more 16777216 (length m) (refusal.Map fault.MapTooLong) h
 none-limit Prefixes m e h = let z : ◌≡◌ {A = ℕ} 0 1 = cc in absurd (omega arith)
 none-limit OldPrefixes m e h = let z : ◌≡◌ {A = ℕ} 0 1 = cc in absurd (omega arith)
 
@@ -33,7 +35,7 @@ none_check m h = go (check_of m 128) refl h
   where
     go : (v : Verdict) → check_of m 128 ≡ v → verdict_refusal v ≡ None → Passes m
     go (Ok got) e q = record { count = got.count; depth = got.depth; accepted = e }
-    go (Err n) e q = number_not_none n q
+    go (Err n) e q = number_not_none (refusal.Map n) q
 
 -- so what the check passes is not refused as it is
 pub check_limit : (n : Numbering) → check_refusal n ≡ None → limit_refusal n ≡ None

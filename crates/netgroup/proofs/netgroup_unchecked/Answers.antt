@@ -8,7 +8,7 @@ use Rattle.netgroup.proofs.netgroup_unchecked.Goals as goal
 pub group_of-grouped-requires : goal.group_of-grouped-requires
 group_of-grouped-requires c = (
   valid-length c.args.candidate.now (sym c.is_candidate.ensures ∙ c.if-not-is_candidate.false),
-  sym c.limit_refusal-limited.ensures ∙ c.in_default.is,
+  sym c.limit_refusal.ensures ∙ c.in_default.is,
 )
 
 pub returns-clause-unaborted : goal.returns-clause-unaborted
