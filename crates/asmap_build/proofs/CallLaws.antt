@@ -39,7 +39,7 @@ module _ (bits o : List ℕ) where
   -- over the limit
   pub hands_over : 134217728 < length bits → Hands made o o (Err (refusal.Map fault.MapTooLong))
   unfolding refuse
-  hands_over h = hands_no made o 1 (rw (lt-ltb 134217728 (length bits) h))
+  hands_over h = hands_no made o (refusal.Map fault.MapTooLong) (rw (lt-ltb 134217728 (length bits) h))
 
   module _ (k : ℕ) (within : length bits ≤ 134217728) (size : k ≡ (length bits + 7) / 8) where
     long : k ≡ length (bytes_of bits)
@@ -67,12 +67,12 @@ wrote_made (Made bs) o o' k h = go (ltb (length o) (length bs)) h.answer h.outpu
 wrote_made (No n) o o' k h = let e = h.answer in let z : ◌≡◌ {A = ℕ} 0 1 = cc in absurd (omega arith)
 
 -- nothing is promised of a refusal
-pub refused_none : (l : List ℕ) (given w : ℕ) (o : List ℕ) (n : ℕ) → WritesMap l given w o (Err n)
+pub refused_none : (l : List ℕ) (given w : ℕ) (o : List ℕ) (n : Refusal) → WritesMap l given w o (Err n)
 refused_none l given w o n k e = let z : ◌≡◌ {A = ℕ} 0 1 = cc in absurd (omega arith)
 
 module _ (l : List ℕ) (given w : ℕ) (o : List ℕ) where
   -- a list that is refused
-  pub build_refused : (n : ℕ) → judge w l given ≡ Err n → Hands (build_of l given w) o o (Err n) × WritesMap l given w o (Err n)
+  pub build_refused : (n : Refusal) → judge w l given ≡ Err n → Hands (build_of l given w) o o (Err n) × WritesMap l given w o (Err n)
   unfolding build_of
   build_refused n e = (hands_no (build_of l given w) o n (ap (build_as (tree_bits l given w)) e), refused_none l given w o n)
 
@@ -87,7 +87,7 @@ module _ (l : List ℕ) (given w : ℕ) (o : List ℕ) where
 
     written : (bs : List ℕ) → build_as (tree_bits l given w) Listed ≡ Made bs → Builds l given w bs
     written bs e =
-        let p = passed (ltb 134217728 (length (tree_bits l given w))) 1 (Made (bytes_of (tree_bits l given w))) bs e in
+        let p = passed (ltb 134217728 (length (tree_bits l given w))) (refusal.Map fault.MapTooLong) (Made (bytes_of (tree_bits l given w))) bs e in
         let r = judged_rising w l given bytes fine in
         subst (Builds l given w) (sym (made_same p.1)) (builds l given w narrow r.0 r.1 (ltb-false 134217728 (length (tree_bits l given w)) p.0))
 

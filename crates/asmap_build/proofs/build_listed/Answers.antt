@@ -18,16 +18,16 @@ returns-in_default c = unwritten c.in_default.ensures.1 (hands_over (tree_bits c
 
 pub returns-then-out-bytes : goal.returns-then-out-bytes
 returns-then-out-bytes c =
-    let k = c.in-Ends.ensures.0 in
-    let l = ap length (c.in-Ends.ensures.1.idle refl) in
-    unwritten c.in-Ends.ensures.1
+    let k = c.in-Some.ensures.0 in
+    let l = ap length (c.in-Some.ensures.1.idle refl) in
+    unwritten c.in-Some.ensures.1
     (hands_no_room (tree_bits c.args.records.now c.args.given 128) c.args.out.now _ k.1 (ap (λ (x : ℕ). (x + 7) / 8) k.0) (omega (arith, c.if-out-bytes.true, l)))
 
 pub returns : goal.returns
 returns c =
     let bits = tree_bits c.args.records.now c.args.given 128 in
-    let k = c.in-Ends.ensures.0 in
-    let e = c.in-Ends.ensures.1.idle refl in
+    let k = c.in-Some.ensures.0 in
+    let e = c.in-Some.ensures.1.idle refl in
     let l = ap length e in
     hands-bits bits c.args.out.now _ k.1 (ap (λ (x : ℕ). (x + 7) / 8) k.0) _ (omega (arith, c.if-out-bytes.false, l))
     (c.pass-2.ensures.1.busy refl ∙ ap (λ (x : List ℕ). sets x 0 (bytes_of bits)) e)
