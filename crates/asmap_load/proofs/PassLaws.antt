@@ -33,6 +33,7 @@ use Rattle.asmap_load.proofs.LoadLaws.{load-bits, load_short, load_made}
 use Rattle.asmap_load.proofs.ShapeLaws.{Laid, laid, laid_count, laid_tree, NoJump, laid_no-jump, flat, laid_walk}
 use Rattle.asmap_load.proofs.AddressLaws.{whole_length, whole-bytes, whole-begins}
 use Rattle.asmap_program.specs.Verdict.{Accepted}
+use Rattle.refusals.specs.declared.Refusal.{Refusal}
 use Rattle.refusals.specs.declared.Refusal.TheVariants as refusal
 use Rattle.std.specs.Prelude.{Ok, Err}
 
@@ -98,11 +99,11 @@ made_short s n z h = (m s n, load_made s n z h, omega (arith, length-bytes_of (l
 
 -- ---- what the call wrote
 
-refused_none : (s n k : ℕ) (o : List ℕ) → WritesLoad s n o (Err k)
+refused_none : (s n : ℕ) (k : Refusal) (o : List ℕ) → WritesLoad s n o (Err k)
 refused_none s n k o j e = let y : ◌≡◌ {A = ℕ} 0 1 = cc in absurd (omega arith)
 
 -- what the call hands back, by what is refused or made
-pub load_refused : (s n : ℕ) (o : List ℕ) (k : ℕ) → load_of s n ≡ No k → Hands (load_of s n) o o (Err k) × WritesLoad s n o (Err k)
+pub load_refused : (s n : ℕ) (o : List ℕ) (k : Refusal) → load_of s n ≡ No k → Hands (load_of s n) o o (Err k) × WritesLoad s n o (Err k)
 load_refused s n o k e = (hands_no (load_of s n) o k e, refused_none s n k o)
 
 module _ (s n : ℕ) (o : List ℕ) (k : ℕ) (some : s ≢ 0) (few : n ≤ 128) (size : k ≡ (length (load_bits n s) + 7) / 8) where
@@ -110,7 +111,7 @@ module _ (s n : ℕ) (o : List ℕ) (k : ℕ) (some : s ≢ 0) (few : n ≤ 128)
   bytes_size = size ∙ sym (length-bytes_of (load_bits n s))
 
   pub load_no_room : length o < k → Hands (load_of s n) o o (Err refusal.OutputTooShort) × WritesLoad s n o (Err refusal.OutputTooShort)
-  load_no_room h = (hands_short (load_of s n) o (m s n) (load_made s n some few) (omega (arith, bytes_size)), refused_none s n 14 o)
+  load_no_room h = (hands_short (load_of s n) o (m s n) (load_made s n some few) (omega (arith, bytes_size)), refused_none s n refusal.OutputTooShort o)
 
   pub load_wrote : (o' : List ℕ) → k ≤ length o → o' ≡ sets o 0 (bytes_of (load_bits n s)) → Hands (load_of s n) o o' (Ok k) × WritesLoad s n o' (Ok k)
   load_wrote o' h q =
