@@ -25,6 +25,8 @@ use Rattle.asmap_list.specs.List.{list_as, list_of}
 use Rattle.asmap_list.specs.Promise.{Covers}
 use Rattle.asmap_list.specs.models.Listed.{Listed}
 use Rattle.asmap_program.specs.Verdict.{Accepted, Verdict}
+use Rattle.refusals.specs.declared.Fault.{Fault}
+use Rattle.refusals.specs.declared.Refusal.TheVariants as refusal
 use Rattle.std.specs.Prelude.{Ok, Err}
 
 -- what the calls learn where the check accepts with n pieces counted
@@ -59,13 +61,13 @@ module _ (m : List ℕ) (w : ℕ) (narrow : w ≤ 128) where
       go (Err r) h q = let z : ◌≡◌ {A = ℕ} 0 1 = cc in absurd (omega arith)
 
   -- refused as the check says
-  pub refuses : (r : ℕ) → Err r ≡ counted_of m w → list_of m w ≡ No r
+  pub refuses : (f : Fault) → Err f ≡ counted_of m w → list_of m w ≡ No (refusal.Map f)
   unfolding list_of
-  refuses r e = go (check_of m w) refl e
+  refuses f e = go (check_of m w) refl e
     where
-      go : (v : Verdict) → check_of m w ≡ v → Err r ≡ counted_as (count_pieces (unpacked (map_of m) w)) v → list_as m (check_of m w) ≡ No r
+      go : (v : Verdict) → check_of m w ≡ v → Err f ≡ counted_as (count_pieces (unpacked (map_of m) w)) v → list_as m (check_of m w) ≡ No (refusal.Map f)
       go (Ok got) h q = let z : ◌≡◌ {A = ℕ} 0 1 = cc in absurd (omega arith)
-      go (Err n) h q = let z : r ≡ n = cc in ap (list_as m) h ∙ ap No (sym z)
+      go (Err n) h q = let z : f ≡ n = cc in ap (list_as m) h ∙ ap (λ (x : Fault). No (refusal.Map x)) (sym z)
 
 -- every accepted map is listed whole
 pub covered : (m : List ℕ) (w : ℕ) → Covers m w

@@ -28,15 +28,17 @@ fn put_listing(map: &[u8], count: usize, out: &mut [u8])
     let mut numbers = asmap_list_step::stack_numbers();
     let mut s = asmap_list_step::start();
     let mut a = Address { high: 0, low: 0 };
-    let mut k: usize = 0;
-    while k < count {
-        let got = asmap_list_step::next_piece(map, s, &mut bits, &mut numbers);
-        let Some((length, number, next)) = got else {
+    for k in 0..count {
+        let Some((length, number, next)) = asmap_list_step::next_piece(
+            map,
+            s,
+            &mut bits,
+            &mut numbers,
+        ) else {
             return;
         };
         prefix_records::put_record(out, 24 * k, a, length, number);
         a = prefix_records::behind(a, length);
-        k += 1;
         // Field by field: a copy of the whole would wait for the narrow stores that made it.
         s = Spot {
             at: next.at,
@@ -59,9 +61,8 @@ fn list_over(map: &[u8], bits: u8, out: &mut [u8]) -> Result<usize, Refusal>
     if out.len() / 24 < pieces {
         return Err(Refusal::OutputTooShort);
     }
-    let bytes = 24 * pieces;
     put_listing(map, pieces, out);
-    Ok(bytes)
+    Ok(24 * pieces)
 }
 
 // Lists a map that the check accepts at 128 address bits. Refusals: the check's, 1 to 10 and 19, then 14; a refused call writes nothing.
@@ -90,8 +91,7 @@ fn bytes_over(map: &[u8], bits: u8) -> Result<usize, Refusal>
     requires { bits ≤ 128 }
     ensures { result ≡ needed_of map.now bits }
 {
-    let pieces = asmap_check::sanity_check_pieces(map, bits)?;
-    Ok(24 * pieces)
+    Ok(24 * asmap_check::sanity_check_pieces(map, bits)?)
 }
 
 // How many bytes the listing of a map needs, for whoever has to lend them. Refused as the check does, 1 to 10 or 19.

@@ -5,16 +5,16 @@ use Rattle.asmap_list.specs.List.{list_of}
 use Rattle.asmap_list.proofs.CallLaws.{covered}
 use Rattle.asmap_list.proofs.list_bits.Goals as goal
 
-pub returns-then-is_width-clause-hands : goal.returns-then-is_width-clause-hands
-returns-then-is_width-clause-hands c =
-    hands_at c.args.width (list_of c.args.map.now c.args.width) c.args.out.now _ _ (sym c.is_width.ensures ∙ c.if-is_width.true) c.list_over.ensures
-
-pub returns-then-is_width-clause-covers : goal.returns-then-is_width-clause-covers
-returns-then-is_width-clause-covers c = covered c.args.map.now c.args.width
-
 pub returns-clause-hands : goal.returns-clause-hands
 returns-clause-hands c =
-    hands_no_width c.args.width (list_of c.args.map.now c.args.width) c.args.out.now (sym c.is_width.ensures ∙ c.if-is_width.false)
+    hands_at c.args.width (list_of c.args.map.now c.args.width) c.args.out.now _ _ (sym c.is_width.ensures ∙ c.if-not-is_width.false) c.list_over.ensures
 
 pub returns-clause-covers : goal.returns-clause-covers
 returns-clause-covers c = covered c.args.map.now c.args.width
+
+pub returns-then-not-is_width-clause-hands : goal.returns-then-not-is_width-clause-hands
+returns-then-not-is_width-clause-hands c =
+    hands_no_width c.args.width (list_of c.args.map.now c.args.width) c.args.out.now (sym c.is_width.ensures ∙ c.if-not-is_width.true)
+
+pub returns-then-not-is_width-clause-covers : goal.returns-then-not-is_width-clause-covers
+returns-then-not-is_width-clause-covers c = covered c.args.map.now c.args.width

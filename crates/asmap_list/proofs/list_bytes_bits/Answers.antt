@@ -5,9 +5,9 @@ use Rattle.asmap_records.specs.Output.{No}
 use Rattle.asmap_list.specs.List.{list_of, bytes_of}
 use Rattle.asmap_list.proofs.list_bytes_bits.Goals as goal
 
-pub returns-then-is_width : goal.returns-then-is_width
-returns-then-is_width c =
-    c.bytes_over.ensures ∙ ap bytes_of (sym (at_width_lem c.args.width No (list_of c.args.map.now c.args.width) (sym c.is_width.ensures ∙ c.if-is_width.true)))
-
 pub returns : goal.returns
-returns c = ap bytes_of (sym (no_width c.args.width No (list_of c.args.map.now c.args.width) (sym c.is_width.ensures ∙ c.if-is_width.false)))
+returns c =
+    c.bytes_over.ensures ∙ ap bytes_of (sym (at_width_lem c.args.width No (list_of c.args.map.now c.args.width) (sym c.is_width.ensures ∙ c.if-not-is_width.false)))
+
+pub returns-then-not-is_width : goal.returns-then-not-is_width
+returns-then-not-is_width c = ap bytes_of (sym (no_width c.args.width No (list_of c.args.map.now c.args.width) (sym c.is_width.ensures ∙ c.if-not-is_width.true)))

@@ -10,10 +10,10 @@ pub returns-in_default : goal.returns-in_default
 returns-in_default c = ends_standing c.loop-k.invariant c.in_default.ensures
 
 pub behind-a-requires : goal.behind-a-requires
-behind-a-requires c = gives_length c.loop-k.invariant _ _ _ c.in-Piece.ensures.same
+behind-a-requires c = gives_length c.loop-k.invariant _ _ _ c.in-Some.ensures.same
 
 pub loop-k-preserved : goal.loop-k-preserved
-loop-k-preserved c = gives_standing c.loop-k.invariant _ _ _ _ _ _ _ c.in-Piece.ensures c.behind-a.ensures c.put_record.ensures
+loop-k-preserved c = gives_standing c.loop-k.invariant _ _ _ _ _ _ _ c.in-Some.ensures c.behind-a.ensures c.put_record.ensures
 
 pub returns : goal.returns
 returns c = done_standing c.loop-k.invariant c.loop-k-test.false
