@@ -14,7 +14,7 @@ use borrow.Author.Tests.{eqb-true, leb-true, ltb-true, ltb-false, ne_eqb, eq-eqb
 use Rattle.prefix_records.specs.declared.Address.{Address}
 use Rattle.prefix_records.specs.models.Cursor.{value_of, Behind}
 use Rattle.prefix_records.specs.Tiling.{first_of, past_of}
-use Rattle.prefix_records.proofs.TilingLaws.{some, and-false}
+use Rattle.prefix_records.proofs.TilingLaws.{some}
 use Rattle.prefix_lists.specs.List.{address_at, length_at, piece_at, zeros_at, earliest, fits}
 use Rattle.prefix_lists.specs.models.End.{Ends, may_begin}
 use Rattle.prefix_lists.proofs.BigLaws.{big-below}
@@ -125,28 +125,13 @@ may_begin_at l (suc i) a x h k =
     ap (λ (b : Bool). b || (not (eqb (value_of a) 0) && leb (value_of a) x)) (ne_eqb (suc i) 0 (λ e. omega (arith, e)))
     ∙ begin-later (2 ^ 128) (earliest l (suc i)) (value_of a) x h.0 h.1 k (omega (arith, some 128 (piece_at l i)))
 
--- ---- the tests, one after the other
+-- ---- the tests
 
--- a prefix longer than the width
-pub fits_long : (w : ℕ) (l : List ℕ) (i : ℕ) → w < length_at l i → false ≡ fits w l i
+-- all the tests at once, as code makes them
+pub fits_tests : (w : ℕ) (l : List ℕ) (i : ℕ) (a end : Address) → Bytes l → value_of a ≡ address_at l i → Ends (earliest l i) end
+    → (leb (length_at l i) w && zeros_at l i && eqb (value_of a % 2 ^ (128 - length_at l i)) 0 && may_begin i (value_of end) (value_of a)) ≡ fits w l i
 unfolding fits
-fits_long w l i h = rw (lt-leb (length_at l i) w h)
-
--- no zeros behind the length
-pub fits_dirty : (w : ℕ) (l : List ℕ) (i : ℕ) → zeros_at l i ≡ false → false ≡ fits w l i
-unfolding fits
-fits_dirty w l i h = rw (h, and-false (leb (length_at l i) w))
-
--- ones past the prefix
-pub fits_ones : (w : ℕ) (l : List ℕ) (i : ℕ) → eqb (address_at l i % 2 ^ (128 - length_at l i)) 0 ≡ false → false ≡ fits w l i
-unfolding fits
-fits_ones w l i h = rw (h, and-false (leb (length_at l i) w && zeros_at l i))
-
--- none of these: where it begins decides
-pub fits_last : (w : ℕ) (l : List ℕ) (i : ℕ) → length_at l i ≤ w → zeros_at l i ≡ true → eqb (address_at l i % 2 ^ (128 - length_at l i)) 0 ≡ true
-    → leb (earliest l i) (address_at l i) ≡ fits w l i
-unfolding fits
-fits_last w l i h z e = rw (le-leb (length_at l i) w h, z, e)
+fits_tests w l i a end b e h = rw (e, may_begin_at l i end (address_at l i) h (address_below l i b))
 
 -- two tests that hold together
 pub and-true : (a b : Bool) → (a && b) ≡ true → (a ≡ true) × (b ≡ true)

@@ -1,12 +1,12 @@
--- Addresses in two halves of 64 bits: compared, 0, and with zeros past their first bits. Assumes nothing.
+-- Addresses in two halves of 64 bits: with zeros past their first bits. Assumes nothing.
 use Prim.Native.Nat.{ℕ, ◌+◌, ◌-◌, ◌*◌, ◌%◌, ◌^◌, ◌≤◌, ◌<◌}
 use mathlib.Core.Bool.{Bool, true, false}
 use mathlib.Core.Path.{◌≡◌, refl, sym, ap, ◌∙◌}
-use native.Mathlib.Nat.{suc-mul, mul_assoc, mul-le-mul_right, mul-add-mod_self_right, mod-eq_of_lt}
+use native.Mathlib.Nat.{mul_assoc, mul-add-mod_self_right, mod-eq_of_lt}
 use native.Mathlib.Omega.{arith}
-use lib.Dec.{eqb, ltb, leb}
+use lib.Dec.{eqb}
 use lib.Pow as pow
-use borrow.Author.Tests.{eqb-true, eqb-false, eq-eqb, ne_eqb, leb-true, leb-false, le-leb, lt-leb, lt-ltb}
+use borrow.Author.Tests.{eqb-true, eqb-false, eq-eqb, ne_eqb}
 use Rattle.prefix_records.specs.declared.Address.{Address}
 use Rattle.prefix_records.specs.models.Cursor.{value_of}
 
@@ -18,51 +18,7 @@ same-zero x y f g = go (eqb x 0) refl
     go true e = sym (eq-eqb y 0 (f (eqb-true x 0 e)))
     go false e = sym (ne_eqb y 0 λ h. eqb-false x 0 e (g h))
 
--- two comparisons that agree
-same_most : (x y u v : ℕ) → (x ≤ y → u ≤ v) → (u ≤ v → x ≤ y) → leb x y ≡ leb u v
-same_most x y u v f g = go (leb x y) refl (leb u v) refl
-  where
-    go : (s : Bool) → leb x y ≡ s → (t : Bool) → leb u v ≡ t → s ≡ t
-    go true e true k = refl
-    go false e false k = refl
-    go true e false k = absurd (omega (arith, f (leb-true x y e), leb-false u v k))
-    go false e true k = absurd (omega (arith, g (leb-true u v k), leb-false x y e))
-
--- ---- compared
-
--- over b for 2 ^ 64: the upper halves decide where they differ
-upper_less : (b h l k m : ℕ) → l < b → h < k → h * b + l < k * b + m
-upper_less b h l k m r d = let t = mul-le-mul_right b d in omega (arith, t, suc-mul h b)
-
-module _ (a b : Address) where
-  -- the upper half less
-  pub most_above : a.low < 2 ^ 64 → a.high < b.high → ltb a.high b.high ≡ leb (value_of a) (value_of b)
-  most_above r d =
-      lt-ltb a.high b.high d
-      ∙ sym (le-leb (value_of a) (value_of b) (let t = upper_less (2 ^ 64) a.high a.low b.high b.low r d in omega (arith, t)))
-
-  -- the upper halves the same
-  pub most_level : a.high ≡ b.high → leb a.low b.low ≡ leb (value_of a) (value_of b)
-  most_level e =
-      let p = ap (λ (n : ℕ). n * 2 ^ 64) e in
-      same_most a.low b.low (value_of a) (value_of b) (λ h. omega (arith, p, h)) (λ h. omega (arith, p, h))
-
-  -- the upper half greater
-  pub most-under : b.low < 2 ^ 64 → b.high ≤ a.high → (a.high ≡ b.high → ⊥) → eqb a.high b.high ≡ leb (value_of a) (value_of b)
-  most-under r d n =
-      ne_eqb a.high b.high n
-      ∙ sym (lt-leb (value_of a) (value_of b) (upper_less (2 ^ 64) b.high b.low a.high a.low r (omega (arith, d, n))))
-
 -- ---- zeros
-
-module _ (a : Address) where
-  -- 0 in the upper half: the lower one decides
-  pub zero-low : a.high ≡ 0 → eqb a.low 0 ≡ eqb (value_of a) 0
-  zero-low e = same-zero a.low (value_of a) (λ h. omega (arith, e, h)) (λ h. omega (arith, e, h))
-
-  -- no 0 in the upper half: the address is none
-  pub zero_high : (a.high ≡ 0 → ⊥) → eqb a.high 0 ≡ eqb (value_of a) 0
-  zero_high n = same-zero a.high (value_of a) (λ h. absurd (n h)) (λ h. omega (arith, h))
 
 -- a number of 64 bits is 0 where its lowest 64 are
 pub zeros_all : (x k : ℕ) → x < 2 ^ 64 → k ≡ 64 → eqb x 0 ≡ eqb (x % 2 ^ k) 0

@@ -9,26 +9,12 @@ ghost use Rattle.prefix_lists.specs.models.End.{Ends, may_begin};
 use prefix_records::Address;
 use refusals::Refusal;
 
-// The number that eight bytes are, the highest first. Written as a sum, it compiles to one load of eight bytes.
-fn big_of(a: u8, b: u8, c: u8, d: u8, e: u8, f: u8, g: u8, h: u8) -> u64
-    ensures { result ≡ a * 72057594037927936 + b * 281474976710656 + c * 1099511627776 + d * 4294967296 + e * 16777216 + f * 65536 + g * 256 + h }
-{
-    a as u64 * 72057594037927936
-        + b as u64 * 281474976710656
-        + c as u64 * 1099511627776
-        + d as u64 * 4294967296
-        + e as u64 * 16777216
-        + f as u64 * 65536
-        + g as u64 * 256
-        + h as u64
-}
-
-// The number in the eight bytes from a place on, the highest byte first.
+// The number in the eight bytes from a place on, the highest byte first. It compiles to one load.
 fn big_at(bytes: &[u8], at: usize) -> u64
     requires { at + 8 ≤ length bytes.now }
     ensures { result ≡ big 8 bytes.now at }
 {
-    big_of(
+    u64::from_be_bytes([
         bytes[at],
         bytes[at + 1],
         bytes[at + 2],
@@ -37,7 +23,7 @@ fn big_at(bytes: &[u8], at: usize) -> u64
         bytes[at + 5],
         bytes[at + 6],
         bytes[at + 7],
-    )
+    ])
 }
 
 // The address in the sixteen bytes from a place on.
@@ -56,21 +42,7 @@ pub fn address_at(bytes: &[u8], at: usize) -> Address
 fn is_number(number: u32) -> bool
     ensures { result ≡ is_number number }
 {
-    1 <= number && number <= 33521664
-}
-
-// Whether one address is at most another.
-fn at_most(a: Address, b: Address) -> bool
-    ensures { result ≡ leb (value_of a) (value_of b) }
-{
-    a.high < b.high || (a.high == b.high && a.low <= b.low)
-}
-
-// Whether an address is 0.
-fn is_zero(a: Address) -> bool
-    ensures { result ≡ eqb (value_of a) 0 }
-{
-    a.high == 0 && a.low == 0
+    (1..=33521664).contains(&number)
 }
 
 // Whether the lowest k bits of a number are zeros.
@@ -99,7 +71,7 @@ fn zeros_past(a: Address, length: u8) -> bool
 fn may_begin(i: usize, end: Address, a: Address) -> bool
     ensures { result ≡ may_begin i (value_of end) (value_of a) }
 {
-    i == 0 || (!is_zero(end) && at_most(end, a))
+    i == 0 || (end != Address::ZERO && end <= a)
 }
 
 // Whether the three bytes behind the length of record i are zeros.
@@ -108,7 +80,7 @@ fn zeros_at(records: &[u8], i: usize) -> bool
     ensures { result ≡ zeros_at records.now i }
 {
     let at = 24 * i;
-    records[at + 17] == 0 && (records[at + 18] == 0 && records[at + 19] == 0)
+    records[at + 17] == 0 && records[at + 18] == 0 && records[at + 19] == 0
 }
 
 // Whether record i has a prefix that may stand there.
@@ -119,16 +91,7 @@ fn fits_at(records: &[u8], i: usize, end: Address, width: u8) -> bool
     let at = 24 * i;
     let a = address_at(records, at);
     let len = records[at + 16];
-    if len > width {
-        return false;
-    }
-    if !zeros_at(records, i) {
-        return false;
-    }
-    if !zeros_past(a, len) {
-        return false;
-    }
-    may_begin(i, end, a)
+    len <= width && zeros_at(records, i) && zeros_past(a, len) && may_begin(i, end, a)
 }
 
 // A list of records judged at a width, with the number for all other addresses. Refusals 21 and 22, in the records' order.
@@ -139,10 +102,8 @@ pub fn judge_list(records: &[u8], given: u32, width: u8) -> Result<(), Refusal>
     if records.len() % 24 != 0 {
         return Err(Refusal::Prefix);
     }
-    let count = records.len() / 24;
-    let mut i: usize = 0;
-    let mut end = Address { high: 0, low: 0 };
-    while i < count {
+    let mut end = Address::ZERO;
+    for i in 0..records.len() / 24 {
         if !fits_at(records, i, end, width) {
             return Err(Refusal::Prefix);
         }
@@ -151,7 +112,6 @@ pub fn judge_list(records: &[u8], given: u32, width: u8) -> Result<(), Refusal>
             return Err(Refusal::Number);
         }
         end = prefix_records::behind(address_at(records, at), records[at + 16]);
-        i += 1;
     }
     if !is_number(given) {
         return Err(Refusal::Number);
