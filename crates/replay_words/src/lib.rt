@@ -3,36 +3,22 @@
 #![tactic(auto)]
 
 ghost use Rattle.std.specs.Prelude.{◌≡◌, ◌%◌, ◌≤◌, ◌<◌, length, drop};
-ghost use Rattle.replay_words.specs.Words.{no_words, with_word, place_of, below, number_of, between, word_of};
+ghost use Rattle.replay_words.specs.Words.{no_words, with_word, place_of, below, number_of, word_of};
 
 // The place of a byte at or after `from`, or the end.
 pub fn find(text: &[u8], from: usize, byte: u8) -> usize
     requires { from ≤ length text.now }
     ensures { (from ≤ result) × (result ≤ length text.now) × (result ≡ place_of from (drop from text.now) byte) }
 {
-    let mut i = from;
-    while i < text.len() {
-        if text[i] == byte {
-            return i;
-        }
-        i += 1;
-    }
-    i
+    let found = text[from..].iter().position(|&other| other == byte);
+    from + found.unwrap_or(text.len() - from)
 }
 
-// Where the bytes of a word end, or that it cannot be read.
-#[derive(Clone, Copy)]
-pub enum WordEnd {
-    At(usize),
-    Unread,
-}
-
-// How many words a line has, whether one of them cannot be read, and where their bytes lie: each word from one number to the next. No
-// call has nine words: that many are said of a line that has more.
+// How many words a line has, and where their bytes lie: each word from one place to the next. No call has nine words: that many are said of
+// a line that has more.
 #[derive(Clone, Copy)]
 pub struct Words {
     pub count: usize,
-    pub unread: bool,
     ends: [usize; 10],
     pub last: usize,
 }
@@ -44,49 +30,69 @@ impl Words {
     {
         Words {
             count: 0,
-            unread: false,
             ends: [0; 10],
             last: 0,
         }
     }
 
-    // A word more.
-    pub fn with(mut self, end: WordEnd) -> Words
-        ensures { result ≡ with_word self end }
+    // A word more, whose bytes end at this place.
+    pub fn with(mut self, place: usize) -> Words
+        ensures { result ≡ with_word self place }
     {
-        let n = self.count;
-        let WordEnd::At(place) = end else {
-            self.unread = true;
-            return self;
-        };
-        if n < 9 {
-            self.count = n + 1;
-            self.ends[n + 1] = place;
+        if self.count < 9 {
+            self.count += 1;
+            self.ends[self.count] = place;
             self.last = place;
         }
         self
     }
 }
 
-// The bytes from one place to another; none where these are no such places.
-fn part(bytes: &[u8], from: usize, to: usize) -> &[u8]
-    ensures { result.now ≡ between bytes.now from to }
-{
-    if bytes.len() < to {
-        return &bytes[0..0];
-    }
-    if to < from {
-        return &bytes[0..0];
-    }
-    &bytes[from..to]
+// A line's words, and the bytes in which they lie.
+#[derive(Clone, Copy)]
+pub struct Line<'a> {
+    pub bytes: &'a [u8],
+    pub words: Words,
 }
 
-// The bytes of a word, the first being number 0; none where the line has no such word.
-pub fn word(bytes: &[u8], words: Words, i: usize) -> &[u8]
-    requires { i < 9 }
-    ensures { result.now ≡ word_of bytes.now words i }
-{
-    part(bytes, words.ends[i], words.ends[i + 1])
+impl<'a> Line<'a> {
+    // The bytes of a word, the first being number 0; none where the line has no such word.
+    pub fn word(self, i: usize) -> &'a [u8]
+        requires { i < 9 }
+        ensures { result.now ≡ word_of self.entry.bytes.now self.entry.words i }
+    {
+        let ends = self.words.ends;
+        self.bytes.get(ends[i]..ends[i + 1]).unwrap_or(&[])
+    }
+
+    // The number that a word is, as large as a call takes it.
+    pub fn wide(self, i: usize) -> usize
+        requires { i < 9 }
+        ensures { result ≡ number_of (word_of self.entry.bytes.now self.entry.words i) }
+    {
+        number(self.word(i)) as usize
+    }
+
+    pub fn value(self, i: usize) -> u32
+        requires { i < 9 }
+        ensures { result ≡ number_of (word_of self.entry.bytes.now self.entry.words i) % 4294967296 }
+    {
+        (self.wide(i) % 4294967296) as u32
+    }
+
+    pub fn short(self, i: usize) -> u16
+        requires { i < 9 }
+        ensures { result ≡ number_of (word_of self.entry.bytes.now self.entry.words i) % 65536 }
+    {
+        (self.wide(i) % 65536) as u16
+    }
+
+    pub fn byte(self, i: usize) -> u8
+        requires { i < 9 }
+        ensures { result ≡ number_of (word_of self.entry.bytes.now self.entry.words i) % 256 }
+    {
+        (self.wide(i) % 256) as u8
+    }
 }
 
 // A number with a byte more below it.
@@ -100,40 +106,5 @@ pub fn lengthened(x: u64, byte: u8) -> u64
 pub fn number(bytes: &[u8]) -> u64
     ensures { result ≡ number_of bytes.now }
 {
-    let mut x: u64 = 0;
-    let mut i = bytes.len();
-    while 0 < i {
-        i -= 1;
-        x = lengthened(x, bytes[i]);
-    }
-    x
-}
-
-// The number that a word is, as large as a call takes it.
-pub fn wide(bytes: &[u8], words: Words, i: usize) -> usize
-    requires { i < 9 }
-    ensures { result ≡ number_of (word_of bytes.now words i) }
-{
-    number(word(bytes, words, i)) as usize
-}
-
-pub fn value(bytes: &[u8], words: Words, i: usize) -> u32
-    requires { i < 9 }
-    ensures { result ≡ number_of (word_of bytes.now words i) % 4294967296 }
-{
-    (wide(bytes, words, i) % 4294967296) as u32
-}
-
-pub fn short(bytes: &[u8], words: Words, i: usize) -> u16
-    requires { i < 9 }
-    ensures { result ≡ number_of (word_of bytes.now words i) % 65536 }
-{
-    (wide(bytes, words, i) % 65536) as u16
-}
-
-pub fn byte(bytes: &[u8], words: Words, i: usize) -> u8
-    requires { i < 9 }
-    ensures { result ≡ number_of (word_of bytes.now words i) % 256 }
-{
-    (wide(bytes, words, i) % 256) as u8
+    bytes.iter().rev().fold(0, |x, &byte| lengthened(x, byte))
 }

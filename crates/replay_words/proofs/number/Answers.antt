@@ -1,25 +1,24 @@
--- `number` is `number_of`, from the last byte down.
-use Rattle.std.proofs.Common.{arith, ◌≡◌, ◌∙◌, ◌-◌, ℕ, ◌∷◌, refl, sym, ap, length, drop, get_or}
-use Rattle.std.proofs.Math.ListN.{drop_of_length-le}
-use Rattle.byte_numbers.proofs.Words.{next}
+-- From the last byte down.
+use Rattle.std.proofs.Common.{List, [], ◌∷◌, ◌++◌, reverse, ℕ, ◌≡◌, ◌∙◌, ap, refl, rules}
+use Rattle.std.proofs.lemmas.Fn.{fold_over}
+use Rattle.std.proofs.lemmas.List.{reverse-append, reverse-reverse}
+use Rattle.std.proofs.lemmas.Iterator.Adapters.{YieldsList-from_rev_slice}
+use Rattle.std.specs.Iterator.Adapters.{rev_steps}
+use Rattle.std.specs.Slice.Iter.{iter_steps_back}
 use Rattle.replay_words.specs.Words.{below, number_of}
 use Rattle.replay_words.proofs.number.Goals as goal
 
-pub loop-i-init : goal.loop-i-init
+none : 0 ≡ number_of []
 unfolding number_of
-loop-i-init c =
-    let b = c.args.bytes.now in
-    (omega arith, rw (drop_of_length-le b {i = length b} (omega arith)) refl)
+none = refl
 
-pub loop-i-preserved : goal.loop-i-preserved
+turn : (ys : List ℕ) (x a b : ℕ) → a ≡ number_of (reverse ys) → b ≡ below a x → b ≡ number_of (reverse (ys ++ x ∷ []))
 unfolding number_of
-loop-i-preserved c =
-    let l = c.loop-i in
-    let b = c.args.bytes.now in
-    let e : drop (l.i - 1) b ≡ get_or b (l.i - 1) 0 ∷ drop l.i b = next b (l.i - 1) l.i (omega arith) (omega arith) in
-    (omega arith, c.lengthened-x.ensures ∙ ap (λ (x : ℕ). below x (get_or b (l.i - 1) 0)) l.invariant.1 ∙ sym (ap number_of e))
+turn ys x a b j k = rw (reverse-append ys (x ∷ [])) (k ∙ ap (λ n. below n x) j)
 
 pub returns : goal.returns
 returns c =
-    let z : c.loop-i.i ≡ 0 = omega arith in
-    c.loop-i.invariant.1 ∙ ap (λ (n : ℕ). number_of (drop n c.args.bytes.now)) z
+    let bytes = c.args.bytes.now in
+    fold_over (rev_steps iter_steps_back) (λ y. y.now) _ (λ ys x. x ≡ number_of (reverse ys)) _ (λ ys a x b f' j k. search (rules, turn)) c.rev.result (reverse bytes) 0 c.fold.result
+    (YieldsList-from_rev_slice bytes cc).runs none c.fold.ensures.ran
+    ∙ ap number_of (reverse-reverse bytes)
