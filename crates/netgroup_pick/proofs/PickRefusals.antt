@@ -17,10 +17,10 @@ use Rattle.refusals.specs.declared.Refusal.TheVariants as refusal
 
 -- the first refusal that there is
 module _ (of_map : Option Refusal) (bytes occupied : List ℕ) (max : ℕ) (picks groups : List ℕ) where
-  pub first_list : (k : ℕ) → list_refusal bytes occupied ≡ Some k → pick_refusal of_map bytes occupied max picks groups ≡ Some k
+  pub first_list : (k : Refusal) → list_refusal bytes occupied ≡ Some k → pick_refusal of_map bytes occupied max picks groups ≡ Some k
   first_list k e = rw e
 
-  pub then_map : (k : ℕ) → list_refusal bytes occupied ≡ None → of_map ≡ Some k → pick_refusal of_map bytes occupied max picks groups ≡ Some k
+  pub then_map : (k : Refusal) → list_refusal bytes occupied ≡ None → of_map ≡ Some k → pick_refusal of_map bytes occupied max picks groups ≡ Some k
   then_map k e h = rw (e, h)
 
   pub then_room : list_refusal bytes occupied ≡ None → of_map ≡ None
@@ -38,6 +38,6 @@ none_ready n bytes occupied max picks groups h =
       few = none_listed bytes occupied (none_first (list_refusal bytes occupied) _ h);
       few_occupied = none_occupied bytes occupied (none_first (list_refusal bytes occupied) _ h);
       fit = none_first (limit_refusal n) _ later;
-      room_picks = none_more (length picks) need 14 (none_first p _ room);
-      room_groups = none_more (length groups) need 14 (none-later p _ room);
+      room_picks = none_more (length picks) need refusal.OutputTooShort (none_first p _ room);
+      room_groups = none_more (length groups) need refusal.OutputTooShort (none-later p _ room);
     }

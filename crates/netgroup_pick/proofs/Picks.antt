@@ -32,7 +32,7 @@ use Rattle.refusals.specs.declared.Refusal.{Refusal}
 use Rattle.std.specs.Prelude.{Ok, Err, Option, Some, None}
 
 -- a refusal: its number, and both outputs as they were
-pub refused : (of_map : Option Refusal) (n : Numbering) (bytes occupied : List ℕ) (max : ℕ) (picks groups : List ℕ) (k : ℕ)
+pub refused : (of_map : Option Refusal) (n : Numbering) (bytes occupied : List ℕ) (max : ℕ) (picks groups : List ℕ) (k : Refusal)
     → pick_refusal of_map bytes occupied max picks groups ≡ Some k → handed (Err k) picks groups ≡ pick_call of_map n bytes occupied max picks groups
 refused of_map n bytes occupied max picks groups k e =
     sym (ap (λ (x : Option Refusal). pick_unless x n (candidates_of bytes) occupied max picks groups) e)
