@@ -48,10 +48,10 @@ hands_same {made} {other} {o} {o'} {r} e h = subst (λ (m : Making). Hands m o o
 -- ---- the ways out of a call
 
 module _ (of_map : Option Refusal) (n : Numbering) (bytes : List ℕ) where
-  pub list_refused : (k : ℕ) → list_refusal bytes [] ≡ Some k → page_call of_map n bytes ≡ No k
+  pub list_refused : (k : Refusal) → list_refusal bytes [] ≡ Some k → page_call of_map n bytes ≡ No k
   list_refused k e = rw e
 
-  pub map_refused : (k : ℕ) → list_refusal bytes [] ≡ None → of_map ≡ Some k → page_call of_map n bytes ≡ No k
+  pub map_refused : (k : Refusal) → list_refusal bytes [] ≡ None → of_map ≡ Some k → page_call of_map n bytes ≡ No k
   map_refused k e f = rw (e, f)
 
   pub page_made : list_refusal bytes [] ≡ None → of_map ≡ None → page_call of_map n bytes ≡ Made (page_of (groups_of n (candidates_of bytes)))

@@ -73,7 +73,12 @@ fn sort_page(groups: &mut [u64], spare: &mut [u64], out: &mut [u8]) -> Result<us
 }
 
 // The page of candidates that are not refused, with a map that is within the limit. Refusal 14.
-fn make_page(candidates: &[u8], grouping: Grouping, map: &[u8], out: &mut [u8]) -> Result<usize, Refusal>
+fn make_page(
+    candidates: &[u8],
+    grouping: Grouping,
+    map: &[u8],
+    out: &mut [u8],
+) -> Result<usize, Refusal>
     requires { (length candidates.now / 20 ≤ 4096) × (limit_refusal (numbering grouping map.now) ≡ None) }
     ensures { Hands (Making.Made (page_of (groups_of (numbering grouping map.now) (candidates_of candidates.now)))) out.old out.new result }
 {
@@ -86,7 +91,12 @@ fn make_page(candidates: &[u8], grouping: Grouping, map: &[u8], out: &mut [u8]) 
 
 // The page over a map taken as it is, for callers who checked it when they loaded it. Refusals 13, 12, 13, with a map 1, then 14; a refusal
 // writes nothing. Of a map that the check refuses a walk may abort: its candidate is counted for group 0 then.
-pub fn page_unchecked(candidates: &[u8], grouping: Grouping, map: &[u8], out: &mut [u8]) -> Result<usize, Refusal>
+pub fn page_unchecked(
+    candidates: &[u8],
+    grouping: Grouping,
+    map: &[u8],
+    out: &mut [u8],
+) -> Result<usize, Refusal>
     ensures hands { Hands (spread_unchecked (numbering grouping map.now) candidates.now) out.old out.new result }
     ensures told { Told (numbering grouping map.now) candidates.now result }
     ensures unaborted { check_refusal (numbering grouping map.now) ≡ None → Unaborted (numbering grouping map.now) candidates.now result }
@@ -102,7 +112,12 @@ pub fn page_unchecked(candidates: &[u8], grouping: Grouping, map: &[u8], out: &m
 
 // The page of a list of candidates, with a map or none: a line of 25 bytes for each group, groups rising. 25 bytes for each candidate are
 // always enough. Refusals 13, 12, 13, with a map the check's, 1 to 10 and 19, then 14; a refusal writes nothing.
-pub fn page(candidates: &[u8], grouping: Grouping, map: &[u8], out: &mut [u8]) -> Result<usize, Refusal>
+pub fn page(
+    candidates: &[u8],
+    grouping: Grouping,
+    map: &[u8],
+    out: &mut [u8],
+) -> Result<usize, Refusal>
     ensures hands { Hands (spread_page (numbering grouping map.now) candidates.now) out.old out.new result }
     ensures told { Told (numbering grouping map.now) candidates.now result }
     ensures unaborted { Unaborted (numbering grouping map.now) candidates.now result }

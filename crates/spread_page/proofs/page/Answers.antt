@@ -9,57 +9,57 @@ use Rattle.spread_page.specs.Promise.{Told, Unaborted}
 use Rattle.spread_page.proofs.PageLaws.{list_refused, map_refused, page_made, hands_same, told_either, unaborted_either}
 use Rattle.spread_page.proofs.page.Goals as goal
 
-pub returns-in-Number-clause-hands : goal.returns-in-Number-clause-hands
+pub returns-in-Some-clause-hands : goal.returns-in-Some-clause-hands
 unfolding spread_page
-returns-in-Number-clause-hands c =
+returns-in-Some-clause-hands c =
     let a = c.args in
     let n = numbering a.grouping a.map.now in
-    let listed = sym c.candidates_refusal-listed.ensures ∙ c.in-Number.is in
+    let listed = sym c.candidates_refusal.ensures ∙ c.in-Some.is in
     hands_no (spread_page n a.candidates.now) a.out.now _ (list_refused (check_refusal n) n a.candidates.now _ listed)
 
-pub returns-in-Number-clause-told : goal.returns-in-Number-clause-told
+pub returns-in-Some-clause-told : goal.returns-in-Some-clause-told
 unfolding Told
-returns-in-Number-clause-told c = tt
+returns-in-Some-clause-told c = tt
 
-pub returns-in-Number-clause-unaborted : goal.returns-in-Number-clause-unaborted
+pub returns-in-Some-clause-unaborted : goal.returns-in-Some-clause-unaborted
 unfolding Unaborted
-returns-in-Number-clause-unaborted c = tt
+returns-in-Some-clause-unaborted c = tt
 
-pub returns-in-Number-checked-clause-hands : goal.returns-in-Number-checked-clause-hands
+pub returns-in-Some-check_refusal-clause-hands : goal.returns-in-Some-check_refusal-clause-hands
 unfolding spread_page
-returns-in-Number-checked-clause-hands c =
+returns-in-Some-check_refusal-clause-hands c =
     let a = c.args in
     let n = numbering a.grouping a.map.now in
-    let listed = sym c.candidates_refusal-listed.ensures ∙ c.in_default.is in
-    let checked = sym c.check_refusal-checked.ensures ∙ c.in-Number-checked.is in
+    let listed = sym c.candidates_refusal.ensures ∙ c.in_default.is in
+    let checked = sym c.check_refusal.ensures ∙ c.in-Some-check_refusal.is in
     hands_no (spread_page n a.candidates.now) a.out.now _ (map_refused (check_refusal n) n a.candidates.now _ listed checked)
 
-pub returns-in-Number-checked-clause-told : goal.returns-in-Number-checked-clause-told
+pub returns-in-Some-check_refusal-clause-told : goal.returns-in-Some-check_refusal-clause-told
 unfolding Told
-returns-in-Number-checked-clause-told c = tt
+returns-in-Some-check_refusal-clause-told c = tt
 
-pub returns-in-Number-checked-clause-unaborted : goal.returns-in-Number-checked-clause-unaborted
+pub returns-in-Some-check_refusal-clause-unaborted : goal.returns-in-Some-check_refusal-clause-unaborted
 unfolding Unaborted
-returns-in-Number-checked-clause-unaborted c = tt
+returns-in-Some-check_refusal-clause-unaborted c = tt
 
 pub returns-clause-hands : goal.returns-clause-hands
 unfolding spread_page
 returns-clause-hands c =
     let a = c.args in
     let n = numbering a.grouping a.map.now in
-    let listed = sym c.candidates_refusal-listed.ensures ∙ c.in_default.is in
-    let checked = sym c.check_refusal-checked.ensures ∙ c.in_default-checked.is in
+    let listed = sym c.candidates_refusal.ensures ∙ c.in_default.is in
+    let checked = sym c.check_refusal.ensures ∙ c.in_default-check_refusal.is in
     hands_same (sym (page_made (check_refusal n) n a.candidates.now listed checked)) c.make_page.ensures
 
 pub returns-clause-told : goal.returns-clause-told
 returns-clause-told c =
     let a = c.args in
     let n = numbering a.grouping a.map.now in
-    let listed = sym c.candidates_refusal-listed.ensures ∙ c.in_default.is in
+    let listed = sym c.candidates_refusal.ensures ∙ c.in_default.is in
     told_either n a.candidates.now c.make_page.result (none_listed a.candidates.now [] listed) (λ i. omega (arith, c.type_inv.candidates i))
 
 pub returns-clause-unaborted : goal.returns-clause-unaborted
 returns-clause-unaborted c =
     let a = c.args in
     let n = numbering a.grouping a.map.now in
-    unaborted_either n a.candidates.now c.make_page.result (sym c.check_refusal-checked.ensures ∙ c.in_default-checked.is)
+    unaborted_either n a.candidates.now c.make_page.result (sym c.check_refusal.ensures ∙ c.in_default-check_refusal.is)
