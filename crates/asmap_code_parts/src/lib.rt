@@ -10,7 +10,7 @@ ghost use Rattle.asmap_code_parts.specs.models.Parts.{GrownParts, CodeParts, Cod
 use asmap_codes::{ASN_BIT_SIZES, JUMP_BIT_SIZES, MATCH_BIT_SIZES, TYPE_BIT_SIZES};
 
 // The parts of a code: how many ones it starts with, the size that has its value, and the number in that size.
-#[derive(Clone, Copy)]
+#[derive(Clone, Copy, Debug, PartialEq, Eq)]
 pub struct Parts {
     pub ones: usize,
     pub size: u8,
@@ -37,25 +37,19 @@ fn parts_looked_up(x: u32, sizes: &[u8]) -> Parts
     requires { (0 < length sizes.now) × (span sizes.now ≤ 2 ^ 31) × (x < span sizes.now) }
     ensures { CodeParts sizes.now x result }
 {
+    let last = sizes.len() - 1;
     let mut rest = x;
-    let mut i: usize = 0;
-    while i + 1 < sizes.len() {
-        let size = sizes[i];
+    for ones in 0..last {
+        let size = sizes[ones];
         let step = asmap_codes::power(size);
         if rest < step {
-            return Parts {
-                ones: i,
-                size,
-                rest,
-            };
+            return Parts { ones, size, rest };
         }
         rest -= step;
-        i += 1;
     }
-    let last = sizes[i];
     Parts {
-        ones: i,
-        size: last,
+        ones: last,
+        size: sizes[last],
         rest,
     }
 }
@@ -66,8 +60,7 @@ fn parts_of(x: u32, sizes: &[u8]) -> Parts
     ensures { CodeParts sizes.now x result }
 {
     if asmap_codes::grows(sizes) {
-        let first = sizes[0];
-        return parts_grown(x, first);
+        return parts_grown(x, sizes[0]);
     }
     parts_looked_up(x, sizes)
 }
@@ -82,12 +75,12 @@ fn row_parts(value: u32, least: u32, count: u32, sizes: &[u8]) -> Option<(usize,
         return None;
     }
     let x = value - least;
-    if x < count {
-        let parts = parts_of(x, sizes);
-        let prefix = asmap_codes::prefix_length(parts.ones, sizes.len());
-        return Some((prefix, parts));
+    if count <= x {
+        return None;
     }
-    None
+    let parts = parts_of(x, sizes);
+    let prefix = asmap_codes::prefix_length(parts.ones, sizes.len());
+    Some((prefix, parts))
 }
 
 // ---- the four rows
