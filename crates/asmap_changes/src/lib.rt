@@ -71,7 +71,13 @@ fn front_at(begin: Address, len: u8, number: u32, s: Spot) -> Front
 }
 
 // The next piece of a listing, which begins at an address; none at the listing's end.
-fn next_front(map: &[u8], begin: Address, from: Spot, bits: &mut [u8], numbers: &mut [u32]) -> Option<Front>
+fn next_front(
+    map: &[u8],
+    begin: Address,
+    from: Spot,
+    bits: &mut [u8],
+    numbers: &mut [u32],
+) -> Option<Front>
     requires { (length map.now ≤ limit) × Comes map.now from begin bits.old numbers.old }
     ensures { (lo : ℕ) (ps : List Piece) → Coming map.now from begin bits.old numbers.old lo ps → Fronted map.now from ps bits.new numbers.new result }
 {

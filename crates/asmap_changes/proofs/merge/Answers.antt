@@ -28,12 +28,12 @@ returns-in_default-next_new c =
 
 pub loop-o-smaller-then-same : goal.loop-o-smaller-then-same
 loop-o-smaller-then-same c =
-    omega (arith, (c.in-At.ensures _ _ (behind_fore c.loop-o.invariant.pair.fore_old)).less, (c.in-At-next_new.ensures _ _ (behind_fore c.loop-o.invariant.pair.fore_new)).less)
+    omega (arith, (c.in-Some.ensures _ _ (behind_fore c.loop-o.invariant.pair.fore_old)).less, (c.in-Some-next_new.ensures _ _ (behind_fore c.loop-o.invariant.pair.fore_new)).less)
 
 pub loop-o-preserved-then-same : goal.loop-o-preserved-then-same
 loop-o-preserved-then-same c =
     on_both c.loop-o.invariant c.note-found.ensures (sym c.same.ensures ∙ c.if-same.true)
-    (c.in-At.ensures _ _ (behind_fore c.loop-o.invariant.pair.fore_old)) (c.in-At-next_new.ensures _ _ (behind_fore c.loop-o.invariant.pair.fore_new))
+    (c.in-Some.ensures _ _ (behind_fore c.loop-o.invariant.pair.fore_old)) (c.in-Some-next_new.ensures _ _ (behind_fore c.loop-o.invariant.pair.fore_new))
 
 -- ---- the old one ends first
 
@@ -42,11 +42,11 @@ returns-in_default-next_old c =
     end_old c.loop-o.invariant c.note-found.ensures (sym c.same.ensures ∙ c.if-same.false) c.if-n-o.true (c.in_default-next_old.ensures _ _ (behind_fore c.loop-o.invariant.pair.fore_old))
 
 pub loop-o-smaller-then-n-o : goal.loop-o-smaller-then-n-o
-loop-o-smaller-then-n-o c = omega (arith, (c.in-At-next_old.ensures _ _ (behind_fore c.loop-o.invariant.pair.fore_old)).less)
+loop-o-smaller-then-n-o c = omega (arith, (c.in-Some-next_old.ensures _ _ (behind_fore c.loop-o.invariant.pair.fore_old)).less)
 
 pub loop-o-preserved-then-n-o : goal.loop-o-preserved-then-n-o
 loop-o-preserved-then-n-o c =
-    on_old c.loop-o.invariant c.note-found.ensures (sym c.same.ensures ∙ c.if-same.false) c.if-n-o.true (c.in-At-next_old.ensures _ _ (behind_fore c.loop-o.invariant.pair.fore_old))
+    on_old c.loop-o.invariant c.note-found.ensures (sym c.same.ensures ∙ c.if-same.false) c.if-n-o.true (c.in-Some-next_old.ensures _ _ (behind_fore c.loop-o.invariant.pair.fore_old))
 
 -- ---- the new one ends first
 
@@ -55,8 +55,8 @@ returns-in_default-next_new-2 c =
     end_new c.loop-o.invariant c.note-found.ensures (sym c.same.ensures ∙ c.if-same.false) c.if-n-o.false (c.in_default-next_new-2.ensures _ _ (behind_fore c.loop-o.invariant.pair.fore_new))
 
 pub loop-o-smaller : goal.loop-o-smaller
-loop-o-smaller c = omega (arith, (c.in-At-next_new-2.ensures _ _ (behind_fore c.loop-o.invariant.pair.fore_new)).less)
+loop-o-smaller c = omega (arith, (c.in-Some-next_new-2.ensures _ _ (behind_fore c.loop-o.invariant.pair.fore_new)).less)
 
 pub loop-o-preserved : goal.loop-o-preserved
 loop-o-preserved c =
-    on_new c.loop-o.invariant c.note-found.ensures (sym c.same.ensures ∙ c.if-same.false) c.if-n-o.false (c.in-At-next_new-2.ensures _ _ (behind_fore c.loop-o.invariant.pair.fore_new))
+    on_new c.loop-o.invariant c.note-found.ensures (sym c.same.ensures ∙ c.if-same.false) c.if-n-o.false (c.in-Some-next_new-2.ensures _ _ (behind_fore c.loop-o.invariant.pair.fore_new))

@@ -6,7 +6,7 @@ pub returns-in_default : goal.returns-in_default
 returns-in_default c lo ps k = coming_over k c.in_default.ensures
 
 pub front_at-requires : goal.front_at-requires
-front_at-requires c = coming-length c.requires.1.coming c.in-Piece.ensures
+front_at-requires c = coming-length c.requires.1.coming c.in-Some.ensures
 
 pub returns : goal.returns
-returns c lo ps k = coming_front k _ c.in-Piece.ensures c.front_at.ensures
+returns c lo ps k = coming_front k _ c.in-Some.ensures c.front_at.ensures

@@ -28,7 +28,7 @@ merge-requires c = (
   c.requires.1,
   c.requires.2,
   record {
-    old_split = first_of_lem (c.in-At.ensures _ _ (start_at c.args.old.now _ _ _ c.requires.0 c.stack_bits-old_bits.ensures c.stack_numbers-old_numbers.ensures c.start-s.ensures));
-    new_split = first_of_lem (c.in-At-first_new.ensures _ _ (start_at c.args.new.now _ _ _ c.requires.1 c.stack_bits-new_bits.ensures c.stack_numbers-new_numbers.ensures c.start-s.ensures));
+    old_split = first_of_lem (c.in-Some.ensures _ _ (start_at c.args.old.now _ _ _ c.requires.0 c.stack_bits-old_bits.ensures c.stack_numbers-old_numbers.ensures c.start-s.ensures));
+    new_split = first_of_lem (c.in-Some-first_new.ensures _ _ (start_at c.args.new.now _ _ _ c.requires.1 c.stack_bits-new_bits.ensures c.stack_numbers-new_numbers.ensures c.start-s.ensures));
   },
 )
