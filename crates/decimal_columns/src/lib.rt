@@ -10,7 +10,7 @@ ghost use Rattle.decimal_columns.specs.models.Rest.{rest_byte};
 pub fn last_digit(n: u64) -> u8
     ensures { result ≡ digit_byte n 0 }
 {
-    48 + (n % 10) as u8
+    b'0' + (n % 10) as u8
 }
 
 // The byte of a column, by what is left of the number there: a space where nothing is.
@@ -18,23 +18,20 @@ fn rest_byte(rest: u64) -> u8
     ensures { result ≡ rest_byte rest }
 {
     if rest == 0 {
-        return 32;
+        return b' ';
     }
     last_digit(rest)
 }
 
-// A number put into columns from a place on, from the last column to the first. The last has a digit always.
-pub fn put_columns(out: &mut [u8], at: usize, columns: usize, n: u64)
-    requires { at + columns ≤ length out.old }
-    ensures { out.new ≡ sets out.old at (flush_right columns n) }
+// A number put into columns, as many as are lent, from the last to the first. The last has a digit always.
+pub fn put_columns(columns: &mut [u8], n: u64)
+    ensures { columns.new ≡ flush_right (length columns.old) n }
 {
-    let mut left = columns;
     let mut byte = last_digit(n);
     let mut rest = n / 10;
-    while 0 < left {
-        left -= 1;
-        out[at + left] = byte;
+    for column in (0..columns.len()).rev() {
+        columns[column] = byte;
         byte = rest_byte(rest);
-        rest = rest / 10;
+        rest /= 10;
     }
 }

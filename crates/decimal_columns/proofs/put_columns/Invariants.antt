@@ -2,8 +2,5 @@
 use Rattle.decimal_columns.proofs.Putting.{Put}
 use Rattle.decimal_columns.proofs.put_columns.Given as goal
 
-abbrev pub invariant-loop-left : goal.invariant-loop-left
-invariant-loop-left l = Put l.fn.out l.at l.columns l.n l.out l.left l.byte l.rest
-
-abbrev pub decreases-loop-left : goal.decreases-loop-left
-decreases-loop-left l = l.left
+abbrev pub invariant-loop-column : goal.invariant-loop-column
+invariant-loop-column l = Put l.fn.columns l.n l.columns l.column l.byte l.rest
