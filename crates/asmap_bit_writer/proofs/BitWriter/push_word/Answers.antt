@@ -7,19 +7,19 @@ use Rattle.asmap_encode.proofs.WordLaws.{shifted, window_lt}
 use Rattle.asmap_bit_writer.specs.Bytes.{bytes_of}
 use Rattle.asmap_bit_writer.specs.models.Stream.{stream}
 use Rattle.asmap_bit_writer.proofs.WriterLaws.{stream-push, stream_full, shifted_fits, rest_lt, length-put}
-use Rattle.asmap_bit_writer.proofs.push_word.Goals as goal
+use Rattle.asmap_bit_writer.proofs.BitWriter.push_word.Goals as goal
 
-pub overflow_add-bits : goal.overflow_add-bits
-overflow_add-bits c =
-    let w = c.args.writer in
+pub overflow_add-self : goal.overflow_add-self
+overflow_add-self c =
+    let w = c.args.self.now in
     let x = c.args.word in
     record { fits = shifted_fits x.bits w.held (omega arith) w.bits c.requires.0.small }
 
-pub returns-then-held-lt64 : goal.returns-then-held-lt64
+pub returns-else-self-ge64 : goal.returns-else-self-ge64
 unfolding stream
-returns-then-held-lt64 c =
+returns-else-self-ge64 c =
     let o = c.args.out.now in
-    let w = c.args.writer in
+    let w = c.args.self.now in
     let x = c.args.word in
     let p = c.requires in
     let e = shifted x.bits x.len w.held p.1 (omega arith) in
@@ -30,11 +30,11 @@ returns-then-held-lt64 c =
       streams = λ rest. stream-push o w.place w.held x.len w.bits x.bits rest p.0.small;
     }
 
-pub returns : goal.returns
+pub returns-then-self-ge64 : goal.returns-then-self-ge64
 unfolding stream
-returns c =
+returns-then-self-ge64 c =
     let o = c.args.out.now in
-    let w = c.args.writer in
+    let w = c.args.self.now in
     let x = c.args.word in
     let p = c.requires in
     let h : 64 ≤ w.held + x.len = omega arith in
