@@ -8,6 +8,7 @@ use lib.Pow as pow
 use lib.Pow.{pow_mono}
 use lib.ListN.{length, set, length-set}
 use lib.Seq.{sets, length-sets}
+use Rattle.std.specs.Int.{w64, to_le_bytes}
 use Rattle.asmap_codes.specs.Bits.{low}
 use Rattle.asmap_codes.proofs.BitLaws.{length-low}
 use Rattle.asmap_encode.proofs.WordLaws.{window_lt}
@@ -35,6 +36,34 @@ moved_as {o} {o'} {w} {w'} m e = subst (λ (l : List ℕ). Moved o w l o' w') e 
 pub length-put : (n : ℕ) (o : List ℕ) (p a : ℕ) → length (put_bytes n o p a) ≡ length o
 length-put zero o p a = refl
 length-put (suc n) o p a = length-put n (set o p (a % 256)) (p + 1) (a / 256) ∙ length-set o p (a % 256)
+
+-- eight bytes go out as one part
+abbrev parts : ℕ → ℕ → List ℕ
+parts zero a = []
+parts (suc n) a = a % 256 ∷ parts n (a / 256)
+
+put_parts : (n : ℕ) (o : List ℕ) (p a : ℕ) → put_bytes n o p a ≡ sets o p (parts n a)
+put_parts zero o p a = refl
+put_parts (suc n) o p a = let e : p + 1 ≡ suc p = omega arith in put_parts n (set o p (a % 256)) (p + 1) (a / 256) ∙ ap (λ (k : ℕ). sets (set o p (a % 256)) k (parts n (a / 256))) e
+
+eight_parts : (a : ℕ) → to_le_bytes w64 a ≡ parts 8 a
+eight_parts a =
+    let b = a / 256 in
+    let c = b / 256 in
+    let d = c / 256 in
+    let e = d / 256 in
+    let f = e / 256 in
+    let g = f / 256 in
+    let c' : a / 65536 ≡ c = omega arith in
+    let d' : a / 16777216 ≡ d = omega arith in
+    let e' : a / 4294967296 ≡ e = omega arith in
+    let f' : a / 1099511627776 ≡ f = omega arith in
+    let g' : a / 281474976710656 ≡ g = omega arith in
+    let h' : a / 72057594037927936 ≡ g / 256 = omega arith in
+    rw (c', d', e', f', g', h')
+
+pub put_eight : (o : List ℕ) (p a : ℕ) → sets o p (to_le_bytes w64 a) ≡ put_bytes 8 o p a
+put_eight o p a = ap (sets o p) (eight_parts a) ∙ sym (put_parts 8 o p a)
 
 pub stream-bytes : (n : ℕ) (o : List ℕ) (p a : ℕ) (rest : List ℕ)
     → sets o p (bytes_of (low (8 * n) a ++ rest)) ≡ sets (put_bytes n o p a) (p + n) (bytes_of rest)

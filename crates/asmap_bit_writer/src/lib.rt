@@ -18,7 +18,7 @@ pub struct BitWriter {
     pub place: usize,
 }
 
-// So many bytes of a number go out from a place on, the lowest first.
+// So many bytes of a number go out from a place on, the lowest first. They are put one by one: a copy of no fixed length would want the C library.
 fn put_bytes(out: &mut [u8], from: usize, number: u64, count: usize)
     requires { from + count ≤ length out.old }
     ensures { out.new ≡ put_bytes count out.old from number }
@@ -53,7 +53,7 @@ impl BitWriter {
         self.bits += word.bits << start;
         self.held += word.len;
         if 64 <= self.held {
-            put_bytes(out, self.place, self.bits, 8);
+            out[self.place..self.place + 8].copy_from_slice(&self.bits.to_le_bytes());
             self.place += 8;
             self.held -= 64;
             self.bits = word.bits >> (64 - start);
