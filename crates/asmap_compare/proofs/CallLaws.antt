@@ -1,6 +1,6 @@
 -- What the checks' counts tell of two maps, what the calls make of it, and what a comparison promises, over every width.
 -- Assumes nothing.
-use Prim.Native.Nat.{ℕ, ◌+◌, ◌*◌, ◌^◌, ◌≤◌, ◌<◌}
+use Prim.Native.Nat.{ℕ, ◌*◌, ◌^◌, ◌≤◌, ◌<◌}
 use mathlib.Core.Bool.{Bool, true, false}
 use mathlib.Core.Path.{◌≡◌, refl, sym, ap, subst, ◌∙◌}
 use mathlib.Core.List.{List, [], ◌∷◌, ◌++◌}
@@ -15,9 +15,8 @@ use Rattle.asmap_program.specs.Check.{unpacked}
 use Rattle.asmap_program.specs.models.Pieces.{count_pieces}
 use Rattle.asmap_codes.specs.Instruction.{map_of}
 use Rattle.asmap_check.specs.Check.{check_of}
-use Rattle.asmap_check.specs.models.Counted.{counted_as, counted_of}
+use Rattle.asmap_check.specs.models.Counted.{counted_as, counted_of, Few}
 use Rattle.asmap_check_run.specs.models.State.{most}
-use Rattle.asmap_check.proofs.Reasons.{Judged, reason_small, map-judged}
 use Rattle.asmap_records.specs.Output.{Making, Made, No, refuse, within, leaves, Hands}
 use Rattle.asmap_records.proofs.RecordLaws.{sets_front}
 use Rattle.asmap_records.proofs.OutputLaws.{hands_no}
@@ -36,9 +35,11 @@ use Rattle.asmap_compare.specs.Compare.{Comparison, Told, Refuses, compared_as, 
 use Rattle.asmap_compare.specs.Promise.{ends_at, Compares}
 use Rattle.asmap_changes.specs.models.Side.{Ready}
 use Rattle.asmap_program.specs.Verdict.{Accepted, Verdict}
+use Rattle.refusals.specs.declared.Fault.{Fault}
 use Rattle.refusals.specs.declared.Refusal.{Refusal}
 use Rattle.refusals.specs.declared.Refusal.TheVariants as refusal
-use Rattle.std.specs.Prelude.{Result, Ok, Err}
+use Rattle.std.specs.Prelude.{Result, Ok, Err, MatchResult, IsErrAnd}
+use Rattle.std.proofs.lemmas.Result.{err_from_is_err_and}
 
 -- ---- what a count tells
 
@@ -55,16 +56,29 @@ module _ (m : List ℕ) (w : ℕ) (narrow : w ≤ 128) where
       go (Ok got) h q = (got.count, got.depth, h)
       go (Err r) h q = let z : ◌≡◌ {A = ℕ} 0 1 = cc in absurd (omega arith)
 
-  pub refuses : (r : ℕ) → Err r ≡ counted_of m w → check_of m w ≡ Err r
+  pub refuses : (r : Fault) → Err r ≡ counted_of m w → check_of m w ≡ Err r
   refuses r e = go (check_of m w) refl e
     where
       go : (v : Verdict) → check_of m w ≡ v → Err r ≡ counted_as (count_pieces (unpacked (map_of m) w)) v → check_of m w ≡ Err r
       go (Ok got) h q = let z : ◌≡◌ {A = ℕ} 0 1 = cc in absurd (omega arith)
       go (Err n) h q = let z : r ≡ n = cc in h ∙ ap Err (sym z)
 
-  -- the number of a refusal has room for 100 more
-  pub small-reason : (r : ℕ) → check_of m w ≡ Err r → r ≤ 19
-  small-reason r e = subst (Judged (λ n. n ≤ 19)) e (map-judged (λ n. n ≤ 19) reason_small m w (omega arith))
+-- a count is small, however its call was read
+pub few_of : (s : Result ℕ Fault) (n : ℕ) → Few s → s ≡ Ok n → n ≤ most
+few_of s n h e = subst Few e h
+
+-- ---- what is wrong with the new map, told of as its
+
+abbrev NewMapped : Result ℕ Fault → Result ℕ Refusal → Type 0
+NewMapped s r = MatchResult s (λ x. r ≡ Ok x) (λ e. IsErrAnd r (λ g. g ≡ refusal.NewMap e))
+
+pub mapped-ok : (s : Result ℕ Fault) (r : Result ℕ Refusal) → NewMapped s r → (n : ℕ) → r ≡ Ok n → s ≡ Ok n
+mapped-ok (Ok m) r h n e = cc
+mapped-ok (Err f) r h n e = let p = (err_from_is_err_and r h).1 in absurd (cc)
+
+pub mapped-err : (s : Result ℕ Fault) (r : Result ℕ Refusal) → NewMapped s r → (g : Refusal) → r ≡ Err g → (f : Fault) × (s ≡ Err f) × (g ≡ refusal.NewMap f)
+mapped-err (Ok m) r h g e = absurd (cc)
+mapped-err (Err f) r h g e = let p = err_from_is_err_and r h in let q = p.1 in let z : g ≡ p.0 = cc in (f, refl, z ∙ p.2)
 
 -- ---- what the calls make of it
 
@@ -74,11 +88,11 @@ module _ (old new : List ℕ) (w : ℕ) where
   told c d c' d' e f =
       ap (λ (v : Verdict). compared_as (changes_of old new w) v (check_of new w)) e ∙ ap (compared_as (changes_of old new w) (Accepted c d)) f
 
-  pub old_refused : (r : ℕ) → check_of old w ≡ Err r → comparison old new w ≡ Refuses r
+  pub old_refused : (r : Fault) → check_of old w ≡ Err r → comparison old new w ≡ Refuses (refusal.Map r)
   unfolding comparison
   old_refused r e = ap (λ (v : Verdict). compared_as (changes_of old new w) v (check_of new w)) e
 
-  pub new_refused : (c d r : ℕ) → check_of old w ≡ Accepted c d → check_of new w ≡ Err r → comparison old new w ≡ Refuses (100 + r)
+  pub new_refused : (c d : ℕ) (r : Fault) → check_of old w ≡ Accepted c d → check_of new w ≡ Err r → comparison old new w ≡ Refuses (refusal.NewMap r)
   unfolding comparison
   new_refused c d r e f =
       ap (λ (v : Verdict). compared_as (changes_of old new w) v (check_of new w)) e ∙ ap (compared_as (changes_of old new w) (Accepted c d)) f
@@ -90,13 +104,13 @@ told_wide old new w narrow c d c' d' e f =
     told old new w c d c' d' e f
     ∙ ap Told (changes_wider w 128 narrow 0 0 (2 ^ w) (2 ^ w) (listing (map_of old)) (listing (map_of new)) (covered old w c d e).tiles (covered new w c' d' f).tiles)
 
-pub hands_refused : (x : Comparison) (o : List ℕ) (n : ℕ) → x ≡ Refuses n → Hands (records_made x) o o (Err n)
+pub hands_refused : (x : Comparison) (o : List ℕ) (n : Refusal) → x ≡ Refuses n → Hands (records_made x) o o (Err n)
 hands_refused x o n e = hands_no (records_made x) o n (ap records_made e)
 
 pub hands_same : (x y : Comparison) (o o' : List ℕ) (r : Result ℕ Refusal) → x ≡ y → Hands (records_made y) o o' r → Hands (records_made x) o o' r
 hands_same x y o o' r e h = subst (λ (y : Comparison). Hands (records_made y) o o' r) (sym e) h
 
-pub finds_refused : (x : Comparison) (o : List ℕ) (n : ℕ) → x ≡ Refuses n → Finds x o o (Err n)
+pub finds_refused : (x : Comparison) (o : List ℕ) (n : Refusal) → x ≡ Refuses n → Finds x o o (Err n)
 finds_refused x o n e = subst (λ (y : Comparison). Finds y o o (Err n)) (sym e) record { answer = refl; output = refl }
 
 pub finds_same : (x y : Comparison) (o o' : List ℕ) (r : Result ℕ Refusal) → x ≡ y → Finds y o o' r → Finds x o o' r

@@ -1,7 +1,7 @@
 -- Two maps compared for every address: the changes from the old map's listing to the new one's, over the width w in address bits. "Refusals: the old
 -- map's check, then the new one's (the answer says which of the two it was), then 14."
 -- Assumes nothing.
-use Rattle.std.specs.Prelude.{ℕ, ◌+◌, ◌≡◌, List, length, Result, Err, Ok}
+use Rattle.std.specs.Prelude.{ℕ, ◌≡◌, List, length, Result, Err, Ok}
 use Rattle.asmap_program.specs.Widths.{at_width}
 use Rattle.asmap_check.specs.Check.{check_of}
 use Rattle.asmap_records.specs.Output.{Making, Made, No, within, leaves}

@@ -19,8 +19,7 @@ fn write_changes(old: &[u8], new: &[u8], out: &mut [u8]) -> Result<usize, Refusa
     requires { Ready old.now × Ready new.now × RoomFor true (length (changes_of old.now new.now 128)) out.old }
     ensures { Hands (Made (change_records_of (changes_of old.now new.now 128))) out.old out.new result }
 {
-    let found = put_changes(old, new, true, out);
-    Ok(28 * found.pieces)
+    Ok(28 * put_changes(old, new, true, out).pieces)
 }
 
 // The same into any output. One with room for all `pieces` of both maps has room for the changes; else they are counted first, so that an output
@@ -89,8 +88,8 @@ fn bytes_over(old: &[u8], new: &[u8], bits: u8, first: &mut [u8]) -> Result<usiz
     requires { bits ≤ 128 }
     ensures { Finds (comparison old.now new.now bits) first.old first.new result }
 {
-    asmap_check::check_over(old, bits)?;
-    asmap_check::check_over(new, bits).map_err(Refusal::NewMap)?;
+    asmap_check::sanity_check_pieces(old, bits)?;
+    asmap_check::sanity_check_pieces(new, bits).map_err(Refusal::NewMap)?;
     find_changes(old, new, first)
 }
 
@@ -104,7 +103,12 @@ pub fn compare_bytes(old: &[u8], new: &[u8], first: &mut [u8]) -> Result<usize, 
 }
 
 // The same at a width, which both maps have: 18 for one that is neither 32 nor 128, before the checks.
-pub fn compare_bytes_bits(old: &[u8], new: &[u8], width: u32, first: &mut [u8]) -> Result<usize, Refusal>
+pub fn compare_bytes_bits(
+    old: &[u8],
+    new: &[u8],
+    width: u32,
+    first: &mut [u8],
+) -> Result<usize, Refusal>
     ensures finds { Finds (comparison_at old.now new.now width) first.old first.new result }
     ensures compares { Compares old.now new.now width }
 {

@@ -1,22 +1,23 @@
 -- At a width what the comparison needs over its bits; at any other number 18. The law of changes holds over every number of bits.
 use Rattle.std.proofs.Common.{◌∙◌, sym}
+use Rattle.refusals.specs.declared.Refusal.TheVariants as refusal
 use Rattle.asmap_program.proofs.Widths.{at_width_lem, no_width}
 use Rattle.asmap_compare.specs.Compare.{Refuses, comparison}
 use Rattle.asmap_compare.proofs.CallLaws.{finds_same, finds_refused, compared}
 use Rattle.asmap_compare.proofs.compare_bytes_bits.Goals as goal
 
-pub returns-then-is_width-clause-finds : goal.returns-then-is_width-clause-finds
-returns-then-is_width-clause-finds c =
-    let x = comparison c.args.old.now c.args.new.now c.args.width in
-    finds_same _ x c.args.first.now _ _ (at_width_lem c.args.width Refuses x (sym c.is_width.ensures ∙ c.if-is_width.true)) c.bytes_over.ensures
-
-pub returns-then-is_width-clause-compares : goal.returns-then-is_width-clause-compares
-returns-then-is_width-clause-compares c = compared c.args.old.now c.args.new.now c.args.width
-
 pub returns-clause-finds : goal.returns-clause-finds
 returns-clause-finds c =
     let x = comparison c.args.old.now c.args.new.now c.args.width in
-    finds_refused _ c.args.first.now 18 (no_width c.args.width Refuses x (sym c.is_width.ensures ∙ c.if-is_width.false))
+    finds_same _ x c.args.first.now _ _ (at_width_lem c.args.width Refuses x (sym c.is_width.ensures ∙ c.if-not-is_width.false)) c.bytes_over.ensures
 
 pub returns-clause-compares : goal.returns-clause-compares
 returns-clause-compares c = compared c.args.old.now c.args.new.now c.args.width
+
+pub returns-then-not-is_width-clause-finds : goal.returns-then-not-is_width-clause-finds
+returns-then-not-is_width-clause-finds c =
+    let x = comparison c.args.old.now c.args.new.now c.args.width in
+    finds_refused _ c.args.first.now refusal.Width (no_width c.args.width Refuses x (sym c.is_width.ensures ∙ c.if-not-is_width.true))
+
+pub returns-then-not-is_width-clause-compares : goal.returns-then-not-is_width-clause-compares
+returns-then-not-is_width-clause-compares c = compared c.args.old.now c.args.new.now c.args.width

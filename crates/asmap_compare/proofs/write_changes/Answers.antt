@@ -10,5 +10,5 @@ use Rattle.asmap_compare.proofs.write_changes.Goals as goal
 pub returns : goal.returns
 returns c =
     let cs = changes_of c.args.old.now c.args.new.now 128 in
-    let w = c.put_changes-found.ensures in
+    let w = c.put_changes.ensures in
     hands_made (Made (change_records_of cs)) c.args.out.now (change_records_of cs) _ _ refl (omega (arith, w.pieces, length-changes cs)) (omega (arith, c.requires.2, length-changes cs)) w.output
