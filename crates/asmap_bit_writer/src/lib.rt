@@ -77,7 +77,6 @@ impl BitWriter {
         requires { Ready self × (8 * self.place + self.held ≤ 8 * length out.old) }
         ensures { out.new ≡ stream out.old self [] }
     {
-        let bytes = (self.held + 7) / 8;
-        put_bytes(out, self.place, self.bits, bytes);
+        put_bytes(out, self.place, self.bits, self.held.div_ceil(8));
     }
 }
