@@ -77,8 +77,7 @@ pub fn hand_walk(
 {
     match got {
         Ok(ending) => {
-            let how = ending.kind;
-            *kind = kind_number(how);
+            *kind = kind_number(ending.kind);
             *number = ending.number;
             *count = ending.count;
             *bits = ending.bits;
