@@ -38,12 +38,17 @@ pub fn hand_group(got: Result<u64, Refusal>, group: &mut u64) -> u8
 
 // What the occupied scan came to. Where there is no hit, its place is 0 too.
 #[tactic(auto, unfolding(answer_outcome::specs::Outcome::handed, crate::specs::Groups::scan_made))]
-pub fn hand_scan(got: Result<Scan, Refusal>, found: &mut u8, place: &mut usize, groups_read: &mut usize) -> u8
+pub fn hand_scan(
+    got: Result<Scan, Refusal>,
+    found: &mut u8,
+    place: &mut usize,
+    groups_read: &mut usize,
+) -> u8
     ensures { result ∷ found.new ∷ place.new ∷ groups_read.new ∷ [] ≡ handed (scan_made got) (found.old ∷ place.old ∷ groups_read.old ∷ []) }
 {
     match got {
         Ok(scan) => {
-            *found = scan.hit.is_some() as u8;
+            *found = u8::from(scan.hit.is_some());
             *place = scan.hit.unwrap_or(0);
             *groups_read = scan.read;
             0
