@@ -8,23 +8,18 @@ use Rattle.answer_outcome.specs.Outcome.{Outcome, Done, No, Hands}
 use Rattle.refusals.specs.declared.Refusal.{Refusal}
 use Rattle.refusals.specs.Numbers.{refusal_number}
 
--- An output that was written: how many bytes.
-unfoldable pub bytes_written : Result ℕ Refusal → Outcome
-bytes_written (Ok n) = Done (n ∷ [])
-bytes_written (Err e) = No (refusal_number e)
-
--- A listing or a comparison whose length was asked for: how many bytes it needs.
-unfoldable pub bytes_needed : Result ℕ Refusal → Outcome
-bytes_needed (Ok n) = Done (n ∷ [])
-bytes_needed (Err e) = No (refusal_number e)
+-- How many bytes were written, or would be where their number alone was asked for.
+unfoldable pub byte_count : Result ℕ Refusal → Outcome
+byte_count (Ok n) = Done (n ∷ [])
+byte_count (Err e) = No (refusal_number e)
 
 -- A call that writes bytes to a lent output, which holds o at entry and o' at exit. made: what the call makes, before it is known
 -- whether the output has room for it.
 pub record Writes (made : Making) (o o' : List ℕ) (r : ℕ) (lent left : List ℕ) : Type 0 where
-  pub hands : Hands (bytes_written (answer_of (within (length o) made))) r lent left
+  pub hands : Hands (byte_count (answer_of (within (length o) made))) r lent left
   pub output : o' ≡ leaves (within (length o) made) o
 
 -- A call that asks what a comparison needs, with bytes lent for the first address that differs, which are o at entry and o' at exit.
 pub record Finds (c : Comparison) (o o' : List ℕ) (r : ℕ) (lent left : List ℕ) : Type 0 where
-  pub hands : Hands (bytes_needed (needed_with c (within (length o) (first_made c)))) r lent left
+  pub hands : Hands (byte_count (needed_with c (within (length o) (first_made c)))) r lent left
   pub output : o' ≡ leaves (within (length o) (first_made c)) o
