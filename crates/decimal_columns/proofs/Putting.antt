@@ -19,7 +19,7 @@ pub record Put (o : List ℕ) (n : ℕ) (out : List ℕ) (left byte rest : ℕ) 
   pub bytes : out ≡ sets o left (flush_right (length o - left) n)
 
 -- bytes for each place of a list
-sets_whole : (o bs : List ℕ) → length bs ≡ length o → sets o 0 bs ≡ bs
+pub sets_whole : (o bs : List ℕ) → length bs ≡ length o → sets o 0 bs ≡ bs
 sets_whole o bs e = sets-eq bs o 0 (omega arith) ∙ ap (λ (l : List ℕ). bs ++ l) (drop_of_length-le o (omega arith)) ∙ append-nil bs
 
 module _ (o : List ℕ) (n : ℕ) where

@@ -1,14 +1,15 @@
 -- Lines put into an output: the parts of a line one after the other, and the lines of runs.
 -- Assumes nothing.
 use mathlib.Core.Path.{◌≡◌, ◌∙◌, refl, sym, ap}
-use mathlib.Core.List.{List, [], ◌∷◌, ◌++◌}
+use mathlib.Core.List.{List, [], ◌∷◌, ◌++◌, append_assoc}
 use Prim.Native.Nat.{ℕ, suc, ◌+◌, ◌*◌, ◌/◌, ◌≤◌, ◌<◌}
 use native.Mathlib.Omega.{arith}
-use lib.ListN.{length, drop, get_or, set, length-append}
-use lib.Seq.{sets}
+use lib.ListN.{length, take, drop, get_or, set, length-append, length-drop}
+use lib.Seq.{sets, sets-eq, drop-drop, length-take-le}
 use Rattle.byte_numbers.proofs.Buffers.{sets-append_at}
 use Rattle.decimal_columns.specs.Columns.{digit_byte, flush_right}
 use Rattle.decimal_columns.proofs.ColumnLaws.{length_columns}
+use Rattle.decimal_columns.proofs.Putting.{sets_whole}
 use Rattle.group_shares.specs.Spread.{Share, share}
 use Rattle.group_shares.specs.models.Runs.{front, runs}
 use Rattle.group_shares.proofs.RunLaws.{runs_from, runs_done}
@@ -41,6 +42,18 @@ length-lines all (s ∷ ss) = omega (arith, length-append (line all s) (lines al
 
 -- ---- one part after the other
 
+-- what stands in an output once a part of it was lent to hold bytes
+pub part_put : (o xs bs : List ℕ) (at k : ℕ) → at + k ≤ length o → length bs ≡ k → xs ≡ bs → take at o ++ (xs ++ drop k (drop at o)) ≡ sets o at bs
+part_put o xs bs at k h n e =
+    ap (λ (l : List ℕ). take at o ++ (l ++ drop k (drop at o))) e
+    ∙ ap (λ (l : List ℕ). take at o ++ (bs ++ l)) (drop-drop k at o ∙ ap (λ (j : ℕ). drop (at + j) o) (sym n))
+    ∙ sym (sets-eq bs o at (omega arith) ∙ append_assoc (take at o) bs (drop (at + length bs) o))
+
+-- and such a part holds k columns of a number
+pub columns_put : (o xs : List ℕ) (at k n : ℕ) → at + k ≤ length o → xs ≡ flush_right (length (take k (drop at o))) n → take at o ++ (xs ++ drop k (drop at o)) ≡ sets o at (flush_right k n)
+columns_put o xs at k n h e =
+    part_put o xs (flush_right k n) at k h (length_columns k n) (e ∙ ap (λ (j : ℕ). flush_right j n) (length-take-le k (drop at o) (omega (arith, length-drop at o))))
+
 -- columns, and what stands behind them
 columns_then : (o : List ℕ) (at k j n : ℕ) (bs : List ℕ) → at + k ≡ j → sets o at (flush_right k n ++ bs) ≡ sets (sets o at (flush_right k n)) j bs
 columns_then o at k j n bs e = sets-append_at o at j (flush_right k n) bs (ap (λ (l : ℕ). at + l) (length_columns k n) ∙ e)
@@ -49,29 +62,32 @@ columns_then o at k j n bs e = sets-append_at o at j (flush_right k n) bs (ap (�
 byte_then : (o : List ℕ) (p q b : ℕ) (bs : List ℕ) → q ≡ suc p → sets o p (b ∷ bs) ≡ sets (set o p b) q bs
 byte_then o p q b bs e = ap (λ (i : ℕ). sets (set o p b) i bs) (sym e)
 
-pub per_cent-put : (o o₁ : List ℕ) (at t d : ℕ) → o₁ ≡ sets o at (flush_right 4 (t / 10)) → d ≡ digit_byte t 0 → set (set o₁ (at + 4) 46) (at + 5) d ≡ sets o at (per_cent t)
+-- the columns of a per cent, and those of a line, from the first to the last
+pub per_cent-put : (o o₁ : List ℕ) (t d : ℕ) → length o ≡ 6 → o₁ ≡ sets o 0 (flush_right 4 (t / 10)) → d ≡ digit_byte t 0 → set (set o₁ 4 46) 5 d ≡ per_cent t
 unfolding per_cent
-per_cent-put o o₁ at t d e f =
-    ap (λ (l : List ℕ). set (set l (at + 4) 46) (at + 5) d) e
-    ∙ ap (set (set (sets o at (flush_right 4 (t / 10))) (at + 4) 46) (at + 5)) f
-    ∙ sym (columns_then o at 4 (at + 4) (t / 10) (46 ∷ digit_byte t 0 ∷ []) refl ∙ byte_then (sets o at (flush_right 4 (t / 10))) (at + 4) (at + 5) 46 (digit_byte t 0 ∷ []) (omega arith))
+per_cent-put o o₁ t d n e f =
+    ap (λ (l : List ℕ). set (set l 4 46) 5 d) e
+    ∙ ap (set (set (sets o 0 (flush_right 4 (t / 10))) 4 46) 5) f
+    ∙ sym (columns_then o 0 4 4 (t / 10) (46 ∷ digit_byte t 0 ∷ []) refl ∙ byte_then (sets o 0 (flush_right 4 (t / 10))) 4 5 46 (digit_byte t 0 ∷ []) refl)
+    ∙ sets_whole o (per_cent t) (length_per_cent t ∙ sym n)
 
-module _ (o : List ℕ) (at g n all : ℕ) where
-  pub line-put : (o₁ o₂ o₃ : List ℕ) (t : ℕ) → t ≡ tenths n all → o₁ ≡ sets o at (flush_right 10 g) → o₂ ≡ sets (set o₁ (at + 10) 32) (at + 11) (flush_right 6 n) → o₃ ≡ sets (set o₂ (at + 17) 32) (at + 18) (per_cent t)
-      → set o₃ (at + 24) 10 ≡ sets o at (line all (share g n))
+module _ (o : List ℕ) (g n all : ℕ) where
+  pub line-put : (o₁ o₂ o₃ : List ℕ) (t : ℕ) → length o ≡ 25 → t ≡ tenths n all → o₁ ≡ sets o 0 (flush_right 10 g) → o₂ ≡ sets (set o₁ 10 32) 11 (flush_right 6 n) → o₃ ≡ sets (set o₂ 17 32) 18 (per_cent t)
+      → set o₃ 24 10 ≡ line all (share g n)
   unfolding line
-  line-put o₁ o₂ o₃ t z e f h =
+  line-put o₁ o₂ o₃ t long z e f h =
       let p = per_cent (tenths n all) in
-      let third : o₃ ≡ sets (set o₂ (at + 17) 32) (at + 18) p = h ∙ ap (λ (x : ℕ). sets (set o₂ (at + 17) 32) (at + 18) (per_cent x)) z in
-      ap (λ (l : List ℕ). set l (at + 24) 10) third
+      let third : o₃ ≡ sets (set o₂ 17 32) 18 p = h ∙ ap (λ (x : ℕ). sets (set o₂ 17 32) 18 (per_cent x)) z in
+      ap (λ (l : List ℕ). set l 24 10) third
       ∙ sym
-      (columns_then o at 10 (at + 10) g (32 ∷ flush_right 6 n ++ (32 ∷ p ++ (10 ∷ []))) refl
-      ∙ ap (λ (l : List ℕ). sets l (at + 10) (32 ∷ flush_right 6 n ++ (32 ∷ p ++ (10 ∷ [])))) (sym e)
-      ∙ byte_then o₁ (at + 10) (at + 11) 32 (flush_right 6 n ++ (32 ∷ p ++ (10 ∷ []))) (omega arith)
-      ∙ columns_then (set o₁ (at + 10) 32) (at + 11) 6 (at + 17) n (32 ∷ p ++ (10 ∷ [])) (omega arith)
-      ∙ ap (λ (l : List ℕ). sets l (at + 17) (32 ∷ p ++ (10 ∷ []))) (sym f)
-      ∙ byte_then o₂ (at + 17) (at + 18) 32 (p ++ (10 ∷ [])) (omega arith)
-      ∙ sets-append_at (set o₂ (at + 17) 32) (at + 18) (at + 24) p (10 ∷ []) (omega (arith, length_per_cent (tenths n all))))
+      (columns_then o 0 10 10 g (32 ∷ flush_right 6 n ++ (32 ∷ p ++ (10 ∷ []))) refl
+      ∙ ap (λ (l : List ℕ). sets l 10 (32 ∷ flush_right 6 n ++ (32 ∷ p ++ (10 ∷ [])))) (sym e)
+      ∙ byte_then o₁ 10 11 32 (flush_right 6 n ++ (32 ∷ p ++ (10 ∷ []))) refl
+      ∙ columns_then (set o₁ 10 32) 11 6 17 n (32 ∷ p ++ (10 ∷ [])) refl
+      ∙ ap (λ (l : List ℕ). sets l 17 (32 ∷ p ++ (10 ∷ []))) (sym f)
+      ∙ byte_then o₂ 17 18 32 (p ++ (10 ∷ [])) refl
+      ∙ sets-append_at (set o₂ 17 32) 18 24 p (10 ∷ []) (omega (arith, length_per_cent (tenths n all))))
+      ∙ sets_whole o (line all (share g n)) (length-line all (share g n) ∙ sym long)
 
 -- ---- the lines of runs
 

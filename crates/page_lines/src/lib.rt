@@ -26,28 +26,27 @@ fn tenths(part: u64, all: u64) -> u64
     quotient + 1
 }
 
-// A per cent that is given in tenths, in 6 columns at a place of an output.
-fn put_per_cent(out: &mut [u8], at: usize, n: u64)
-    requires { at + 6 ≤ length out.old }
-    ensures { out.new ≡ sets out.old at (per_cent n) }
+// A per cent that is given in tenths, in 6 columns.
+fn put_per_cent(columns: &mut [u8], n: u64)
+    requires { length columns.old ≡ 6 }
+    ensures { columns.new ≡ per_cent n }
 {
-    put_columns(out, at, 4, n / 10);
-    out[at + 4] = b'.';
-    out[at + 5] = last_digit(n);
+    put_columns(&mut columns[..4], n / 10);
+    columns[4] = b'.';
+    columns[5] = last_digit(n);
 }
 
-// A line at a place of an output: a group with so many of all candidates.
-fn put_line(out: &mut [u8], at: usize, group: u64, count: usize, all: usize)
-    requires { (at + 25 ≤ length out.old) × (count ≤ all) × (0 < all) × (all ≤ 4096) }
-    ensures { out.new ≡ sets out.old at (line all (share group count)) }
+// A line, in 25 columns: a group with so many of all candidates.
+fn put_line(columns: &mut [u8], group: u64, count: usize, all: usize)
+    requires { (length columns.old ≡ 25) × (count ≤ all) × (0 < all) × (all ≤ 4096) }
+    ensures { columns.new ≡ line all (share group count) }
 {
-    let part = tenths(count as u64, all as u64);
-    put_columns(out, at, 10, group);
-    out[at + 10] = b' ';
-    put_columns(out, at + 11, 6, count as u64);
-    out[at + 17] = b' ';
-    put_per_cent(out, at + 18, part);
-    out[at + 24] = b'\n';
+    put_columns(&mut columns[..10], group);
+    columns[10] = b' ';
+    put_columns(&mut columns[11..17], count as u64);
+    columns[17] = b' ';
+    put_per_cent(&mut columns[18..24], tenths(count as u64, all as u64));
+    columns[24] = b'\n';
 }
 
 // The lines of groups that are sorted, at an output's front: equal groups stand side by side, and each run of them has a line.
@@ -59,7 +58,12 @@ pub fn put_lines(groups: &[u64], out: &mut [u8])
     let mut at: usize = 0;
     while i < groups.len() {
         let end = group_shares::run_end(groups, i);
-        put_line(out, at, groups[i], end - i, groups.len());
+        put_line(
+            &mut out[at..at + LINE_BYTES],
+            groups[i],
+            end - i,
+            groups.len(),
+        );
         i = end;
         at += LINE_BYTES;
     }
