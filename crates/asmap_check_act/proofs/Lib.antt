@@ -1,1 +1,2 @@
 pub mod PaddingLaws
+pub mod PreviousLaws

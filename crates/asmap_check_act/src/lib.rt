@@ -1,5 +1,5 @@
 // What the check does at one instruction (document 01, Check), on numbers: it reads the instruction and says what the loop of
-// `asmap_check` is to carry out, or why the map is refused.
+// `asmap_check_run` is to carry out, or why the map is refused.
 #![tactic(auto)]
 
 ghost use Rattle.std.specs.Prelude.{◌≡◌, ◌&&◌, ltb, ◌*◌, ◌^◌, ◌≤◌, ◌<◌, length};
@@ -27,23 +27,11 @@ pub enum Act {
 
 // ---- the tests, each as a function on numbers
 
-fn is_default(previous: Previous) -> bool
-    ensures { result ≡ is_default previous }
-{
-    previous == Previous::Default
-}
-
-fn is_short(previous: Previous) -> bool
-    ensures { result ≡ is_short previous }
-{
-    previous == Previous::Short
-}
-
 // A MATCH shorter than 8 straight after a MATCH shorter than 8.
 fn short_again(length: u8, previous: Previous) -> bool
     ensures { result ≡ (ltb length 8 && is_short previous) }
 {
-    length < 8 && is_short(previous)
+    length < 8 && previous == Previous::Short
 }
 
 // A place at or past the innermost open target.
@@ -63,12 +51,10 @@ fn padded(map: &[u8], at: usize) -> bool
     if 7 < end - at {
         return false;
     }
-    let mut pos = at;
-    while pos < end {
+    for pos in at..end {
         if asmap_window::bit_at(map, pos) == 1 {
             return false;
         }
-        pos += 1;
     }
     true
 }
@@ -87,11 +73,10 @@ fn sanity_return(
     requires { (length map.now ≤ limit) × (at < 2 ^ 34) × Holds asn_row map.now at w }
     ensures { result ≡ on_return map.now previous depth top (code_at map.now at asn_row) }
 {
-    if is_default(previous) {
+    if previous == Previous::Default {
         return Err(Fault::AfterDefault);
     }
-    let got = asmap_row_decoder::asn_in(w, at, 8 * map.len());
-    let Some((_, next)) = got else {
+    let Some((_, next)) = asmap_row_decoder::asn_in(w, at, 8 * map.len()) else {
         return Err(Fault::CutOperand);
     };
     if depth == 0 {
@@ -118,8 +103,7 @@ fn sanity_jump(
     requires { (length map.now ≤ limit) × (at < 2 ^ 34) × Holds jump_row map.now at w }
     ensures { result ≡ on_jump bits depth top (code_at map.now at jump_row) }
 {
-    let got = asmap_row_decoder::jump_in(w, at, 8 * map.len());
-    let Some((offset, next)) = got else {
+    let Some((offset, next)) = asmap_row_decoder::jump_in(w, at, 8 * map.len()) else {
         return Err(Fault::CutOperand);
     };
     if bits == 0 {
@@ -137,8 +121,7 @@ fn sanity_match(map: &[u8], w: u64, at: usize, previous: Previous, bits: u8) -> 
     requires { (length map.now ≤ limit) × (at < 2 ^ 34) × Holds match_row map.now at w }
     ensures { result ≡ on_match previous bits (code_at map.now at match_row) }
 {
-    let got = asmap_row_decoder::match_in(w, at, 8 * map.len());
-    let Some((operand, next)) = got else {
+    let Some((operand, next)) = asmap_row_decoder::match_in(w, at, 8 * map.len()) else {
         return Err(Fault::CutOperand);
     };
     let length = asmap_program::match_length(operand);
@@ -156,11 +139,10 @@ fn sanity_default(map: &[u8], w: u64, at: usize, previous: Previous) -> Result<A
     requires { (length map.now ≤ limit) × (at < 2 ^ 34) × Holds asn_row map.now at w }
     ensures { result ≡ on_default previous (code_at map.now at asn_row) }
 {
-    if is_default(previous) {
+    if previous == Previous::Default {
         return Err(Fault::AfterDefault);
     }
-    let got = asmap_row_decoder::asn_in(w, at, 8 * map.len());
-    let Some((_, next)) = got else {
+    let Some((_, next)) = asmap_row_decoder::asn_in(w, at, 8 * map.len()) else {
         return Err(Fault::CutOperand);
     };
     Ok(Act::Keeps(next))
@@ -182,19 +164,14 @@ pub fn sanity_act(
         return Err(Fault::PastTarget);
     }
     let w = asmap_window::window(map, pos);
-    let got = asmap_row_decoder::type_in(w, pos, 8 * map.len());
-    let Some((opcode, at)) = got else {
+    let Some((opcode, at)) = asmap_row_decoder::type_in(w, pos, 8 * map.len()) else {
         return Err(Fault::CutOpcode);
     };
     let rest = asmap_row_decoder::operand_window(map, w, pos, opcode, at);
-    if opcode == asmap_program::RETURN {
-        return sanity_return(map, rest, at, previous, depth, top);
+    match opcode {
+        asmap_program::RETURN => sanity_return(map, rest, at, previous, depth, top),
+        asmap_program::JUMP => sanity_jump(map, rest, at, bits, depth, top),
+        asmap_program::MATCH => sanity_match(map, rest, at, previous, bits),
+        _ => sanity_default(map, rest, at, previous),
     }
-    if opcode == asmap_program::JUMP {
-        return sanity_jump(map, rest, at, bits, depth, top);
-    }
-    if opcode == asmap_program::MATCH {
-        return sanity_match(map, rest, at, previous, bits);
-    }
-    sanity_default(map, rest, at, previous)
 }

@@ -1,5 +1,5 @@
 -- Each opcode has its arm.
-use Rattle.std.proofs.Common.{◌≡◌, ◌∙◌, ◌≢◌, ℕ, ◌*◌, ◌≤◌, ◌<◌, ◌^◌, Bool, false, List, length, drop, sym, lit<, arith, Option}
+use Rattle.std.proofs.Common.{◌≡◌, ◌∙◌, ℕ, ◌*◌, ◌≤◌, ◌<◌, ◌^◌, Bool, false, List, length, drop, sym, lit<, arith, Option}
 use mathlib.Core.Path.{subst}
 use lib.Dec.{lit≤}
 use Rattle.asmap_program.specs.Map.{limit}
@@ -30,9 +30,9 @@ arm : (m : List ℕ) (p : Previous) (bits d t pos op at o : ℕ) (b : Bool) → 
 unfolding refusing
 arm m p bits d t pos op at o b h f k e = rw (sym h ∙ f, k, e)
 
--- an opcode that is none of the first three
-last : (m : List ℕ) (pos op at : ℕ) → code_at m pos type_row ≡ Value op at → op ≢ 0 → op ≢ 1 → op ≢ 2 → op ≡ 3
-last m pos op at t h i j = omega (arith, (value_at m pos type_row _ _ (lit< tt) t).below, h, i, j)
+-- an opcode is below 4
+small : (m : List ℕ) (pos op at : ℕ) → code_at m pos type_row ≡ Value op at → op < 4
+small m pos op at t = (value_at m pos type_row _ _ (lit< tt) t).below
 
 pub returns-then-past : goal.returns-then-past
 unfolding refusing
@@ -41,54 +41,56 @@ returns-then-past c = rw (sym c.past.ensures ∙ c.if-past.true)
 pub returns-in_default : goal.returns-in_default
 unfolding refusing
 returns-in_default c =
-    let read = typed c.args.map.now c.args.pos _ _ _ c.window-w.ensures c.type_in-got.ensures c.in_default.is in
+    let read = typed c.args.map.now c.args.pos _ _ _ c.window-w.ensures c.type_in.ensures c.in_default.is in
     rw (sym c.past.ensures ∙ c.if-past.false, read)
 
 pub operand_window-rest-requires : goal.operand_window-rest-requires
-operand_window-rest-requires c = (c.window-w.ensures, typed c.args.map.now c.args.pos _ _ _ c.window-w.ensures c.type_in-got.ensures c.in-Some.is)
+operand_window-rest-requires c = (c.window-w.ensures, typed c.args.map.now c.args.pos _ _ _ c.window-w.ensures c.type_in.ensures c.in-Some.is)
 
 pub sanity_return-requires : goal.sanity_return-requires
 sanity_return-requires c =
-    let read = typed c.args.map.now c.args.pos _ _ _ c.window-w.ensures c.type_in-got.ensures c.in-Some.is in
-    near c.args.map.now c.args.pos _ _ _ 0 c.requires.0 read c.operand_window-rest.ensures c.if-opcode-eq-RETURN.true
+    let read = typed c.args.map.now c.args.pos _ _ _ c.window-w.ensures c.type_in.ensures c.in-Some.is in
+    near c.args.map.now c.args.pos _ _ _ 0 c.requires.0 read c.operand_window-rest.ensures c.in-0.is
 
-pub returns-then-opcode-eq-RETURN : goal.returns-then-opcode-eq-RETURN
-returns-then-opcode-eq-RETURN c =
+pub returns-in-0 : goal.returns-in-0
+returns-in-0 c =
     let a = c.args in
-    let read = typed a.map.now a.pos _ _ _ c.window-w.ensures c.type_in-got.ensures c.in-Some.is in
-    c.sanity_return.ensures ∙ arm a.map.now a.previous a.bits a.depth a.top a.pos _ _ 0 _ c.past.ensures c.if-past.false read c.if-opcode-eq-RETURN.true
+    let read = typed a.map.now a.pos _ _ _ c.window-w.ensures c.type_in.ensures c.in-Some.is in
+    c.sanity_return.ensures ∙ arm a.map.now a.previous a.bits a.depth a.top a.pos _ _ 0 _ c.past.ensures c.if-past.false read c.in-0.is
 
 pub sanity_jump-requires : goal.sanity_jump-requires
 sanity_jump-requires c =
-    let read = typed c.args.map.now c.args.pos _ _ _ c.window-w.ensures c.type_in-got.ensures c.in-Some.is in
-    near c.args.map.now c.args.pos _ _ _ 1 c.requires.0 read c.operand_window-rest.ensures c.if-opcode-eq-JUMP.true
+    let read = typed c.args.map.now c.args.pos _ _ _ c.window-w.ensures c.type_in.ensures c.in-Some.is in
+    near c.args.map.now c.args.pos _ _ _ 1 c.requires.0 read c.operand_window-rest.ensures c.in-1.is
 
-pub returns-then-opcode-eq-JUMP : goal.returns-then-opcode-eq-JUMP
-returns-then-opcode-eq-JUMP c =
+pub returns-in-1 : goal.returns-in-1
+returns-in-1 c =
     let a = c.args in
-    let read = typed a.map.now a.pos _ _ _ c.window-w.ensures c.type_in-got.ensures c.in-Some.is in
-    c.sanity_jump.ensures ∙ arm a.map.now a.previous a.bits a.depth a.top a.pos _ _ 1 _ c.past.ensures c.if-past.false read c.if-opcode-eq-JUMP.true
+    let read = typed a.map.now a.pos _ _ _ c.window-w.ensures c.type_in.ensures c.in-Some.is in
+    c.sanity_jump.ensures ∙ arm a.map.now a.previous a.bits a.depth a.top a.pos _ _ 1 _ c.past.ensures c.if-past.false read c.in-1.is
 
 pub sanity_match-requires : goal.sanity_match-requires
 sanity_match-requires c =
-    let read = typed c.args.map.now c.args.pos _ _ _ c.window-w.ensures c.type_in-got.ensures c.in-Some.is in
-    near c.args.map.now c.args.pos _ _ _ 2 c.requires.0 read c.operand_window-rest.ensures c.if-opcode-eq-MATCH.true
+    let read = typed c.args.map.now c.args.pos _ _ _ c.window-w.ensures c.type_in.ensures c.in-Some.is in
+    near c.args.map.now c.args.pos _ _ _ 2 c.requires.0 read c.operand_window-rest.ensures c.in-2.is
 
-pub returns-then-opcode-eq-MATCH : goal.returns-then-opcode-eq-MATCH
-returns-then-opcode-eq-MATCH c =
+pub returns-in-2 : goal.returns-in-2
+returns-in-2 c =
     let a = c.args in
-    let read = typed a.map.now a.pos _ _ _ c.window-w.ensures c.type_in-got.ensures c.in-Some.is in
-    c.sanity_match.ensures ∙ arm a.map.now a.previous a.bits a.depth a.top a.pos _ _ 2 _ c.past.ensures c.if-past.false read c.if-opcode-eq-MATCH.true
+    let read = typed a.map.now a.pos _ _ _ c.window-w.ensures c.type_in.ensures c.in-Some.is in
+    c.sanity_match.ensures ∙ arm a.map.now a.previous a.bits a.depth a.top a.pos _ _ 2 _ c.past.ensures c.if-past.false read c.in-2.is
 
 pub sanity_default-requires : goal.sanity_default-requires
 sanity_default-requires c =
-    let read = typed c.args.map.now c.args.pos _ _ _ c.window-w.ensures c.type_in-got.ensures c.in-Some.is in
-    let e = last c.args.map.now c.args.pos _ _ read c.if-opcode-eq-RETURN.false c.if-opcode-eq-JUMP.false c.if-opcode-eq-MATCH.false in
+    let read = typed c.args.map.now c.args.pos _ _ _ c.window-w.ensures c.type_in.ensures c.in-Some.is in
+    let b = small c.args.map.now c.args.pos _ _ read in
+    let e : c.in-Some.opcode ≡ 3 = omega (arith, b) in
     near c.args.map.now c.args.pos _ _ _ 3 c.requires.0 read c.operand_window-rest.ensures e
 
-pub returns : goal.returns
-returns c =
+pub returns-in_default-opcode : goal.returns-in_default-opcode
+returns-in_default-opcode c =
     let a = c.args in
-    let read = typed a.map.now a.pos _ _ _ c.window-w.ensures c.type_in-got.ensures c.in-Some.is in
-    let e = last a.map.now a.pos _ _ read c.if-opcode-eq-RETURN.false c.if-opcode-eq-JUMP.false c.if-opcode-eq-MATCH.false in
+    let read = typed a.map.now a.pos _ _ _ c.window-w.ensures c.type_in.ensures c.in-Some.is in
+    let b = small a.map.now a.pos _ _ read in
+    let e : c.in-Some.opcode ≡ 3 = omega (arith, b) in
     c.sanity_default.ensures ∙ arm a.map.now a.previous a.bits a.depth a.top a.pos _ _ 3 _ c.past.ensures c.if-past.false read e

@@ -1,5 +1,5 @@
 -- What the check does at an instruction, on numbers: the model that the arms of the code equal. Nothing of it has to be believed:
--- `asmap_check/proofs/ActLaws.antt` shows that it is the step of asmap_program's check.
+-- `asmap_check_run/proofs/ActLaws.antt` shows that it is the step of asmap_program's check.
 -- Assumes nothing.
 use Rattle.std.specs.Prelude.{ℕ, zero, suc, ◌+◌, Bool, true, false, not, cond, ◌&&◌, List, leb, ltb, eqb, Option, Result}
 use Rattle.asmap_program.specs.declared.Previous.{Previous}
