@@ -46,7 +46,7 @@ impl CheckState {
         CheckState {
             targets: [0; 128],
             saved: [0; 128],
-            bits: bits,
+            bits,
             depth: 0,
         }
     }
@@ -56,7 +56,7 @@ impl CheckState {
         requires { self.depth < 128 }
         ensures { result ≡ record { targets = self.targets; saved = self.saved; depth = self.depth + 1; bits = self.bits } }
     {
-        self.depth = self.depth + 1;
+        self.depth += 1;
         self
     }
 
@@ -65,7 +65,7 @@ impl CheckState {
         requires { 1 ≤ self.depth }
         ensures { result ≡ record { targets = self.targets; saved = self.saved; depth = self.depth - 1; bits = bits } }
     {
-        self.depth = self.depth - 1;
+        self.depth -= 1;
         self.bits = bits;
         self
     }
@@ -75,7 +75,7 @@ impl CheckState {
         requires { n ≤ self.bits }
         ensures { (result ≡ record { targets = self.targets; saved = self.saved; depth = self.depth; bits = self.bits - n }) × Arrays self }
     {
-        self.bits = self.bits - n;
+        self.bits -= n;
         self
     }
 }
@@ -90,15 +90,6 @@ fn after_match(n: u8) -> Previous
     Previous::Other
 }
 
-fn larger(a: usize, b: usize) -> usize
-    ensures { result ≡ max a b }
-{
-    if a < b {
-        return b;
-    }
-    a
-}
-
 // The innermost target. With no open jump there is none, and `past` does not look at the number.
 fn innermost(targets: &[u32; 128], depth: usize) -> u32
     requires { depth ≤ 128 }
@@ -108,16 +99,6 @@ fn innermost(targets: &[u32; 128], depth: usize) -> u32
         return targets[0];
     }
     targets[depth - 1]
-}
-
-fn judge(verdict: Verdict, place: usize, pieces: usize) -> Judged
-    ensures { result ≡ record { verdict = verdict; place = place; pieces = pieces } }
-{
-    Judged {
-        verdict: verdict,
-        place: place,
-        pieces: pieces,
-    }
 }
 
 // The check of a map within the limit over a number of address bits, which the public calls fix: the arrays hold as many jumps as there
@@ -142,12 +123,10 @@ pub fn run_check(map: &[u8], bits: u8) -> Judged
         match asked {
             Ok(Act::Opens(next, target)) => {
                 state = state.use_bits(1);
-                let left = state.bits;
                 state.targets[depth] = target;
-                state.saved[depth] = left;
+                state.saved[depth] = state.bits;
                 state = state.open_jump();
-                let opened = state.depth;
-                deepest = larger(deepest, opened);
+                deepest = deepest.max(state.depth);
                 previous = Previous::Other;
                 pos = next;
             }
@@ -169,20 +148,27 @@ pub fn run_check(map: &[u8], bits: u8) -> Judged
                 pos = next;
             }
             Ok(Act::Accepts) => {
-                let greatest = deepest as u8;
-                return judge(
-                    Ok(Accepted {
+                return Judged {
+                    verdict: Ok(Accepted {
                         count,
-                        depth: greatest,
+                        depth: deepest as u8,
                     }),
-                    pos,
-                    pieces + 1,
-                );
+                    place: pos,
+                    pieces: pieces + 1,
+                };
             }
             Err(fault) => {
-                return judge(Err(fault), pos, pieces);
+                return Judged {
+                    verdict: Err(fault),
+                    place: pos,
+                    pieces,
+                };
             }
         }
     }
-    judge(Err(Fault::MapEnds), pos, pieces)
+    Judged {
+        verdict: Err(Fault::MapEnds),
+        place: pos,
+        pieces,
+    }
 }

@@ -5,7 +5,6 @@ use mathlib.Core.Path.{subst}
 use Rattle.asmap_program.specs.declared.Previous.{Previous}
 use Rattle.asmap_program.specs.declared.Previous.TheVariants.{Other}
 use Rattle.asmap_check_run.specs.declared.CheckState.{CheckState}
-use Rattle.asmap_check_run.specs.declared.Judged.{Judged}
 use Rattle.asmap_check_act.specs.declared.Act.{Act}
 use Rattle.asmap_check_act.specs.declared.Act.TheVariants as act
 use Rattle.asmap_check_act.specs.models.Acts.{Opens, Closes, Uses}
@@ -33,7 +32,7 @@ module _ (m : List ℕ) (w : ℕ) (st : CheckState) (pos : ℕ) (prev : Previous
         asked = ap (λ (x : ℕ). acts m prev st.bits st.depth x pos) (sym e) ∙ sym q;
       }
 
-  -- a jump opens: `use_bits`, the stores, `open_jump`, `larger`
+  -- a jump opens: `use_bits`, the stores, `open_jump`, `max`
   opened : (a : Result Act Fault) → Turn m w st pos prev count deepest pieces a → (n target deep : ℕ) → a ≡ Opens n target → st.depth < length st.targets → st.depth < length st.saved
       → (used made : CheckState) → used ≡ record { targets = st.targets; saved = st.saved; depth = st.depth; bits = st.bits - 1 }
       → made ≡ record { targets = set used.targets st.depth target; saved = set used.saved st.depth used.bits; depth = used.depth + 1; bits = used.bits }
@@ -99,7 +98,7 @@ loop-pos-smaller-in-Ok-Opens c =
     let l = c.loop-pos in
     let t = turn c.args.map.now c.args.bits l.state l.pos l.previous l.count l.deepest l.pieces _ _ l.invariant c.loop-pos-test.true c.innermost-top.ensures c.sanity_act-asked.ensures in
     let d = room_opens t _ _ (acted (act.Opens c.in-Ok-Opens.next c.in-Ok-Opens.target) c.in-Ok-Opens.is (rw c.in-Ok-Opens.is at c.in-Ok-Opens.field-0-is)) in
-    let o = opened c.args.map.now c.args.bits l.state l.pos l.previous l.count l.deepest l.pieces _ t _ _ _ (acted (act.Opens c.in-Ok-Opens.next c.in-Ok-Opens.target) c.in-Ok-Opens.is (rw c.in-Ok-Opens.is at c.in-Ok-Opens.field-0-is)) (omega (arith, d, c.requires.1, c.use_bits-state.ensures.1.0)) (omega (arith, d, c.requires.1, c.use_bits-state.ensures.1.1)) _ _ c.use_bits-state.ensures.0 c.open_jump-state.ensures c.larger-deepest.ensures in
+    let o = opened c.args.map.now c.args.bits l.state l.pos l.previous l.count l.deepest l.pieces _ t _ _ _ (acted (act.Opens c.in-Ok-Opens.next c.in-Ok-Opens.target) c.in-Ok-Opens.is (rw c.in-Ok-Opens.is at c.in-Ok-Opens.field-0-is)) (omega (arith, d, c.requires.1, c.use_bits-state.ensures.1.0)) (omega (arith, d, c.requires.1, c.use_bits-state.ensures.1.1)) _ _ c.use_bits-state.ensures.0 c.open_jump-state.ensures c.max-deepest.ensures in
     less t o
 
 pub loop-pos-preserved-in-Ok-Opens : goal.loop-pos-preserved-in-Ok-Opens
@@ -107,7 +106,7 @@ loop-pos-preserved-in-Ok-Opens c =
     let l = c.loop-pos in
     let t = turn c.args.map.now c.args.bits l.state l.pos l.previous l.count l.deepest l.pieces _ _ l.invariant c.loop-pos-test.true c.innermost-top.ensures c.sanity_act-asked.ensures in
     let d = room_opens t _ _ (acted (act.Opens c.in-Ok-Opens.next c.in-Ok-Opens.target) c.in-Ok-Opens.is (rw c.in-Ok-Opens.is at c.in-Ok-Opens.field-0-is)) in
-    let o = opened c.args.map.now c.args.bits l.state l.pos l.previous l.count l.deepest l.pieces _ t _ _ _ (acted (act.Opens c.in-Ok-Opens.next c.in-Ok-Opens.target) c.in-Ok-Opens.is (rw c.in-Ok-Opens.is at c.in-Ok-Opens.field-0-is)) (omega (arith, d, c.requires.1, c.use_bits-state.ensures.1.0)) (omega (arith, d, c.requires.1, c.use_bits-state.ensures.1.1)) _ _ c.use_bits-state.ensures.0 c.open_jump-state.ensures c.larger-deepest.ensures in
+    let o = opened c.args.map.now c.args.bits l.state l.pos l.previous l.count l.deepest l.pieces _ t _ _ _ (acted (act.Opens c.in-Ok-Opens.next c.in-Ok-Opens.target) c.in-Ok-Opens.is (rw c.in-Ok-Opens.is at c.in-Ok-Opens.field-0-is)) (omega (arith, d, c.requires.1, c.use_bits-state.ensures.1.0)) (omega (arith, d, c.requires.1, c.use_bits-state.ensures.1.1)) _ _ c.use_bits-state.ensures.0 c.open_jump-state.ensures c.max-deepest.ensures in
     (o.standing, o.counting)
 
 -- ---- RETURN
@@ -186,25 +185,25 @@ loop-pos-preserved c =
 
 -- ---- the answers
 
-pub overflow_cast-greatest : goal.overflow_cast-greatest
-overflow_cast-greatest c = omega (arith, (standing_room _ _ _ c.loop-pos.invariant.0).deep, c.requires.1)
+pub overflow_cast-result : goal.overflow_cast-result
+overflow_cast-result c = omega (arith, (standing_room _ _ _ c.loop-pos.invariant.0).deep, c.requires.1)
 
 pub returns-in-Ok-Accepts : goal.returns-in-Ok-Accepts
 returns-in-Ok-Accepts c =
     let l = c.loop-pos in
     let t = turn c.args.map.now c.args.bits l.state l.pos l.previous l.count l.deepest l.pieces _ _ l.invariant c.loop-pos-test.true c.innermost-top.ensures c.sanity_act-asked.ensures in
     let n = pieces-few _ _ _ _ l.invariant.0 l.invariant.1 c.requires.0 in
-    (c.judge.ensures ∙ turn_accepts t (acted act.Accepts c.in-Ok-Accepts.is (rw c.in-Ok-Accepts.is at c.in-Ok-Accepts.field-0-is)), omega (arith, ap (λ (j : Judged). j.pieces) c.judge.ensures, n))
+    (turn_accepts t (acted act.Accepts c.in-Ok-Accepts.is (rw c.in-Ok-Accepts.is at c.in-Ok-Accepts.field-0-is)), omega (arith, n))
 
 pub returns-in-Err : goal.returns-in-Err
 returns-in-Err c =
     let l = c.loop-pos in
     let t = turn c.args.map.now c.args.bits l.state l.pos l.previous l.count l.deepest l.pieces _ _ l.invariant c.loop-pos-test.true c.innermost-top.ensures c.sanity_act-asked.ensures in
     let n = pieces-few _ _ _ _ l.invariant.0 l.invariant.1 c.requires.0 in
-    (c.judge-in-Err.ensures ∙ turn_refuses t _ c.in-Err.is, omega (arith, ap (λ (j : Judged). j.pieces) c.judge-in-Err.ensures, n))
+    (turn_refuses t _ c.in-Err.is, omega (arith, n))
 
 pub returns : goal.returns
 returns c =
     let l = c.loop-pos in
     let n = pieces-few _ _ _ _ l.invariant.0 l.invariant.1 c.requires.0 in
-    (c.judge-2.ensures ∙ turn_end _ _ l.state _ _ _ _ _ l.invariant.0 l.invariant.1 c.loop-pos-test.false, omega (arith, ap (λ (j : Judged). j.pieces) c.judge-2.ensures, n))
+    (turn_end _ _ l.state _ _ _ _ _ l.invariant.0 l.invariant.1 c.loop-pos-test.false, omega (arith, n))
