@@ -7,6 +7,14 @@ ghost use Rattle.std.proofs.lemmas.List.Edits.{sets};
 ghost use Rattle.byte_numbers.specs.Numbers.{big8, bytes4, number4};
 ghost use Rattle.byte_numbers.specs.models.Word.{Word};
 
+// So many bytes from a place on. Read as a number they compile to one load.
+pub fn bytes_at<const N: usize>(bytes: &[u8], at: usize) -> [u8; N]
+    requires { at + N ≤ length bytes.now }
+    ensures { result ≡ take N (drop at bytes.now) }
+{
+    *bytes[at..at + N].as_array().unwrap()
+}
+
 // ---- numbers of four bytes
 
 // The number in the four bytes from a place on.
@@ -14,7 +22,7 @@ pub fn number_at(bytes: &[u8], at: usize) -> u32
     requires { at + 4 ≤ length bytes.now }
     ensures { result ≡ number4 bytes.now at }
 {
-    u32::from_le_bytes([bytes[at], bytes[at + 1], bytes[at + 2], bytes[at + 3]])
+    u32::from_le_bytes(bytes_at(bytes, at))
 }
 
 // A number put into the four bytes from a place on.
@@ -32,16 +40,7 @@ pub fn word_at(bytes: &[u8], at: usize) -> u64
     requires { at + 8 ≤ length bytes.now }
     ensures { Word result (take 8 (drop at bytes.now)) }
 {
-    u64::from_le_bytes([
-        bytes[at],
-        bytes[at + 1],
-        bytes[at + 2],
-        bytes[at + 3],
-        bytes[at + 4],
-        bytes[at + 5],
-        bytes[at + 6],
-        bytes[at + 7],
-    ])
+    u64::from_le_bytes(bytes_at(bytes, at))
 }
 
 // The four bytes from a place on.

@@ -14,16 +14,7 @@ fn big_at(bytes: &[u8], at: usize) -> u64
     requires { at + 8 ≤ length bytes.now }
     ensures { result ≡ big 8 bytes.now at }
 {
-    u64::from_be_bytes([
-        bytes[at],
-        bytes[at + 1],
-        bytes[at + 2],
-        bytes[at + 3],
-        bytes[at + 4],
-        bytes[at + 5],
-        bytes[at + 6],
-        bytes[at + 7],
-    ])
+    u64::from_be_bytes(byte_numbers::bytes_at(bytes, at))
 }
 
 // The address in the sixteen bytes from a place on.
