@@ -6,7 +6,7 @@
 // where its target is, and so the second half begins where the first one ended.
 //
 // What is still to come (a JUMP's second half with its default, or a side that differs with its number) is a stack. Each entry has used an address
-// bit of its own, so that 128 places suffice. It lies in two lent arrays and not in the state: a state by value that holds them would be copied.
+// bit of its own, so that 128 places suffice. It is lent and no part of the state: a state by value that holds its arrays would be copied.
 #![tactic(auto)]
 
 ghost use Rattle.std.specs.Prelude.{◌≡◌, true, false, List, ℕ, ◌≤◌, ◌<◌, length};
@@ -38,17 +38,23 @@ pub enum Turn {
     Ends,
 }
 
-// The stack's arrays, as functions with a contract: a loop that starts from a long array written out carries it through every goal.
-pub fn stack_bits() -> [u8; 128]
-    ensures { 128 ≡ length result }
-{
-    [0; 128]
+// What is still to come, entry by entry: the bit of each, and the default or the number that it has.
+#[derive(Drop)]
+pub struct Stack {
+    pub bits: [u8; 128],
+    pub numbers: [u32; 128],
 }
 
-pub fn stack_numbers() -> [u32; 128]
-    ensures { 128 ≡ length result }
-{
-    [0; 128]
+impl Stack {
+    // A function with a contract: a loop that starts from long arrays written out carries them through every goal.
+    pub fn new() -> Stack
+        ensures { (128 ≡ length result.bits) × (128 ≡ length result.numbers) }
+    {
+        Stack {
+            bits: [0; 128],
+            numbers: [0; 128],
+        }
+    }
 }
 
 // At map bit 0, no address bit used, default 0.
@@ -67,26 +73,26 @@ pub fn start() -> Spot
 }
 
 // The stack's turn. A JUMP's second half is kept as its bit, a side that differs as its bit and 128 more.
-fn step_up(map: &[u8], s: Spot, bits: &[u8], numbers: &[u32]) -> Turn
-    requires { Sane map.now s bits.now numbers.now × (s.up ≡ true) }
-    ensures { Stepped map.now s bits.now numbers.now bits.now numbers.now result }
+fn step_up(map: &[u8], s: Spot, stack: &Stack) -> Turn
+    requires { Sane map.now s stack.now.bits stack.now.numbers × (s.up ≡ true) }
+    ensures { Stepped map.now s stack.now.bits stack.now.numbers stack.now.bits stack.now.numbers result }
 {
     let depth = s.depth;
     if depth == 0 {
         return Turn::Ends;
     }
     let top = depth - 1;
-    let bit = bits[top];
-    let number = numbers[top];
+    let bit = stack.bits[top];
+    let number = stack.numbers[top];
     if bit < 128 {
         return Turn::Goes(Spot {
-            at: s.at,
             used: bit + 1,
             default: number,
             value: 0,
             left: 0,
             depth: top,
             up: false,
+            ..s
         });
     }
     let used = bit - 127;
@@ -94,22 +100,22 @@ fn step_up(map: &[u8], s: Spot, bits: &[u8], numbers: &[u32]) -> Turn
         used,
         number,
         Spot {
-            at: s.at,
-            used: used,
+            used,
             default: number,
             value: 0,
             left: 0,
             depth: top,
             up: true,
+            ..s
         },
     )
 }
 
 // A bit of a MATCH. Where it is 1 the side that differs lies before what follows and is given at once; where it is 0 it lies behind, and
 // goes on the stack.
-fn step_bit(map: &[u8], s: Spot, bits: &mut [u8], numbers: &mut [u32]) -> Turn
-    requires { Sane map.now s bits.old numbers.old × (s.up ≡ false) × (0 < s.left) }
-    ensures { Stepped map.now s bits.old numbers.old bits.new numbers.new result }
+fn step_bit(map: &[u8], s: Spot, stack: &mut Stack) -> Turn
+    requires { Sane map.now s stack.old.bits stack.old.numbers × (s.up ≡ false) × (0 < s.left) }
+    ensures { Stepped map.now s stack.old.bits stack.old.numbers stack.new.bits stack.new.numbers result }
 {
     let left = s.left - 1;
     let used = s.used + 1;
@@ -119,26 +125,21 @@ fn step_bit(map: &[u8], s: Spot, bits: &mut [u8], numbers: &mut [u32]) -> Turn
             used,
             s.default,
             Spot {
-                at: s.at,
-                used: used,
-                default: s.default,
-                value: s.value,
-                left: left,
-                depth: depth,
+                used,
+                left,
                 up: false,
+                ..s
             },
         );
     }
-    bits[depth] = s.used + 128;
-    numbers[depth] = s.default;
+    stack.bits[depth] = s.used + 128;
+    stack.numbers[depth] = s.default;
     Turn::Goes(Spot {
-        at: s.at,
-        used: used,
-        default: s.default,
-        value: s.value,
-        left: left,
+        used,
+        left,
         depth: depth + 1,
         up: false,
+        ..s
     })
 }
 
@@ -149,8 +150,7 @@ fn step_return(map: &[u8], s: Spot, w: u64, from: usize) -> Turn
     requires { (length map.now ≤ limit) × Reads map.now s RETURN from × Holds asn_row map.now from w }
     ensures { (bs ns : List ℕ) → Sane map.now s bs ns → Stepped map.now s bs ns bs ns result }
 {
-    let got = asmap_row_decoder::asn_in(w, from, 8 * map.len());
-    let Some((number, next)) = got else {
+    let Some((number, next)) = asmap_row_decoder::asn_in(w, from, 8 * map.len()) else {
         return Turn::Ends;
     };
     Turn::Gives(
@@ -158,23 +158,20 @@ fn step_return(map: &[u8], s: Spot, w: u64, from: usize) -> Turn
         number,
         Spot {
             at: next,
-            used: s.used,
-            default: s.default,
             value: 0,
             left: 0,
-            depth: s.depth,
             up: true,
+            ..s
         },
     )
 }
 
 // JUMP: its first half comes at once, its second one goes on the stack, with the default that holds here.
-fn step_jump(map: &[u8], s: Spot, w: u64, from: usize, bits: &mut [u8], numbers: &mut [u32]) -> Turn
-    requires { (length map.now ≤ limit) × Reads map.now s JUMP from × Holds jump_row map.now from w × Sane map.now s bits.old numbers.old }
-    ensures { Stepped map.now s bits.old numbers.old bits.new numbers.new result }
+fn step_jump(map: &[u8], s: Spot, w: u64, from: usize, stack: &mut Stack) -> Turn
+    requires { (length map.now ≤ limit) × Reads map.now s JUMP from × Holds jump_row map.now from w × Sane map.now s stack.old.bits stack.old.numbers }
+    ensures { Stepped map.now s stack.old.bits stack.old.numbers stack.new.bits stack.new.numbers result }
 {
-    let got = asmap_row_decoder::jump_in(w, from, 8 * map.len());
-    let Some((_, next)) = got else {
+    let Some((_, next)) = asmap_row_decoder::jump_in(w, from, 8 * map.len()) else {
         return Turn::Ends;
     };
     let used = s.used;
@@ -182,16 +179,16 @@ fn step_jump(map: &[u8], s: Spot, w: u64, from: usize, bits: &mut [u8], numbers:
     if used == 128 {
         return Turn::Ends;
     }
-    bits[depth] = used;
-    numbers[depth] = s.default;
+    stack.bits[depth] = used;
+    stack.numbers[depth] = s.default;
     Turn::Goes(Spot {
         at: next,
         used: used + 1,
-        default: s.default,
         value: 0,
         left: 0,
         depth: depth + 1,
         up: false,
+        ..s
     })
 }
 
@@ -200,8 +197,7 @@ fn step_match(map: &[u8], s: Spot, w: u64, from: usize) -> Turn
     requires { (length map.now ≤ limit) × Reads map.now s MATCH from × Holds match_row map.now from w × (s.used ≤ 128) }
     ensures { (bs ns : List ℕ) → Sane map.now s bs ns → Stepped map.now s bs ns bs ns result }
 {
-    let got = asmap_row_decoder::match_in(w, from, 8 * map.len());
-    let Some((operand, next)) = got else {
+    let Some((operand, next)) = asmap_row_decoder::match_in(w, from, 8 * map.len()) else {
         return Turn::Ends;
     };
     let length = asmap_program::match_length(operand);
@@ -210,12 +206,10 @@ fn step_match(map: &[u8], s: Spot, w: u64, from: usize) -> Turn
     }
     Turn::Goes(Spot {
         at: next,
-        used: s.used,
-        default: s.default,
         value: operand,
         left: length,
-        depth: s.depth,
         up: false,
+        ..s
     })
 }
 
@@ -224,82 +218,63 @@ fn step_default(map: &[u8], s: Spot, w: u64, from: usize) -> Turn
     requires { (length map.now ≤ limit) × Reads map.now s DEFAULT from × Holds asn_row map.now from w }
     ensures { (bs ns : List ℕ) → Sane map.now s bs ns → Stepped map.now s bs ns bs ns result }
 {
-    let got = asmap_row_decoder::asn_in(w, from, 8 * map.len());
-    let Some((number, next)) = got else {
+    let Some((number, next)) = asmap_row_decoder::asn_in(w, from, 8 * map.len()) else {
         return Turn::Ends;
     };
     Turn::Goes(Spot {
         at: next,
-        used: s.used,
         default: number,
         value: 0,
         left: 0,
-        depth: s.depth,
         up: false,
+        ..s
     })
 }
 
 // The instruction at the place, by its opcode.
-fn step_at(map: &[u8], s: Spot, bits: &mut [u8], numbers: &mut [u32]) -> Turn
-    requires { (length map.now ≤ limit) × Sane map.now s bits.old numbers.old × (s.up ≡ false) × (s.left ≡ 0) }
-    ensures { Stepped map.now s bits.old numbers.old bits.new numbers.new result }
+fn step_at(map: &[u8], s: Spot, stack: &mut Stack) -> Turn
+    requires { (length map.now ≤ limit) × Sane map.now s stack.old.bits stack.old.numbers × (s.up ≡ false) × (s.left ≡ 0) }
+    ensures { Stepped map.now s stack.old.bits stack.old.numbers stack.new.bits stack.new.numbers result }
 {
     let w = asmap_window::window(map, s.at);
-    let got = asmap_row_decoder::type_in(w, s.at, 8 * map.len());
-    let Some((opcode, from)) = got else {
+    let Some((opcode, from)) = asmap_row_decoder::type_in(w, s.at, 8 * map.len()) else {
         return Turn::Ends;
     };
     let rest = asmap_row_decoder::operand_window(map, w, s.at, opcode, from);
-    if opcode == asmap_program::RETURN {
-        return step_return(map, s, rest, from);
+    match opcode {
+        asmap_program::RETURN => step_return(map, s, rest, from),
+        asmap_program::JUMP => step_jump(map, s, rest, from, stack),
+        asmap_program::MATCH => step_match(map, s, rest, from),
+        _ => step_default(map, s, rest, from),
     }
-    if opcode == asmap_program::JUMP {
-        return step_jump(map, s, rest, from, bits, numbers);
-    }
-    if opcode == asmap_program::MATCH {
-        return step_match(map, s, rest, from);
-    }
-    step_default(map, s, rest, from)
 }
 
 // One step from a state that steps come to, of a map within the limit. Both arrays have 128 places.
-fn step(map: &[u8], s: Spot, bits: &mut [u8], numbers: &mut [u32]) -> Turn
-    requires { (length map.now ≤ limit) × Sane map.now s bits.old numbers.old }
-    ensures { Stepped map.now s bits.old numbers.old bits.new numbers.new result }
+fn step(map: &[u8], s: Spot, stack: &mut Stack) -> Turn
+    requires { (length map.now ≤ limit) × Sane map.now s stack.old.bits stack.old.numbers }
+    ensures { Stepped map.now s stack.old.bits stack.old.numbers stack.new.bits stack.new.numbers result }
 {
     if s.up {
-        return step_up(map, s, bits, numbers);
+        return step_up(map, s, stack);
     }
     if s.left == 0 {
-        return step_at(map, s, bits, numbers);
+        return step_at(map, s, stack);
     }
-    step_bit(map, s, bits, numbers)
+    step_bit(map, s, stack)
 }
 
 // Steps up to the next piece: its prefix length and number, and where the listing stands then; none at the listing's end. All calls of `step` come
 // through here, so that it is compiled once, into this loop, with the state in registers.
-pub fn next_piece(
-    map: &[u8],
-    from: Spot,
-    bits: &mut [u8],
-    numbers: &mut [u32],
-) -> Option<(u8, u32, Spot)>
-    requires { (length map.now ≤ limit) × Sane map.now from bits.old numbers.old }
-    ensures { Passed map.now from bits.old numbers.old bits.new numbers.new result }
+pub fn next_piece(map: &[u8], from: Spot, stack: &mut Stack) -> Option<(u8, u32, Spot)>
+    requires { (length map.now ≤ limit) × Sane map.now from stack.old.bits stack.old.numbers }
+    ensures { Passed map.now from stack.old.bits stack.old.numbers stack.new.bits stack.new.numbers result }
 {
     let mut s = from;
     loop {
-        let turn = step(map, s, bits, numbers);
-        match turn {
-            Turn::Gives(len, number, next) => {
-                return Some((len, number, next));
-            }
-            Turn::Goes(next) => {
-                s = next;
-            }
-            Turn::Ends => {
-                return None;
-            }
+        match step(map, s, stack) {
+            Turn::Gives(len, number, next) => return Some((len, number, next)),
+            Turn::Goes(next) => s = next,
+            Turn::Ends => return None,
         }
     }
 }

@@ -4,7 +4,7 @@ use Rattle.asmap_list_step.proofs.StepLaws.{Going}
 use Rattle.asmap_list_step.proofs.next_piece.Given as goal
 
 abbrev pub invariant-loop-len : goal.invariant-loop-len
-invariant-loop-len l = Going l.map l.fn.from l.fn.bits l.fn.numbers l.s l.bits l.numbers
+invariant-loop-len l = Going l.map l.fn.from l.fn.stack.bits l.fn.stack.numbers l.s l.stack.bits l.stack.numbers
 
 abbrev pub decreases-loop-len : goal.decreases-loop-len
 decreases-loop-len l = weight l.map l.s
