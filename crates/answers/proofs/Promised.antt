@@ -22,16 +22,25 @@ use Rattle.netgroup_pick.specs.Pick.{Handed}
 use Rattle.netgroup_pick.specs.Pick as below
 use Rattle.answer_outcome.specs.Outcome.{handed, IsDone, Hands}
 use Rattle.answer_maps.specs.Maps.{map_checked, kind_number, end_numbers, walk_made}
-use Rattle.answer_bytes.specs.Bytes.{bytes_written}
+use Rattle.asmap_records.specs.Output.{Making}
+use Rattle.asmap_records.specs.Output as output
+use Rattle.asmap_compare.specs.Compare.{Comparison}
+use Rattle.asmap_compare.specs.Compare as compare
+use Rattle.answer_bytes.specs.Bytes.{byte_count, Writes, Finds}
 use Rattle.answer_codes.specs.Codes.{code_read}
 use Rattle.answer_groups.specs.Groups.{group_found, totals_of, pick_made, Picks}
 use Rattle.answers.specs.Promise.{Finished, Demand3, Demand3At, CoreVerdict, CoreVerdictAt, CoreNumber, CoreNumberAt, CoreCode}
-use Rattle.answers.proofs.Handing.{Counted, hands}
+use Rattle.answers.proofs.Handing.{hands}
+use Rattle.answers.proofs.NeverZeroMaps.{byte_count_lem}
+use Rattle.answers.proofs.NeverZeroGroups.{pick_made_lem}
+use Rattle.asmap_program.specs.declared.Accepted as struct
 use Rattle.asmap_program.specs.Verdict.{Verdict}
 use Rattle.asmap_codes.specs.Reading.{Code, Found}
 use Rattle.netgroup_pick.specs.declared.Totals.{Totals}
 use Rattle.refusals.specs.declared.Fault.{Fault}
 use Rattle.refusals.specs.declared.Refusal.{Refusal}
+use Rattle.refusals.specs.declared.Refusal.TheVariants as refusal
+use Rattle.refusals.specs.Numbers.{of_map}
 use Rattle.std.specs.Prelude.{Result, Ok, Err}
 
 -- ---- the walk
@@ -107,17 +116,29 @@ core-code m at {y} r e p h = read_by_core m at y (subst (λ (d : Result Code Fau
 
 -- ---- the check: 0 where Core accepts, and no other number
 
-verdict_over : (m : List ℕ) (w : ℕ) (x : Verdict) {r : ℕ} {lent left : List ℕ} → LikeCore m w x → Hands (map_checked x) r lent left
+verdict_over : (m : List ℕ) (w : ℕ) (x : Result struct.Accepted Refusal) {r : ℕ} {lent left : List ℕ} → LikeCore m w x → Hands (map_checked x) r lent left
     → length m ≤ limit → core_check (file_of m) w ≡ eqb r 0
 unfolding handed IsDone map_checked
 verdict_over m w (Ok got) {r} p h l = let e = h.numbers in let z : r ≡ 0 = cc in p l ∙ sym (eq-eqb r 0 z)
 verdict_over m w (Err n) {r} p h l = p l ∙ sym (ne_eqb r 0 (λ z. h.zero_is_done z))
 
-pub core-verdict : (m : List ℕ) (x : Verdict) {r : ℕ} {lent left : List ℕ} → LikeCore m 128 x → Hands (map_checked x) r lent left → CoreVerdict m r
-core-verdict m x p h = verdict_over m 128 x p h
+pub core-verdict : (m : List ℕ) (x : Verdict) {r : ℕ} {lent left : List ℕ} → LikeCore m 128 x → Hands (map_checked (of_map x)) r lent left → CoreVerdict m r
+core-verdict m (Ok got) p h = verdict_over m 128 (Ok got) p h
+core-verdict m (Err f) p h = verdict_over m 128 (Err (refusal.Map f)) p h
 
-pub core-verdict_at : (m : List ℕ) (w : ℕ) (x : Verdict) {r : ℕ} {lent left : List ℕ} → LikeCoreAt m w x → Hands (map_checked x) r lent left → CoreVerdictAt m w r
+pub core-verdict_at : (m : List ℕ) (w : ℕ) (x : Result struct.Accepted Refusal) {r : ℕ} {lent left : List ℕ} → LikeCoreAt m w x → Hands (map_checked x) r lent left → CoreVerdictAt m w r
 core-verdict_at m w x p h t = verdict_over m w x (p t) h
+
+-- ---- bytes that are written to a lent output
+
+-- x: what the crate below answered
+pub writes : {made : Making} {o o' : List ℕ} {x : Result ℕ Refusal} {r : ℕ} {lent left : List ℕ}
+    → output.Hands made o o' x → r ∷ left ≡ handed (byte_count x) lent → Writes made o o' r lent left
+writes w e = record { hands = hands byte_count w.answer byte_count_lem e; output = w.output }
+
+pub finds : {c : Comparison} {o o' : List ℕ} {x : Result ℕ Refusal} {r : ℕ} {lent left : List ℕ}
+    → compare.Finds c o o' x → r ∷ left ≡ handed (byte_count x) lent → Finds c o o' r lent left
+finds w e = record { hands = hands byte_count w.answer byte_count_lem e; output = w.output }
 
 -- ---- groups, pages and pick: where the answer is 0, what was found is in the lent numbers at exit
 
@@ -126,13 +147,13 @@ unfolding handed IsDone group_found
 found (Ok g') h z = let e = h.numbers in cc
 found (Err n) h z = absurd (h.zero_is_done z)
 
-wrote : (x : Result ℕ Refusal) {r n : ℕ} {lent : List ℕ} → Hands (bytes_written x) r lent (n ∷ []) → r ≡ 0 → x ≡ Ok n
-unfolding handed IsDone bytes_written
+wrote : (x : Result ℕ Refusal) {r n : ℕ} {lent : List ℕ} → Hands (byte_count x) r lent (n ∷ []) → r ≡ 0 → x ≡ Ok n
+unfolding handed IsDone byte_count
 wrote (Ok k) h z = let e = h.numbers in cc
 wrote (Err k) h z = absurd (h.zero_is_done z)
 
 -- what is promised of an answer x, which is y, holds of the bytes that were written
-pub of_written : (P : Result ℕ Refusal → Type 0) (y : Result ℕ Refusal) {x : Result ℕ Refusal} {r n : ℕ} {lent : List ℕ} → P x → x ≡ y → Hands (bytes_written y) r lent (n ∷ []) → r ≡ 0 → P (Ok n)
+pub of_written : (P : Result ℕ Refusal → Type 0) (y : Result ℕ Refusal) {x : Result ℕ Refusal} {r n : ℕ} {lent : List ℕ} → P x → x ≡ y → Hands (byte_count y) r lent (n ∷ []) → r ≡ 0 → P (Ok n)
 of_written P y k e h z = subst P (e ∙ wrote y h z) k
 
 pub picked : (x : Result Totals Refusal) {r total first examined instructions : ℕ} {lent : List ℕ}
@@ -148,10 +169,10 @@ picked (Ok t) {r} {total} {first} {examined} {instructions} h z =
 picked (Err n) h z = absurd (h.zero_is_done z)
 
 -- x: what the pick below answered, with its outputs at exit; h: what its definition says
-pub picks : (h : Handed) (x : Result Totals Refusal) {ps gs : List ℕ} {r : ℕ} {lent left : List ℕ} → below.handed x ps gs ≡ h → Counted (pick_made h.answer)
+pub picks : (h : Handed) (x : Result Totals Refusal) {ps gs : List ℕ} {r : ℕ} {lent left : List ℕ} → below.handed x ps gs ≡ h
     → r ∷ left ≡ handed (pick_made x) lent → Picks h r lent left ps gs
-picks h x e k q =
-    record { hands = hands pick_made (ap (λ (p : Handed). p.answer) e) k q; picks_left = ap (λ (p : Handed). p.picks) e; groups_left = ap (λ (p : Handed). p.groups) e }
+picks h x e q =
+    record { hands = hands pick_made (ap (λ (p : Handed). p.answer) e) pick_made_lem q; picks_left = ap (λ (p : Handed). p.picks) e; groups_left = ap (λ (p : Handed). p.groups) e }
 
 -- what holds of the answer below holds of the numbers at exit
 pub carried : (P : Result Totals Refusal → Type 0) {h : Handed} {x : Result Totals Refusal} {ps gs : List ℕ} {r total first examined instructions : ℕ} {lent : List ℕ}
