@@ -59,26 +59,22 @@ fn write_load(generator: Generator, pairs: usize, out: &mut [u8])
     requires { length (load_bits pairs generator.state) ≤ 8 * length out.old }
     ensures { out.new ≡ sets out.old 0 (bytes_of (load_bits pairs generator.state)) }
 {
-    let mut writer = BitWriter {
-        bits: 0,
-        held: 0,
-        place: 0,
-    };
+    let mut writer = BitWriter::new();
     let mut drawn = generator;
     let mut left = pairs;
     while 0 < left {
         let first = drawn.next();
         let number = number_by(first);
-        writer = asmap_bit_writer::push_instruction(out, writer, DEFAULT, number);
+        writer.push_instruction(out, DEFAULT, number);
         drawn = first.next();
         let operand = match_by(drawn);
-        writer = asmap_bit_writer::push_instruction(out, writer, MATCH, operand);
+        writer.push_instruction(out, MATCH, operand);
         left -= 1;
     }
     let last = drawn.next();
     let number = number_by(last);
-    writer = asmap_bit_writer::push_instruction(out, writer, RETURN, number);
-    asmap_bit_writer::finish(out, writer);
+    writer.push_instruction(out, RETURN, number);
+    writer.finish(out);
 }
 
 // Writes the load of so many pairs from a seed. Refusals 20 for a seed of 0 or more than 128 pairs, then 14; a refused call writes nothing.

@@ -41,24 +41,24 @@ module _ {goal out₀ out : List ℕ} {w : BitWriter} where
       come_as RETURN [] (numbered s a n p e) (subst (ToCome goal out₀ out w) (load_last left s z ∙ sym (append-nil _)) t)
 
 pub loop-left-init : goal.loop-left-init
-loop-left-init c = all_to_come _ _ _ refl c.requires
+loop-left-init c = rw c.new-writer.ensures (all_to_come _ _ _ refl c.requires)
 
-pub push_instruction-writer-requires : goal.push_instruction-writer-requires
-push_instruction-writer-requires c =
+pub push_instruction-requires : goal.push_instruction-requires
+push_instruction-requires c =
     let s = c.loop-left.drawn.state in
     let n = c.number_by-number.result in
     let e = numbered s c.next-first.result n c.next-first.ensures.value c.number_by-number.ensures in
     let t = default_to_come c.loop-left.left s c.next-first.result n (omega arith) c.next-first.ensures.value c.number_by-number.ensures c.loop-left.invariant in
     (t.ready, ranged_as DEFAULT e (default_ranged (next s)), room (instruction_bits DEFAULT n) _ t)
 
-pub push_instruction-writer-requires-in-loop-left : goal.push_instruction-writer-requires-in-loop-left
-push_instruction-writer-requires-in-loop-left c =
+pub push_instruction-requires-in-loop-left : goal.push_instruction-requires-in-loop-left
+push_instruction-requires-in-loop-left c =
     let s = c.loop-left.drawn.state in
     let m = c.match_by-operand.result in
     let d = default_to_come c.loop-left.left s c.next-first.result c.number_by-number.result (omega arith) c.next-first.ensures.value c.number_by-number.ensures c.loop-left.invariant in
     let y = drawn_twice s c.next-first.result c.next-drawn.result c.next-first.ensures.value c.next-drawn.ensures.value in
     let f = c.match_by-operand.ensures ∙ ap (λ x. match_by x.state) y in
-    let t = match_to_come c.loop-left.left s c.next-drawn.result m y c.match_by-operand.ensures (pushed d c.push_instruction-writer.ensures) in
+    let t = match_to_come c.loop-left.left s c.next-drawn.result m y c.match_by-operand.ensures (pushed d c.push_instruction.ensures) in
     (t.ready, ranged_as MATCH f (match_ranged (next (next s))), room (instruction_bits MATCH m) _ t)
 
 pub loop-left-preserved : goal.loop-left-preserved
@@ -66,11 +66,11 @@ loop-left-preserved c =
     let s = c.loop-left.drawn.state in
     let d = default_to_come c.loop-left.left s c.next-first.result c.number_by-number.result (omega arith) c.next-first.ensures.value c.number_by-number.ensures c.loop-left.invariant in
     let y = drawn_twice s c.next-first.result c.next-drawn.result c.next-first.ensures.value c.next-drawn.ensures.value in
-    let t = match_to_come c.loop-left.left s c.next-drawn.result c.match_by-operand.result y c.match_by-operand.ensures (pushed d c.push_instruction-writer.ensures) in
-    subst (ToCome _ _ _ _) (ap (λ x. load_bits (c.loop-left.left - 1) x.state) (sym y)) (pushed t c.push_instruction-writer-in-loop-left.ensures)
+    let t = match_to_come c.loop-left.left s c.next-drawn.result c.match_by-operand.result y c.match_by-operand.ensures (pushed d c.push_instruction.ensures) in
+    subst (ToCome _ _ _ _) (ap (λ x. load_bits (c.loop-left.left - 1) x.state) (sym y)) (pushed t c.push_instruction-in-loop-left.ensures)
 
-pub push_instruction-writer-requires-2 : goal.push_instruction-writer-requires-2
-push_instruction-writer-requires-2 c =
+pub push_instruction-requires-2 : goal.push_instruction-requires-2
+push_instruction-requires-2 c =
     let s = c.loop-left.drawn.state in
     let n = c.number_by-number-2.result in
     let e = numbered s c.next-last.result n c.next-last.ensures.value c.number_by-number-2.ensures in
@@ -80,10 +80,10 @@ push_instruction-writer-requires-2 c =
 pub finish-requires : goal.finish-requires
 finish-requires c =
     let r = return_to_come c.loop-left.left c.loop-left.drawn.state c.next-last.result c.number_by-number-2.result (omega arith) c.next-last.ensures.value c.number_by-number-2.ensures c.loop-left.invariant in
-    let t = pushed r c.push_instruction-writer-2.ensures in
+    let t = pushed r c.push_instruction-2.ensures in
     (t.ready, omega (arith, t.fits))
 
 pub returns : goal.returns
 returns c =
     let r = return_to_come c.loop-left.left c.loop-left.drawn.state c.next-last.result c.number_by-number-2.result (omega arith) c.next-last.ensures.value c.number_by-number-2.ensures c.loop-left.invariant in
-    c.finish.ensures ∙ sym (pushed r c.push_instruction-writer-2.ensures).onward
+    c.finish.ensures ∙ sym (pushed r c.push_instruction-2.ensures).onward
