@@ -6,7 +6,7 @@ ghost use Rattle.std.specs.Prelude.{◌≡◌, true, ◌&&◌, [], ◌+◌, ◌*
 ghost use Rattle.asmap_codes.specs.Bits.{low};
 ghost use Rattle.asmap_codes.specs.Row.{type_row, operand_row, in_range};
 ghost use Rattle.asmap_codes.specs.Encode.{instruction_bits};
-ghost use Rattle.asmap_bit_writer.specs.models.Stream.{Ready, no_bits, put_bytes, stream, Moved};
+ghost use Rattle.asmap_bit_writer.specs.models.Stream.{Ready, from, put_bytes, stream, Moved};
 
 use asmap_encode::Word;
 
@@ -31,14 +31,14 @@ fn put_bytes(out: &mut [u8], from: usize, number: u64, count: usize)
 }
 
 impl BitWriter {
-    // A writer from the output's first bit on, which has no bits yet.
-    pub fn new() -> BitWriter
-        ensures { result ≡ no_bits }
+    // A writer from a byte of the output on, which has no bits yet.
+    pub fn at(place: usize) -> BitWriter
+        ensures { result ≡ from place }
     {
         BitWriter {
             bits: 0,
             held: 0,
-            place: 0,
+            place,
         }
     }
 

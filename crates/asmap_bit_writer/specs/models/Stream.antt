@@ -10,9 +10,9 @@ pub record Ready (w : BitWriter) : Type 0 where
   pub small : w.bits < 2 ^ w.held
   pub short : w.held < 64
 
--- The writer from the output's first bit on, which has no bits yet.
-abbrev pub no_bits : BitWriter
-no_bits = record { bits = 0; held = 0; place = 0 }
+-- The writer from a byte of the output on, which has no bits yet.
+abbrev pub from : ℕ → BitWriter
+from place = record { bits = 0; held = 0; place = place }
 
 -- What the output o will hold when the bits that the writer holds and then the rest are written.
 unfoldable pub stream : List ℕ → BitWriter → List ℕ → List ℕ

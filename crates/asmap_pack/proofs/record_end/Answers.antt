@@ -1,5 +1,5 @@
 -- Each return is one of the laws of the record at a byte (SizeLaws).
-use Rattle.std.proofs.Common.{◌≡◌, ◌∙◌, sym, ap, arith, ℕ, ◌+◌}
+use Rattle.std.proofs.Common.{◌≡◌, ◌∙◌, sym, ap, arith, ℕ}
 use lib.ListN.{get_or}
 use Rattle.asmap_encode.specs.models.Words.{length_written}
 use Rattle.asmap_encode.specs.Write.{write_instruction}
@@ -15,10 +15,10 @@ counted op v v' len e h = h ∙ ap (λ (y : ℕ). length_written (write_instruct
 pub returns-then-len-eq0 : goal.returns-then-len-eq0
 returns-then-len-eq0 c =
     let a = c.args in
-    let rs = a.records.now in
+    let rs = a.record.now in
     let len = c.instruction_length-len in
-    end_range rs a.from a.at
-    (measured_none (get_or rs a.from 0) (number4 rs (a.from + 4)) len.result (counted _ _ _ _ c.number_at-operand.ensures len.ensures) c.if-len-eq0.true)
+    end_range rs a.at
+    (measured_none (get_or rs 0 0) (number4 rs 4) len.result (counted _ _ _ _ c.number_at-operand.ensures len.ensures) c.if-len-eq0.true)
 
 -- the record is in range, and has so many bits
 measured : (op v v' len : ℕ) → v' ≡ v → len ≡ length_written (write_instruction op v') → (len ≡ 0 → ⊥) → Measured op v len
@@ -32,20 +32,20 @@ overflow_add-end c =
 pub returns-then-number_at-opcode : goal.returns-then-number_at-opcode
 returns-then-number_at-opcode c =
     let a = c.args in
-    end-zeros a.records.now a.from a.at _ (measured _ _ _ _ c.number_at-operand.ensures c.instruction_length-len.ensures c.if-len-eq0.false)
+    end-zeros a.record.now a.at _ (measured _ _ _ _ c.number_at-operand.ensures c.instruction_length-len.ensures c.if-len-eq0.false)
     (λ k. c.if-number_at-opcode.true (c.number_at.ensures ∙ k))
 
 pub returns-then-number_at-at : goal.returns-then-number_at-at
 returns-then-number_at-at c =
     let a = c.args in
-    end_place a.records.now a.from a.at _ (measured _ _ _ _ c.number_at-operand.ensures c.instruction_length-len.ensures c.if-len-eq0.false)
+    end_place a.record.now a.at _ (measured _ _ _ _ c.number_at-operand.ensures c.instruction_length-len.ensures c.if-len-eq0.false)
     (sym c.number_at.ensures ∙ c.if-number_at-opcode.false)
     (λ k. c.if-number_at-at.true (c.number_at-2.ensures ∙ k))
 
 pub returns-then-number_at-len : goal.returns-then-number_at-len
 returns-then-number_at-len c =
     let a = c.args in
-    end_size a.records.now a.from a.at _ (measured _ _ _ _ c.number_at-operand.ensures c.instruction_length-len.ensures c.if-len-eq0.false)
+    end_size a.record.now a.at _ (measured _ _ _ _ c.number_at-operand.ensures c.instruction_length-len.ensures c.if-len-eq0.false)
     (sym c.number_at.ensures ∙ c.if-number_at-opcode.false)
     (sym c.number_at-2.ensures ∙ c.if-number_at-at.false)
     (λ k. c.if-number_at-len.true (c.number_at-3.ensures ∙ k))
@@ -53,7 +53,7 @@ returns-then-number_at-len c =
 pub returns-then-end : goal.returns-then-end
 returns-then-end c =
     let a = c.args in
-    end_long a.records.now a.from a.at _ (measured _ _ _ _ c.number_at-operand.ensures c.instruction_length-len.ensures c.if-len-eq0.false)
+    end_long a.record.now a.at _ (measured _ _ _ _ c.number_at-operand.ensures c.instruction_length-len.ensures c.if-len-eq0.false)
     (sym c.number_at.ensures ∙ c.if-number_at-opcode.false)
     (sym c.number_at-2.ensures ∙ c.if-number_at-at.false)
     (sym c.number_at-3.ensures ∙ c.if-number_at-len.false)
@@ -62,7 +62,7 @@ returns-then-end c =
 pub returns : goal.returns
 returns c =
     let a = c.args in
-    end_made a.records.now a.from a.at _ (measured _ _ _ _ c.number_at-operand.ensures c.instruction_length-len.ensures c.if-len-eq0.false)
+    end_made a.record.now a.at _ (measured _ _ _ _ c.number_at-operand.ensures c.instruction_length-len.ensures c.if-len-eq0.false)
     (sym c.number_at.ensures ∙ c.if-number_at-opcode.false)
     (sym c.number_at-2.ensures ∙ c.if-number_at-at.false)
     (sym c.number_at-3.ensures ∙ c.if-number_at-len.false)
