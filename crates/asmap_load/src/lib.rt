@@ -41,14 +41,12 @@ fn load_length(generator: Generator, pairs: usize) -> usize
 {
     let mut drawn = generator;
     let mut bits: usize = 0;
-    let mut left = pairs;
-    while 0 < left {
+    for _ in 0..pairs {
         let first = drawn.next();
         let default_bits = asmap_encode::instruction_length(DEFAULT, number_by(first));
         drawn = first.next();
         let match_bits = asmap_encode::instruction_length(MATCH, match_by(drawn));
         bits += default_bits + match_bits;
-        left -= 1;
     }
     let last = drawn.next();
     bits + asmap_encode::instruction_length(RETURN, number_by(last))
@@ -59,17 +57,15 @@ fn write_load(generator: Generator, pairs: usize, out: &mut [u8])
     requires { length (load_bits pairs generator.state) ≤ 8 * length out.old }
     ensures { out.new ≡ sets out.old 0 (bytes_of (load_bits pairs generator.state)) }
 {
-    let mut writer = BitWriter::new();
+    let mut writer = BitWriter::at(0);
     let mut drawn = generator;
-    let mut left = pairs;
-    while 0 < left {
+    for _ in 0..pairs {
         let first = drawn.next();
         let number = number_by(first);
         writer.push_instruction(out, DEFAULT, number);
         drawn = first.next();
         let operand = match_by(drawn);
         writer.push_instruction(out, MATCH, operand);
-        left -= 1;
     }
     let last = drawn.next();
     let number = number_by(last);
@@ -86,7 +82,7 @@ pub fn load(seed: u64, pairs: usize, out: &mut [u8]) -> Result<usize, Refusal>
     if MAX_PAIRS < pairs {
         return Err(Refusal::Load);
     }
-    let bytes = (load_length(generator, pairs) + 7) / 8;
+    let bytes = load_length(generator, pairs).div_ceil(8);
     if out.len() < bytes {
         return Err(Refusal::OutputTooShort);
     }

@@ -32,28 +32,29 @@ last left s a n i z p e g =
 
 pub overflow_add-bits : goal.overflow_add-bits
 overflow_add-bits c =
-    let t = turn c.loop-left.left c.loop-left.drawn.state c.next-first.result c.next-drawn.result _ _ _ _ (omega arith) c.next-first.ensures.value c.next-drawn.ensures.value
+    let t = turn (c.args.pairs - c.loop.counter) c.loop.drawn.state c.next-first.result c.next-drawn.result _ _ _ _ (omega arith) c.next-first.ensures.value c.next-drawn.ensures.value
     c.number_by.ensures c.match_by.ensures c.instruction_length-default_bits.ensures c.instruction_length-match_bits.ensures in
     record { fits = omega (arith, t, load_short c.args.pairs c.args.generator.state) }
 
-pub overflow_add-bits-in-loop-left : goal.overflow_add-bits-in-loop-left
-overflow_add-bits-in-loop-left c =
-    let t = turn c.loop-left.left c.loop-left.drawn.state c.next-first.result c.next-drawn.result _ _ _ _ (omega arith) c.next-first.ensures.value c.next-drawn.ensures.value
+pub overflow_add-bits-in-loop : goal.overflow_add-bits-in-loop
+overflow_add-bits-in-loop c =
+    let t = turn (c.args.pairs - c.loop.counter) c.loop.drawn.state c.next-first.result c.next-drawn.result _ _ _ _ (omega arith) c.next-first.ensures.value c.next-drawn.ensures.value
     c.number_by.ensures c.match_by.ensures c.instruction_length-default_bits.ensures c.instruction_length-match_bits.ensures in
     record { fits = omega (arith, t, load_short c.args.pairs c.args.generator.state) }
 
-pub loop-left-preserved : goal.loop-left-preserved
-loop-left-preserved c =
-    let t = turn c.loop-left.left c.loop-left.drawn.state c.next-first.result c.next-drawn.result _ _ _ _ (omega arith) c.next-first.ensures.value c.next-drawn.ensures.value
+pub loop-preserved : goal.loop-preserved
+loop-preserved c =
+    let t = turn (c.args.pairs - c.loop.counter) c.loop.drawn.state c.next-first.result c.next-drawn.result _ _ _ _ (omega arith) c.next-first.ensures.value c.next-drawn.ensures.value
     c.number_by.ensures c.match_by.ensures c.instruction_length-default_bits.ensures c.instruction_length-match_bits.ensures in
-    record { within = omega arith; counted = omega (arith, t) }
+    let n : c.args.pairs - c.loop.counter - 1 ≡ c.args.pairs - (c.loop.counter + 1) = omega arith in
+    rw (← n) (omega (arith, t))
 
 pub overflow_add-result : goal.overflow_add-result
 overflow_add-result c =
-    let t = last c.loop-left.left c.loop-left.drawn.state c.next-last.result _ _ (omega arith) c.next-last.ensures.value c.number_by-2.ensures c.instruction_length.ensures in
+    let t = last (c.args.pairs - c.loop.counter) c.loop.drawn.state c.next-last.result _ _ (omega arith) c.next-last.ensures.value c.number_by-2.ensures c.instruction_length.ensures in
     record { fits = omega (arith, t, load_short c.args.pairs c.args.generator.state) }
 
 pub returns : goal.returns
 returns c =
-    let t = last c.loop-left.left c.loop-left.drawn.state c.next-last.result _ _ (omega arith) c.next-last.ensures.value c.number_by-2.ensures c.instruction_length.ensures in
+    let t = last (c.args.pairs - c.loop.counter) c.loop.drawn.state c.next-last.result _ _ (omega arith) c.next-last.ensures.value c.number_by-2.ensures c.instruction_length.ensures in
     omega (arith, t)
