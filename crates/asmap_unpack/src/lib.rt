@@ -33,15 +33,12 @@ fn put_list(map: &[u8], count: usize, out: &mut [u8])
         → out.new ≡ sets out.old 0 (records_of (unpacked (map_of map.now) w)) }
 {
     let mut at: usize = 0;
-    let mut i: usize = 0;
-    while i < count {
-        let got = asmap_decode::decode_instruction(map, at);
-        let Ok(instruction) = got else {
+    for i in 0..count {
+        let Ok(instruction) = asmap_decode::decode_instruction(map, at) else {
             return;
         };
         put_record(out, 16 * i, instruction);
         at += instruction.size;
-        i += 1;
     }
 }
 

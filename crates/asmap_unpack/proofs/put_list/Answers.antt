@@ -46,7 +46,6 @@ loop-i-preserved c =
     let p : i.place + i.size ≡ l.at + i.size = ap (λ (x : ℕ). x + i.size) t.here in
     let next = sets (sets l.out (16 * l.i) (record_of i)) in
     record {
-      counted = omega arith;
       within = t.inside;
       come =
           rw (c.put_record.ensures, ← n, ← k)

@@ -8,10 +8,6 @@ use Rattle.asmap_unpack.proofs.put_list.Given as goal
 
 abbrev pub invariant-loop-i : goal.invariant-loop-i
 invariant-loop-i l = record {
-  counted : l.i ≤ l.count;
   within : l.at ≤ 8 * length l.map;
   come : sets l.fn.out 0 (records_of (list_from (map_of l.map) l.count 0)) ≡ sets l.out (16 * l.i) (records_of (list_from (map_of l.map) (l.count - l.i) l.at));
 }
-
-abbrev pub decreases-loop-i : goal.decreases-loop-i
-decreases-loop-i l = l.count - l.i
