@@ -13,7 +13,7 @@ ghost use Rattle.asmap_list.specs.List.{list_of, list_at, needed_of, needed_at};
 ghost use Rattle.asmap_list.specs.Promise.{Covers};
 ghost use Rattle.asmap_list.specs.models.Listed.{Listed};
 
-use asmap_list_step::Spot;
+use asmap_list_step::{Spot, Stack};
 use asmap_program::ADDRESS_BITS;
 use prefix_records::Address;
 use refusals::Refusal;
@@ -24,17 +24,11 @@ fn put_listing(map: &[u8], count: usize, out: &mut [u8])
     requires { (length map.now ≤ limit) × (24 * count ≤ length out.old) × Listed map.now count }
     ensures { out.new ≡ sets out.old 0 (records_of (listing (map_of map.now))) }
 {
-    let mut bits = asmap_list_step::stack_bits();
-    let mut numbers = asmap_list_step::stack_numbers();
+    let mut stack = Stack::new();
     let mut s = asmap_list_step::start();
     let mut a = Address { high: 0, low: 0 };
     for k in 0..count {
-        let Some((length, number, next)) = asmap_list_step::next_piece(
-            map,
-            s,
-            &mut bits,
-            &mut numbers,
-        ) else {
+        let Some((length, number, next)) = asmap_list_step::next_piece(map, s, &mut stack) else {
             return;
         };
         prefix_records::put_record(out, 24 * k, a, length, number);

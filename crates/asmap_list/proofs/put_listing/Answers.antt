@@ -4,7 +4,7 @@ use Rattle.asmap_list.proofs.put_listing.Goals as goal
 
 pub loop-k-init : goal.loop-k-init
 loop-k-init c =
-    start_standing c.args.map.now c.args.out.now _ _ c.args.count _ c.requires.2 c.stack_bits-bits.ensures c.stack_numbers-numbers.ensures c.start-s.ensures
+    start_standing c.args.map.now c.args.out.now _ _ c.args.count _ c.requires.2 c.new-stack.ensures.0 c.new-stack.ensures.1 c.start-s.ensures
 
 pub returns-in_default : goal.returns-in_default
 returns-in_default c = ends_standing c.loop-k.invariant c.in_default.ensures
