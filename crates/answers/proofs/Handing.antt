@@ -4,6 +4,8 @@ use Prim.Native.Nat.{ℕ, ◌<◌}
 use mathlib.Core.Path.{◌≡◌, ◌∙◌, ap}
 use mathlib.Core.List.{List, ◌∷◌}
 use native.Mathlib.Omega.{arith}
+use mathlib.Core.Bool.{Bool, true, false, cond}
+use Rattle.asmap_program.specs.Widths.{is_width, at_width}
 use Rattle.answer_outcome.specs.Outcome.{Outcome, Done, No, handed, IsDone, Hands}
 use Rattle.refusals.specs.declared.Fault.{Fault}
 use Rattle.refusals.specs.declared.Fault.TheVariants as fault
@@ -52,6 +54,16 @@ Counted (No n) = 0 < n
 unfoldable pub Refuses : (ℕ → Type 0) → Outcome → Type 0
 Refuses P (Done numbers) = Unit {0}
 Refuses P (No n) = P n
+
+-- a call at a width: 18 is no 0
+pub counted_at : {A : Type 0} (out : A → Outcome) (refused : Refusal → A) (x : A) (w : ℕ) → Counted (out (refused refusal.Width)) → Counted (out x)
+    → Counted (out (at_width w refused x))
+unfolding at_width
+counted_at out refused x w h k = go (is_width w)
+  where
+    go : (b : Bool) → Counted (out (cond b x (refused refusal.Width)))
+    go true = k
+    go false = h
 
 zero : (o : Outcome) (r : ℕ) (lent left : List ℕ) → Counted o → r ∷ left ≡ handed o lent → r ≡ 0 → IsDone o
 unfolding Counted handed IsDone
