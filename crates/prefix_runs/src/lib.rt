@@ -5,11 +5,20 @@
 
 ghost use Rattle.std.specs.Prelude.{◌≡◌, ◌^◌, ◌≤◌, ◌<◌};
 ghost use Rattle.prefix_records.specs.models.Cursor.{value_of};
-ghost use Rattle.prefix_lists.specs.models.Listed.{Rising};
+ghost use Rattle.prefix_lists.specs.models.Listed.{Number, Rising};
 ghost use Rattle.prefix_runs.specs.models.Runs.{Cut, RunAt, numbers, RunBelow};
 ghost use Rattle.prefix_runs.specs.models.Pieces.{top, Joined};
 
 use prefix_records::Address;
+
+// A list that may be built from: records of prefixes that rise and do not overlap, and the number of all other addresses.
+#[derive(Clone, Copy)]
+pub struct Prefixes<'a> {
+    pub records: &'a [u8],
+    pub given: u32,
+    pub ghost rising: { Rising 128 records.now },
+    pub ghost number: { Number given },
+}
 
 // A run of addresses with one number: where it starts, its number, and how many of the list's prefixes lie below it.
 #[derive(Clone, Copy, Debug, PartialEq, Eq)]
@@ -19,68 +28,70 @@ pub struct Run {
     pub under: usize,
 }
 
-// The piece that ends at an address, 0 standing for the one behind all addresses. It is the last of the prefixes below, or the gap behind it.
-fn piece_below(records: &[u8], given: u32, end: Address, under: usize) -> Run
-    requires { Rising 128 records.now × Cut records.now (top (value_of end)) under }
-    ensures { Joined records.now given (top (value_of end)) result }
-{
-    if under == 0 {
-        return Run {
-            first: Address::ZERO,
-            number: given,
-            under: 0,
-        };
-    }
-    let last = under - 1;
-    let at = 24 * last;
-    let first = prefix_lists::address_at(records, at);
-    let past = prefix_records::behind(first, records[at + 16]);
-    if past == end {
-        return Run {
-            first,
-            number: byte_numbers::number_at(records, at + 20),
-            under: last,
-        };
-    }
-    Run {
-        first: past,
-        number: given,
-        under,
-    }
-}
-
-// The run that ends at an address, 0 standing for the one behind all addresses: pieces are joined while they have one number.
-fn run_below(records: &[u8], given: u32, end: Address, under: usize) -> Run
-    requires { Rising 128 records.now × Cut records.now (top (value_of end)) under }
-    ensures { RunBelow records.now given (top (value_of end)) result }
-{
-    let mut run = piece_below(records, given, end, under);
-    while run.first != Address::ZERO {
-        let next = piece_below(records, given, run.first, run.under);
-        if next.number != run.number {
-            return run;
+impl<'a> Prefixes<'a> {
+    // The piece that ends at an address, 0 standing for the one behind all addresses. It is the last of the prefixes below, or the gap behind it.
+    fn piece_below(self, end: Address, under: usize) -> Run
+        requires { Cut self.records.now (top (value_of end)) under }
+        ensures { Joined self.entry.records.now self.entry.given (top (value_of end)) result }
+    {
+        let Prefixes { records, given } = self;
+        if under == 0 {
+            return Run {
+                first: Address::ZERO,
+                number: given,
+                under: 0,
+            };
         }
-        run = next;
+        let last = under - 1;
+        let at = 24 * last;
+        let first = prefix_lists::address_at(records, at);
+        let past = prefix_records::behind(first, records[at + 16]);
+        if past == end {
+            return Run {
+                first,
+                number: byte_numbers::number_at(records, at + 20),
+                under: last,
+            };
+        }
+        Run {
+            first: past,
+            number: given,
+            under,
+        }
     }
-    run
-}
 
-// The run at the end of all addresses.
-pub fn last_run(records: &[u8], given: u32) -> Run
-    requires { Rising 128 records.now }
-    ensures { RunBelow records.now given (2 ^ 128) result }
-{
-    run_below(records, given, Address::ZERO, records.len() / 24)
-}
-
-// The run that ends below an address, where the one before it starts there; else that one still.
-pub fn run_before(records: &[u8], given: u32, first: Address, run: Run) -> Run
-    requires { Rising 128 records.now × (0 < value_of first) × (value_of run.first ≤ value_of first)
-        × RunAt (numbers records.now given) (Cut records.now) (value_of first) run }
-    ensures { RunBelow records.now given (value_of first) result }
-{
-    if run.first == first {
-        return run_below(records, given, first, run.under);
+    // The run that ends at an address, 0 standing for the one behind all addresses: pieces are joined while they have one number.
+    fn run_below(self, end: Address, under: usize) -> Run
+        requires { Cut self.records.now (top (value_of end)) under }
+        ensures { RunBelow self.entry.records.now self.entry.given (top (value_of end)) result }
+    {
+        let mut run = self.piece_below(end, under);
+        while run.first != Address::ZERO {
+            let next = self.piece_below(run.first, run.under);
+            if next.number != run.number {
+                return run;
+            }
+            run = next;
+        }
+        run
     }
-    run
+
+    // The run at the end of all addresses.
+    pub fn last_run(self) -> Run
+        ensures { RunBelow self.entry.records.now self.entry.given (2 ^ 128) result }
+    {
+        self.run_below(Address::ZERO, self.records.len() / 24)
+    }
+
+    // The run that ends below an address, where the one before it starts there; else that one still.
+    pub fn run_before(self, first: Address, run: Run) -> Run
+        requires { (0 < value_of first) × (value_of run.first ≤ value_of first)
+            × RunAt (numbers self.records.now self.given) (Cut self.records.now) (value_of first) run }
+        ensures { RunBelow self.entry.records.now self.entry.given (value_of first) result }
+    {
+        if run.first == first {
+            return self.run_below(first, run.under);
+        }
+        run
+    }
 }

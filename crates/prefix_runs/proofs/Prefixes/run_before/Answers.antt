@@ -4,15 +4,15 @@ use Rattle.prefix_records.specs.models.Cursor.{value_of}
 use Rattle.prefix_records.proofs.AddressLaws.{same_address}
 use Rattle.prefix_runs.specs.models.Runs.{Cut, RunBelow}
 use Rattle.prefix_runs.proofs.EndLaws.{end_is}
-use Rattle.prefix_runs.proofs.run_before.Goals as goal
+use Rattle.prefix_runs.proofs.Prefixes.run_before.Goals as goal
 
 pub run_below-requires : goal.run_below-requires
 run_below-requires c =
     let v = value_of c.args.first in
     let same = sym (same_address c.args.run.first c.args.first (omega arith) (omega arith)) ∙ sym c.eq.ensures ∙ c.if-eq.true in
     let e = eqb-true (value_of c.args.run.first) v same in
-    (c.requires.0, subst (λ (x : ℕ). Cut c.args.records.now x c.args.run.under) (e ∙ sym (end_is v c.requires.1)) c.requires.3.cut)
+    subst (λ (x : ℕ). Cut c.args.self.records.now x c.args.run.under) (e ∙ sym (end_is v c.requires.0)) c.requires.2.cut
 
 pub returns-then-eq : goal.returns-then-eq
 returns-then-eq c =
-    subst (λ (e : ℕ). RunBelow c.args.records.now c.args.given e c.run_below.result) (end_is (value_of c.args.first) c.requires.1) c.run_below.ensures
+    subst (λ (e : ℕ). RunBelow c.args.self.records.now c.args.self.given e c.run_below.result) (end_is (value_of c.args.first) c.requires.0) c.run_below.ensures

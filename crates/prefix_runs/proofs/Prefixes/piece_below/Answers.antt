@@ -7,23 +7,23 @@ use Rattle.prefix_runs.specs.models.Runs.{Cut}
 use Rattle.prefix_runs.specs.models.Pieces.{top, Joined}
 use Rattle.prefix_runs.proofs.EndLaws.{address_below}
 use Rattle.prefix_runs.proofs.PieceLaws.{piece-length, first_gap, record-piece, gap-piece}
-use Rattle.prefix_runs.proofs.piece_below.Goals as goal
+use Rattle.prefix_runs.proofs.Prefixes.piece_below.Goals as goal
 
 pub returns-then-under-eq0 : goal.returns-then-under-eq0
-returns-then-under-eq0 c = first_gap c.args.records.now c.args.given (value_of c.args.end) (subst (Cut _ _) c.if-under-eq0.true c.requires.1)
+returns-then-under-eq0 c = first_gap c.args.self.records.now c.args.self.given (value_of c.args.end) (subst (Cut _ _) c.if-under-eq0.true c.requires)
 
 pub behind-past-requires : goal.behind-past-requires
 behind-past-requires c =
     let j = c.args.under - 1 in
-    omega (arith, c.requires.0.short j (omega (arith, c.requires.1.some)), piece-length c.args.records.now j)
+    omega (arith, c.args.self.rising.short j (omega (arith, c.requires.some)), piece-length c.args.self.records.now j)
 
 pub returns-then-eq : goal.returns-then-eq
 returns-then-eq c =
     let j = c.args.under - 1 in
     let s : c.args.under ≡ suc j = omega arith in
-    let cut = subst (Cut c.args.records.now (top (value_of c.args.end))) s c.requires.1 in
+    let cut = subst (Cut c.args.self.records.now (top (value_of c.args.end))) s c.requires in
     let same = sym (same_address c.behind-past.result c.args.end (omega arith) (omega arith)) ∙ sym c.eq.ensures ∙ c.if-eq.true in
-    record-piece c.args.records.now c.args.given (value_of c.args.end) c.requires.0 j cut _ _ c.address_at-first.ensures c.behind-past.ensures _
+    record-piece c.args.self.records.now c.args.self.given (value_of c.args.end) c.args.self.rising j cut _ _ c.address_at-first.ensures c.behind-past.ensures _
     (eqb-true _ _ same)
     c.number_at.ensures
 
@@ -32,9 +32,9 @@ returns c =
     let j = c.args.under - 1 in
     let u = value_of c.args.end in
     let s : c.args.under ≡ suc j = omega arith in
-    let cut = subst (Cut c.args.records.now (top u)) s c.requires.1 in
+    let cut = subst (Cut c.args.self.records.now (top u)) s c.requires in
     let same = sym (same_address c.behind-past.result c.args.end (omega arith) (omega arith)) ∙ sym c.eq.ensures ∙ c.if-eq.false in
-    subst (λ (n : ℕ). Joined c.args.records.now c.args.given (top u) (record { first = c.behind-past.result; number = c.args.given; under = n })) (sym s)
-    (gap-piece c.args.records.now c.args.given u c.requires.0 j cut _ c.behind-past.result c.address_at-first.ensures c.behind-past.ensures
+    subst (λ (n : ℕ). Joined c.args.self.records.now c.args.self.given (top u) (record { first = c.behind-past.result; number = c.args.self.given; under = n })) (sym s)
+    (gap-piece c.args.self.records.now c.args.self.given u c.args.self.rising j cut _ c.behind-past.result c.address_at-first.ensures c.behind-past.ensures
     (address_below c.args.end (omega arith) (omega arith))
     (eqb-false _ _ same))
