@@ -10,7 +10,6 @@
 ghost use Rattle.std.specs.Prelude.{◌≡◌, ℕ, ◌≤◌, length, get_or};
 ghost use Rattle.prefix_records.specs.models.Cursor.{value_of};
 ghost use Rattle.prefix_lists.specs.Judged.{Listed};
-ghost use Rattle.prefix_lists.specs.models.Listed.{Number, Rising};
 ghost use Rattle.asmap_records.specs.Output.{Hands};
 ghost use Rattle.asmap_build.specs.Build.{tree_bits, build_as, build_of, build_at};
 ghost use Rattle.asmap_build.specs.Promise.{WritesMap};
@@ -19,6 +18,7 @@ ghost use Rattle.asmap_build.specs.models.Size.{Sized, WriteReady, Filled};
 use asmap_front_writer::Front;
 use asmap_program::{JUMP, RETURN};
 use prefix_records::Address;
+use prefix_runs::Prefixes;
 use refusals::{Fault, Refusal};
 use tree_turns::Turn;
 
@@ -29,7 +29,7 @@ const MAX_BITS: usize = 134217728;
 fn origin() -> Address
     ensures { value_of result ≡ 0 }
 {
-    Address { high: 0, low: 0 }
+    Address::ZERO
 }
 
 // No half is begun.
@@ -41,13 +41,13 @@ fn no_starts() -> [usize; 129]
 
 // One pass over the tree of the addresses of 128 bits, from its end to its start: how many bits the map has, none where it is over the limit. Without `writes` it only counts; with it, it writes the bits, of which
 // there are `total`.
-fn pass(records: &[u8], given: u32, out: &mut [u8], writes: bool, total: usize) -> Option<usize>
-    requires { Rising 128 records.now × Number given × WriteReady writes total (tree_bits records.now given 128) out.old }
-    ensures { Sized (tree_bits records.now given 128) result
-        × Filled writes (tree_bits records.now given 128) out.old out.new }
+fn pass(prefixes: Prefixes, out: &mut [u8], writes: bool, total: usize) -> Option<usize>
+    requires { WriteReady writes total (tree_bits prefixes.records.now prefixes.given 128) out.old }
+    ensures { Sized (tree_bits prefixes.entry.records.now prefixes.entry.given 128) result
+        × Filled writes (tree_bits prefixes.entry.records.now prefixes.entry.given 128) out.old out.new }
 {
     let mut starts = no_starts();
-    let mut run = prefix_runs::last_run(records, given);
+    let mut run = prefixes.last_run();
     let mut first = origin();
     let mut depth: usize = 0;
     let mut todo: usize = 1;
@@ -80,7 +80,7 @@ fn pass(records: &[u8], given: u32, out: &mut [u8], writes: bool, total: usize) 
             }
             Turn::Crosses => {
                 starts[depth] = front.done;
-                run = prefix_runs::run_before(records, given, first, run);
+                run = prefixes.run_before(first, run);
                 first = tree_turns::zero_half(first, depth);
                 todo = 1;
             }
@@ -90,18 +90,17 @@ fn pass(records: &[u8], given: u32, out: &mut [u8], writes: bool, total: usize) 
 }
 
 // The map of a list that is not refused, counted and then written.
-fn build_listed(records: &[u8], given: u32, out: &mut [u8]) -> Result<usize, Refusal>
-    requires { Rising 128 records.now × Number given }
-    ensures { Hands (build_as (tree_bits records.now given 128) Listed) out.old out.new result }
+fn build_listed(prefixes: Prefixes, out: &mut [u8]) -> Result<usize, Refusal>
+    ensures { Hands (build_as (tree_bits prefixes.entry.records.now prefixes.entry.given 128) Listed) out.old out.new result }
 {
-    let Some(total) = pass(records, given, out, false, 0) else {
+    let Some(total) = pass(prefixes, out, false, 0) else {
         return Err(Refusal::Map(Fault::MapTooLong));
     };
     let bytes = (total + 7) / 8;
     if out.len() < bytes {
         return Err(Refusal::OutputTooShort);
     }
-    pass(records, given, out, true, total);
+    pass(prefixes, out, true, total);
     Ok(bytes)
 }
 
@@ -112,7 +111,7 @@ fn build_over(records: &[u8], given: u32, bits: u8, out: &mut [u8]) -> Result<us
     ensures builds { WritesMap records.now given bits out.new result }
 {
     prefix_lists::judge_list(records, given, bits)?;
-    build_listed(records, given, out)
+    build_listed(Prefixes { records, given }, out)
 }
 
 // Builds the map of a list of prefixes, records of 24 bytes that rise and do not overlap, with a number for all other addresses, at a width. Refusals:

@@ -14,18 +14,18 @@ unwritten : {bits o o' : List ℕ} {r : Result ℕ Refusal} → Filled false bit
 unwritten {bits} {o} {o'} {r} f h = subst (λ (x : List ℕ). Hands (made bits o) o x r) (sym (f.idle refl)) h
 
 pub returns-in_default : goal.returns-in_default
-returns-in_default c = unwritten c.in_default.ensures.1 (hands_over (tree_bits c.args.records.now c.args.given 128) c.args.out.now c.in_default.ensures.0)
+returns-in_default c = unwritten c.in_default.ensures.1 (hands_over (tree_bits c.args.prefixes.records.now c.args.prefixes.given 128) c.args.out.now c.in_default.ensures.0)
 
 pub returns-then-out-bytes : goal.returns-then-out-bytes
 returns-then-out-bytes c =
     let k = c.in-Some.ensures.0 in
     let l = ap length (c.in-Some.ensures.1.idle refl) in
     unwritten c.in-Some.ensures.1
-    (hands_no_room (tree_bits c.args.records.now c.args.given 128) c.args.out.now _ k.1 (ap (λ (x : ℕ). (x + 7) / 8) k.0) (omega (arith, c.if-out-bytes.true, l)))
+    (hands_no_room (tree_bits c.args.prefixes.records.now c.args.prefixes.given 128) c.args.out.now _ k.1 (ap (λ (x : ℕ). (x + 7) / 8) k.0) (omega (arith, c.if-out-bytes.true, l)))
 
 pub returns : goal.returns
 returns c =
-    let bits = tree_bits c.args.records.now c.args.given 128 in
+    let bits = tree_bits c.args.prefixes.records.now c.args.prefixes.given 128 in
     let k = c.in-Some.ensures.0 in
     let e = c.in-Some.ensures.1.idle refl in
     let l = ap length e in
