@@ -3,15 +3,12 @@
 use mathlib.Core.Path.{◌≡◌, refl}
 use mathlib.Core.List.{List}
 use Prim.Native.Nat.{ℕ, ◌≤◌}
-use native.Mathlib.Omega.{arith}
 use borrow.Author.Tests.{le-ltb}
 use lib.ListN.{length}
 use Rattle.asmap_check.specs.Check.{check_of}
 use Rattle.asmap_check.proofs.Limit.{accepted_within}
 use Rattle.peer_lists.proofs.Refusals.{number_not_none, none_more}
-use Rattle.netgroup.specs.declared.Grouping.{Grouping}
-use Rattle.netgroup.specs.declared.Grouping.TheVariants.{Prefixes, OldPrefixes, Map}
-use Rattle.netgroup.specs.Group.{Numbering, by_map, by_prefixes, by_old_prefixes, numbering}
+use Rattle.netgroup.specs.Group.{Numbering, by_map, by_prefixes, by_old_prefixes}
 use Rattle.netgroup.specs.Refusal.{verdict_refusal, limit_refusal, check_refusal}
 use Rattle.asmap_program.specs.Verdict.{Accepted, Verdict}
 use Rattle.std.specs.Prelude.{Err, None, Ok}
@@ -19,10 +16,8 @@ use Rattle.refusals.specs.declared.Fault.TheVariants as fault
 use Rattle.refusals.specs.declared.Refusal.TheVariants as refusal
 
 -- a map that is not refused for its length
-pub none-limit : (g : Grouping) (m : List ℕ) → g ≡ Map → limit_refusal (numbering g m) ≡ None → length m ≤ 16777216
-none-limit Map m e h = none_more 16777216 (length m) (refusal.Map fault.MapTooLong) h
-none-limit Prefixes m e h = let z : ◌≡◌ {A = ℕ} 0 1 = cc in absurd (omega arith)
-none-limit OldPrefixes m e h = let z : ◌≡◌ {A = ℕ} 0 1 = cc in absurd (omega arith)
+pub none-limit : (m : List ℕ) → limit_refusal (by_map m) ≡ None → length m ≤ 16777216
+none-limit m h = none_more 16777216 (length m) (refusal.Map fault.MapTooLong) h
 
 -- a map that the check does not refuse is accepted
 pub record Passes (m : List ℕ) : Type 0 where

@@ -14,11 +14,11 @@ pub data Numbering : Type 0 where
   by_prefixes : Numbering
   by_old_prefixes : Numbering
 
--- how a call says which: without a map, what stands in the map's place is not looked at
-abbrev pub numbering : Grouping → List ℕ → Numbering
-numbering Prefixes m = by_prefixes
-numbering OldPrefixes m = by_old_prefixes
-numbering Map m = by_map m
+-- how a call says which
+abbrev pub numbering : Grouping → Numbering
+numbering Prefixes = by_prefixes
+numbering OldPrefixes = by_old_prefixes
+numbering (Map m) = by_map m.now
 
 -- an IPv4 address's first two bytes, which in the mapped form are bytes 12 and 13 of the address
 abbrev pub prefix4 : List ℕ → ℕ

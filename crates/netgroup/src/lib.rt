@@ -5,20 +5,20 @@ ghost use Rattle.std.specs.Prelude.{◌≡◌, ◌+◌, ◌*◌, ◌≤◌, ◌<
 ghost use Rattle.candidate_bytes.specs.Candidate.{family, mapped};
 ghost use Rattle.asmap_program.specs.Map.{limit};
 ghost use Rattle.netgroup.specs.Group.{numbering, prefix4, prefix6, walk_for, grouped_of};
-ghost use Rattle.netgroup.specs.models.Which.{is_map, is_old, by_numbers};
+ghost use Rattle.netgroup.specs.models.Which.{by_numbers};
 ghost use Rattle.netgroup.specs.Refusal.{limit_refusal, check_refusal};
 ghost use Rattle.netgroup.specs.Netgroup.{prefix_group_call, netgroup_of, netgroup_unchecked, Whole};
 
 use asmap_program::MAX_MAP_BYTES;
 use refusals::{Fault, Refusal};
 
-// What numbers the groups: the prefixes of the addresses, or the map that is given beside. `OldPrefixes` are the prefixes as document 01
-// numbers them, for callers who keep such groups. Without `Map` the map is not looked at and may have any length.
+// What numbers the groups: the prefixes of the addresses, or a map. `OldPrefixes` are the prefixes as document 01 numbers them, for callers
+// who keep such groups.
 #[derive(Clone, Copy)]
-pub enum Grouping {
+pub enum Grouping<'a> {
     Prefixes,
     OldPrefixes,
-    Map,
+    Map(&'a [u8]),
 }
 
 // The first group of IPv4, that of 0.0.0.0/16: one past the greatest of IPv6.
@@ -31,19 +31,12 @@ pub struct Grouped {
     pub count: u32,
 }
 
-// A byte as a number, so that a product with it fits.
-fn wide(x: u8) -> u64
-    ensures { (result ≡ x) × (result < 256) }
-{
-    x as u64
-}
-
 // The first two bytes of an IPv4 address, IPv4 /16.
 fn ipv4_prefix(candidate: &[u8]) -> u64
     requires { length candidate.now ≡ 20 }
     ensures { (result ≡ prefix4 candidate.now) × (result < 65536) }
 {
-    256 * wide(candidate[14]) + wide(candidate[15])
+    u16::from_be_bytes([candidate[14], candidate[15]]) as u64
 }
 
 // The first four bytes of an IPv6 address, IPv6 /32.
@@ -51,10 +44,7 @@ fn ipv6_prefix(candidate: &[u8]) -> u64
     requires { length candidate.now ≡ 20 }
     ensures { result ≡ prefix6 candidate.now }
 {
-    // Bytes in order in one expression: the compiler makes one load of them, and does not where they are arguments of a call.
-    let high = 256 * wide(candidate[2]) + wide(candidate[3]);
-    let low = 256 * wide(candidate[4]) + wide(candidate[5]);
-    65536 * high + low
+    u32::from_be_bytes([candidate[2], candidate[3], candidate[4], candidate[5]]) as u64
 }
 
 // Whether a candidate goes by the rule for IPv4: of family 4, and in the new numbering mapped too.
@@ -90,28 +80,6 @@ fn prefix_number(candidate: &[u8], old: bool) -> u64
     ipv6_prefix(candidate)
 }
 
-// Whether groups go by the map.
-fn is_map(grouping: Grouping) -> bool
-    ensures { result ≡ is_map grouping }
-{
-    match grouping {
-        Grouping::Prefixes => false,
-        Grouping::OldPrefixes => false,
-        Grouping::Map => true,
-    }
-}
-
-// Whether they go by the old numbering.
-fn is_old(grouping: Grouping) -> bool
-    ensures { result ≡ is_old grouping }
-{
-    match grouping {
-        Grouping::Prefixes => false,
-        Grouping::OldPrefixes => true,
-        Grouping::Map => false,
-    }
-}
-
 // The group of a candidate by a map within the limit, with the walk's count.
 fn walked_group(candidate: &[u8], map: &[u8]) -> Grouped
     requires { (length candidate.now ≡ 20) × (length map.now ≤ limit) }
@@ -129,39 +97,37 @@ fn walked_group(candidate: &[u8], map: &[u8]) -> Grouped
 }
 
 // The group of a candidate, for callers who have seen to the refusals: the calls below, and the pick.
-pub fn group_of(candidate: &[u8], grouping: Grouping, map: &[u8]) -> Grouped
-    requires { (length candidate.now ≡ 20) × (limit_refusal (numbering grouping map.now) ≡ None) }
-    ensures { result ≡ grouped_of (numbering grouping map.now) candidate.now }
+pub fn group_of(candidate: &[u8], grouping: Grouping<'_>) -> Grouped
+    requires { (length candidate.now ≡ 20) × (limit_refusal (numbering grouping) ≡ None) }
+    ensures { result ≡ grouped_of (numbering grouping.entry) candidate.now }
 {
-    if is_map(grouping) {
+    if let Grouping::Map(map) = grouping {
         return walked_group(candidate, map);
     }
+    let old = matches!(grouping, Grouping::OldPrefixes);
     Grouped {
-        group: prefix_number(candidate, is_old(grouping)),
+        group: prefix_number(candidate, old),
         count: 0,
     }
 }
 
 // Why a map that is taken as it is is refused: 1 over the limit, as the walk refuses it.
-pub fn limit_refusal(grouping: Grouping, map: &[u8]) -> Option<Refusal>
-    ensures { result ≡ limit_refusal (numbering grouping map.now) }
+pub fn limit_refusal(grouping: Grouping<'_>) -> Option<Refusal>
+    ensures { result ≡ limit_refusal (numbering grouping.entry) }
 {
-    if !is_map(grouping) {
-        return None;
+    match grouping {
+        Grouping::Map(map) if MAX_MAP_BYTES < map.len() => Some(Refusal::Map(Fault::MapTooLong)),
+        _ => None,
     }
-    if MAX_MAP_BYTES < map.len() {
-        return Some(Refusal::Map(Fault::MapTooLong));
-    }
-    None
 }
 
 // Why the check refuses the map of a call: 1 to 10 or 19. It reads the whole map.
-pub fn check_refusal(grouping: Grouping, map: &[u8]) -> Option<Refusal>
-    ensures { result ≡ check_refusal (numbering grouping map.now) }
+pub fn check_refusal(grouping: Grouping<'_>) -> Option<Refusal>
+    ensures { result ≡ check_refusal (numbering grouping.entry) }
 {
-    if !is_map(grouping) {
+    let Grouping::Map(map) = grouping else {
         return None;
-    }
+    };
     match asmap_check::sanity_check(map) {
         Ok(_) => None,
         Err(fault) => Some(Refusal::Map(fault)),
@@ -179,31 +145,31 @@ pub fn prefix_group(candidate: &[u8]) -> Result<u64, Refusal>
 }
 
 // The group of one candidate over a map taken as it is, for callers who checked it when they loaded it. Refusals 13, 1.
-pub fn netgroup_unchecked(candidate: &[u8], grouping: Grouping, map: &[u8]) -> Result<u64, Refusal>
-    ensures value { result ≡ netgroup_unchecked (numbering grouping map.now) candidate.now }
-    ensures unaborted { check_refusal (numbering grouping map.now) ≡ None → Whole (numbering grouping map.now) candidate.now result }
+pub fn netgroup_unchecked(candidate: &[u8], grouping: Grouping<'_>) -> Result<u64, Refusal>
+    ensures value { result ≡ netgroup_unchecked (numbering grouping.entry) candidate.now }
+    ensures unaborted { check_refusal (numbering grouping.entry) ≡ None → Whole (numbering grouping.entry) candidate.now result }
 {
     if !candidate_bytes::is_candidate(candidate) {
         return Err(Refusal::Candidate);
     }
-    if let Some(refusal) = limit_refusal(grouping, map) {
+    if let Some(refusal) = limit_refusal(grouping) {
         return Err(refusal);
     }
-    let grouped = group_of(candidate, grouping, map);
+    let grouped = group_of(candidate, grouping);
     Ok(grouped.group)
 }
 
 // The group of one candidate, with a map or none. Refusals 13, then with a map the check's, 1 to 10 and 19.
-pub fn netgroup(candidate: &[u8], grouping: Grouping, map: &[u8]) -> Result<u64, Refusal>
-    ensures value { result ≡ netgroup_of (numbering grouping map.now) candidate.now }
-    ensures unaborted { Whole (numbering grouping map.now) candidate.now result }
+pub fn netgroup(candidate: &[u8], grouping: Grouping<'_>) -> Result<u64, Refusal>
+    ensures value { result ≡ netgroup_of (numbering grouping.entry) candidate.now }
+    ensures unaborted { Whole (numbering grouping.entry) candidate.now result }
 {
     if !candidate_bytes::is_candidate(candidate) {
         return Err(Refusal::Candidate);
     }
-    if let Some(refusal) = check_refusal(grouping, map) {
+    if let Some(refusal) = check_refusal(grouping) {
         return Err(refusal);
     }
-    let grouped = group_of(candidate, grouping, map);
+    let grouped = group_of(candidate, grouping);
     Ok(grouped.group)
 }

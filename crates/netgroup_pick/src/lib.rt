@@ -23,21 +23,12 @@ pub struct Totals {
     pub instructions: u64,
 }
 
-fn smaller(a: usize, b: usize) -> usize
-    ensures { result ≡ min a b }
-{
-    if a < b { a } else { b }
-}
-
 // Why the outputs are refused: 14 where one has fewer than min(max, candidates) places.
 fn room_refusal(count: usize, max: usize, picks: &[u16], groups: &[u64]) -> Option<Refusal>
     ensures { result ≡ room_refusal count max picks.now groups.now }
 {
-    let need = smaller(max, count);
-    if picks.len() < need {
-        return Some(Refusal::OutputTooShort);
-    }
-    if groups.len() < need {
+    let need = max.min(count);
+    if picks.len() < need || groups.len() < need {
         return Some(Refusal::OutputTooShort);
     }
     None
@@ -48,17 +39,16 @@ fn pick_refusal(
     candidates: &[u8],
     occupied: &[u64],
     max: usize,
-    grouping: Grouping,
-    map: &[u8],
+    grouping: Grouping<'_>,
     picks: &[u16],
     groups: &[u64],
 ) -> Option<Refusal>
-    ensures { result ≡ pick_refusal (limit_refusal (numbering grouping map.now)) candidates.now occupied.now max picks.now groups.now }
+    ensures { result ≡ pick_refusal (limit_refusal (numbering grouping.entry)) candidates.now occupied.now max picks.now groups.now }
 {
     if let Some(refusal) = list_refusal(candidates, occupied) {
         return Some(refusal);
     }
-    if let Some(refusal) = netgroup::limit_refusal(grouping, map) {
+    if let Some(refusal) = netgroup::limit_refusal(grouping) {
         return Some(refusal);
     }
     room_refusal(candidates.len() / 20, max, picks, groups)
@@ -70,23 +60,21 @@ pub fn select_diverse_unchecked(
     candidates: &[u8],
     occupied: &[u64],
     max: usize,
-    grouping: Grouping,
-    map: &[u8],
+    grouping: Grouping<'_>,
     picks: &mut [u16],
     groups: &mut [u64],
 ) -> Result<Totals, Refusal>
-    ensures groups_after { handed result picks.new groups.new ≡ select_unchecked (numbering grouping map.now) candidates.now occupied.now max picks.old groups.old }
-    ensures demand3 { Demand3 (numbering grouping map.now) (candidates_of candidates.now) occupied.now max result picks.new groups.new }
-    ensures unaborted { check_refusal (numbering grouping map.now) ≡ None → Unaborted (numbering grouping map.now) (candidates_of candidates.now) result }
+    ensures groups_after { handed result picks.new groups.new ≡ select_unchecked (numbering grouping.entry) candidates.now occupied.now max picks.old groups.old }
+    ensures demand3 { Demand3 (numbering grouping.entry) (candidates_of candidates.now) occupied.now max result picks.new groups.new }
+    ensures unaborted { check_refusal (numbering grouping.entry) ≡ None → Unaborted (numbering grouping.entry) (candidates_of candidates.now) result }
 {
-    let why = pick_refusal(candidates, occupied, max, grouping, map, picks, groups);
-    if let Some(number) = why {
-        return Err(number);
+    if let Some(refusal) = pick_refusal(candidates, occupied, max, grouping, picks, groups) {
+        return Err(refusal);
     }
-    let first = pick_passes::marked_pass(candidates, occupied, max, grouping, map, picks, groups);
+    let first = pick_passes::marked_pass(candidates, occupied, max, grouping, picks, groups);
     let total = pick_passes::fill_rest(candidates, max, first.taken, picks);
     Ok(Totals {
-        total: total,
+        total,
         first: first.taken,
         examined: first.examined,
         instructions: first.instructions,
@@ -98,24 +86,21 @@ pub fn select_diverse(
     candidates: &[u8],
     occupied: &[u64],
     max: usize,
-    grouping: Grouping,
-    map: &[u8],
+    grouping: Grouping<'_>,
     picks: &mut [u16],
     groups: &mut [u64],
 ) -> Result<Totals, Refusal>
-    ensures groups_after { handed result picks.new groups.new ≡ select_diverse (numbering grouping map.now) candidates.now occupied.now max picks.old groups.old }
-    ensures demand3 { Demand3 (numbering grouping map.now) (candidates_of candidates.now) occupied.now max result picks.new groups.new }
-    ensures unaborted { Unaborted (numbering grouping map.now) (candidates_of candidates.now) result }
+    ensures groups_after { handed result picks.new groups.new ≡ select_diverse (numbering grouping.entry) candidates.now occupied.now max picks.old groups.old }
+    ensures demand3 { Demand3 (numbering grouping.entry) (candidates_of candidates.now) occupied.now max result picks.new groups.new }
+    ensures unaborted { Unaborted (numbering grouping.entry) (candidates_of candidates.now) result }
 {
-    let listed = list_refusal(candidates, occupied);
-    if let Some(number) = listed {
-        return Err(number);
+    if let Some(refusal) = list_refusal(candidates, occupied) {
+        return Err(refusal);
     }
-    let checked = netgroup::check_refusal(grouping, map);
-    if let Some(number) = checked {
-        return Err(number);
+    if let Some(refusal) = netgroup::check_refusal(grouping) {
+        return Err(refusal);
     }
-    select_diverse_unchecked(candidates, occupied, max, grouping, map, picks, groups)
+    select_diverse_unchecked(candidates, occupied, max, grouping, picks, groups)
 }
 
 // The pick without a map in the old numbering, for callers who keep such groups. Refusals 13, 12, 13, 14 in this order; a refusal writes nothing.
@@ -129,13 +114,11 @@ pub fn old_prefix_pick(
     ensures groups_after { handed result picks.new groups.new ≡ old_prefix_pick candidates.now occupied.now max picks.old groups.old }
     ensures demand3 { Demand3 by_old_prefixes (candidates_of candidates.now) occupied.now max result picks.new groups.new }
 {
-    let no_map = [0u8; 1];
     select_diverse_unchecked(
         candidates,
         occupied,
         max,
         Grouping::OldPrefixes,
-        &no_map[..0],
         picks,
         groups,
     )

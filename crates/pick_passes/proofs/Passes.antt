@@ -1,6 +1,6 @@
 -- The first pass where the loop stands: what one candidate more does, and when it is over.
 -- Assumes nothing.
-use mathlib.Core.Path.{◌≡◌, ◌∙◌, refl, sym, ap}
+use mathlib.Core.Path.{◌≡◌, ◌∙◌, refl, sym, ap, subst}
 use mathlib.Core.List.{List, [], ◌∷◌, ◌++◌}
 use mathlib.Core.Bool.{Bool, true, false, cond}
 use Prim.Native.Nat.{ℕ, ◌+◌, ◌*◌, ◌≤◌, ◌<◌}
@@ -176,6 +176,8 @@ module _ (occupied : List ℕ) (max : ℕ) (gs counts picks₀ groups₀ : List 
         → Passed (first_pass occupied max gs) (sum (take (first_pass occupied max gs).examined counts)) picks₀ groups₀ (record { taken = taken; examined = i; instructions = instructions }) picks groups
     passing_full h = over (s.rest ∙ pass_full occupied max (passed picks groups taken i) (drop i gs) (omega (arith, length-take-le taken groups s.fit_groups)))
 
-    pub passing_done : length gs ≤ i
-        → Passed (first_pass occupied max gs) (sum (take (first_pass occupied max gs).examined counts)) picks₀ groups₀ (record { taken = taken; examined = i; instructions = instructions }) picks groups
-    passing_done h = over (s.rest ∙ pass-done occupied max (passed picks groups taken i) gs i h)
+    pub passing_done : (n : ℕ) → i ≡ n → length gs ≤ i
+        → Passed (first_pass occupied max gs) (sum (take (first_pass occupied max gs).examined counts)) picks₀ groups₀ (record { taken = taken; examined = n; instructions = instructions }) picks groups
+    passing_done n e h =
+        subst (λ (x : ℕ). Passed (first_pass occupied max gs) (sum (take (first_pass occupied max gs).examined counts)) picks₀ groups₀ (record { taken = taken; examined = x; instructions = instructions }) picks groups) e
+        (over (s.rest ∙ pass-done occupied max (passed picks groups taken i) gs i h))

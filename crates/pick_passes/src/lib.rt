@@ -26,13 +26,11 @@ fn is_picked(candidates: &[u8], i: usize, picks: &[u16]) -> bool
     requires { (i < length candidates.now / 20) × (Places (length candidates.now / 20) picks.now) }
     ensures { result ≡ picked (candidates_of candidates.now) picks.now (get_or (candidates_of candidates.now) i []) }
 {
-    let mut j: usize = 0;
-    while j < picks.len() {
-        let p = picks[j] as usize;
-        if candidate_bytes::same_bytes(candidate_at(candidates, p), candidate_at(candidates, i)) {
+    let candidate = candidate_at(candidates, i);
+    for &pick in picks {
+        if candidate_bytes::same_bytes(candidate_at(candidates, pick as usize), candidate) {
             return true;
         }
-        j += 1;
     }
     false
 }
@@ -44,37 +42,38 @@ fn first_pass(
     marks: &mut [u16],
     links: &mut [u16],
     max: usize,
-    grouping: Grouping,
-    map: &[u8],
+    grouping: Grouping<'_>,
     picks: &mut [u16],
     groups: &mut [u64],
 ) -> First
-    requires { (Ready (numbering grouping map.now) candidates.now occupied.now max picks.old groups.old) × (Linked occupied.now marks.old links.old) × (length occupied.now + 4096 ≤ length links.old) }
-    ensures { PassedFirst (numbering grouping map.now) (candidates_of candidates.now) occupied.now max picks.old groups.old result picks.new groups.new }
+    requires { (Ready (numbering grouping) candidates.now occupied.now max picks.old groups.old) × (Linked occupied.now marks.old links.old) × (length occupied.now + 4096 ≤ length links.old) }
+    ensures { PassedFirst (numbering grouping.entry) (candidates_of candidates.now) occupied.now max picks.old groups.old result picks.new groups.new }
 {
     let n = candidates.len() / 20;
     let mut taken: usize = 0;
     let mut instructions: u64 = 0;
-    let mut i: usize = 0;
-    while i < n {
+    for i in 0..n {
         if max <= taken {
-            break;
+            return First {
+                taken,
+                examined: i,
+                instructions,
+            };
         }
-        let g = netgroup::group_of(candidate_at(candidates, i), grouping, map);
-        let group = g.group;
-        instructions += g.count as u64;
+        let found = netgroup::group_of(candidate_at(candidates, i), grouping);
+        let group = found.group;
+        instructions += found.count as u64;
         if free_groups::is_free(group, occupied, &groups[..taken], marks, links) {
             free_groups::mark(group, occupied.len() + taken, marks, links);
             picks[taken] = i as u16;
             groups[taken] = group;
             taken += 1;
         }
-        i += 1;
     }
     First {
-        taken: taken,
-        examined: i,
-        instructions: instructions,
+        taken,
+        examined: n,
+        instructions,
     }
 }
 
@@ -83,19 +82,18 @@ pub fn marked_pass(
     candidates: &[u8],
     occupied: &[u64],
     max: usize,
-    grouping: Grouping,
-    map: &[u8],
+    grouping: Grouping<'_>,
     picks: &mut [u16],
     groups: &mut [u64],
 ) -> First
-    requires { Ready (numbering grouping map.now) candidates.now occupied.now max picks.old groups.old }
-    ensures { PassedFirst (numbering grouping map.now) (candidates_of candidates.now) occupied.now max picks.old groups.old result picks.new groups.new }
+    requires { Ready (numbering grouping) candidates.now occupied.now max picks.old groups.old }
+    ensures { PassedFirst (numbering grouping.entry) (candidates_of candidates.now) occupied.now max picks.old groups.old result picks.new groups.new }
 {
     let mut marks = free_groups::no_marks();
     let mut links = free_groups::no_links();
     free_groups::mark_groups(occupied, &mut marks, &mut links);
     first_pass(
-        candidates, occupied, &mut marks, &mut links, max, grouping, map, picks, groups,
+        candidates, occupied, &mut marks, &mut links, max, grouping, picks, groups,
     )
 }
 
@@ -106,8 +104,7 @@ pub fn fill_rest(candidates: &[u8], max: usize, taken: usize, picks: &mut [u16])
 {
     let n = candidates.len() / 20;
     let mut total = taken;
-    let mut i: usize = 0;
-    while i < n {
+    for i in 0..n {
         if max <= total {
             break;
         }
@@ -115,7 +112,6 @@ pub fn fill_rest(candidates: &[u8], max: usize, taken: usize, picks: &mut [u16])
             picks[total] = i as u16;
             total += 1;
         }
-        i += 1;
     }
     total
 }

@@ -32,21 +32,17 @@ fn no_groups() -> [u64; 4096]
 fn candidates_refusal(candidates: &[u8]) -> Option<Refusal>
     ensures { result ≡ list_refusal candidates.now [] }
 {
-    let occupied = [0u64; 1];
-    peer_lists::list_refusal(candidates, &occupied[..0])
+    peer_lists::list_refusal(candidates, &[])
 }
 
 // The groups of candidates, in their order, at the front of a room for them.
-fn find_groups(candidates: &[u8], grouping: Grouping, map: &[u8], groups: &mut [u64])
-    requires { (length candidates.now / 20 ≤ length groups.old) × (limit_refusal (numbering grouping map.now) ≡ None) }
-    ensures { take (length candidates.now / 20) groups.new ≡ groups_of (numbering grouping map.now) (candidates_of candidates.now) }
+fn find_groups(candidates: &[u8], grouping: Grouping<'_>, groups: &mut [u64])
+    requires { (length candidates.now / 20 ≤ length groups.old) × (limit_refusal (numbering grouping) ≡ None) }
+    ensures { take (length candidates.now / 20) groups.new ≡ groups_of (numbering grouping.entry) (candidates_of candidates.now) }
 {
     let n = candidates.len() / 20;
-    let mut i: usize = 0;
-    while i < n {
-        let found = netgroup::group_of(candidate_at(candidates, i), grouping, map);
-        groups[i] = found.group;
-        i += 1;
+    for i in 0..n {
+        groups[i] = netgroup::group_of(candidate_at(candidates, i), grouping).group;
     }
 }
 
@@ -73,19 +69,14 @@ fn sort_page(groups: &mut [u64], spare: &mut [u64], out: &mut [u8]) -> Result<us
 }
 
 // The page of candidates that are not refused, with a map that is within the limit. Refusal 14.
-fn make_page(
-    candidates: &[u8],
-    grouping: Grouping,
-    map: &[u8],
-    out: &mut [u8],
-) -> Result<usize, Refusal>
-    requires { (length candidates.now / 20 ≤ 4096) × (limit_refusal (numbering grouping map.now) ≡ None) }
-    ensures { Hands (Making.Made (page_of (groups_of (numbering grouping map.now) (candidates_of candidates.now)))) out.old out.new result }
+fn make_page(candidates: &[u8], grouping: Grouping<'_>, out: &mut [u8]) -> Result<usize, Refusal>
+    requires { (length candidates.now / 20 ≤ 4096) × (limit_refusal (numbering grouping) ≡ None) }
+    ensures { Hands (Making.Made (page_of (groups_of (numbering grouping.entry) (candidates_of candidates.now)))) out.old out.new result }
 {
     let mut groups = no_groups();
     let mut spare = no_groups();
     let n = candidates.len() / 20;
-    find_groups(candidates, grouping, map, &mut groups);
+    find_groups(candidates, grouping, &mut groups);
     sort_page(&mut groups[..n], &mut spare, out)
 }
 
@@ -93,42 +84,36 @@ fn make_page(
 // writes nothing. Of a map that the check refuses a walk may abort: its candidate is counted for group 0 then.
 pub fn page_unchecked(
     candidates: &[u8],
-    grouping: Grouping,
-    map: &[u8],
+    grouping: Grouping<'_>,
     out: &mut [u8],
 ) -> Result<usize, Refusal>
-    ensures hands { Hands (spread_unchecked (numbering grouping map.now) candidates.now) out.old out.new result }
-    ensures told { Told (numbering grouping map.now) candidates.now result }
-    ensures unaborted { check_refusal (numbering grouping map.now) ≡ None → Unaborted (numbering grouping map.now) candidates.now result }
+    ensures hands { Hands (spread_unchecked (numbering grouping.entry) candidates.now) out.old out.new result }
+    ensures told { Told (numbering grouping.entry) candidates.now result }
+    ensures unaborted { check_refusal (numbering grouping.entry) ≡ None → Unaborted (numbering grouping.entry) candidates.now result }
 {
     if let Some(refusal) = candidates_refusal(candidates) {
         return Err(refusal);
     }
-    if let Some(refusal) = netgroup::limit_refusal(grouping, map) {
+    if let Some(refusal) = netgroup::limit_refusal(grouping) {
         return Err(refusal);
     }
-    make_page(candidates, grouping, map, out)
+    make_page(candidates, grouping, out)
 }
 
 // The page of a list of candidates, with a map or none: a line of 25 bytes for each group, groups rising. 25 bytes for each candidate are
 // always enough. Refusals 13, 12, 13, with a map the check's, 1 to 10 and 19, then 14; a refusal writes nothing.
-pub fn page(
-    candidates: &[u8],
-    grouping: Grouping,
-    map: &[u8],
-    out: &mut [u8],
-) -> Result<usize, Refusal>
-    ensures hands { Hands (spread_page (numbering grouping map.now) candidates.now) out.old out.new result }
-    ensures told { Told (numbering grouping map.now) candidates.now result }
-    ensures unaborted { Unaborted (numbering grouping map.now) candidates.now result }
+pub fn page(candidates: &[u8], grouping: Grouping<'_>, out: &mut [u8]) -> Result<usize, Refusal>
+    ensures hands { Hands (spread_page (numbering grouping.entry) candidates.now) out.old out.new result }
+    ensures told { Told (numbering grouping.entry) candidates.now result }
+    ensures unaborted { Unaborted (numbering grouping.entry) candidates.now result }
 {
     if let Some(refusal) = candidates_refusal(candidates) {
         return Err(refusal);
     }
-    if let Some(refusal) = netgroup::check_refusal(grouping, map) {
+    if let Some(refusal) = netgroup::check_refusal(grouping) {
         return Err(refusal);
     }
-    make_page(candidates, grouping, map, out)
+    make_page(candidates, grouping, out)
 }
 
 // The page without a map in the old numbering, for callers who keep such groups. Refusals 13, 12, 13, 14 in this order; a refusal writes nothing.
@@ -136,6 +121,5 @@ pub fn old_prefix_page(candidates: &[u8], out: &mut [u8]) -> Result<usize, Refus
     ensures hands { Hands (old_prefix_page candidates.now) out.old out.new result }
     ensures told { Told by_old_prefixes candidates.now result }
 {
-    let no_map = [0u8; 1];
-    page_unchecked(candidates, Grouping::OldPrefixes, &no_map[..0], out)
+    page_unchecked(candidates, Grouping::OldPrefixes, out)
 }

@@ -8,12 +8,12 @@ use Rattle.netgroup.proofs.netgroup.Goals as goal
 
 pub group_of-grouped-requires : goal.group_of-grouped-requires
 group_of-grouped-requires c =
-    let n = numbering c.args.grouping c.args.map.now in (
+    let n = numbering c.args.grouping in (
       valid-length c.args.candidate.now (sym c.is_candidate.ensures ∙ c.if-not-is_candidate.false),
       check_limit n (sym c.check_refusal.ensures ∙ c.in_default.is),
     )
 
 pub returns-clause-unaborted : goal.returns-clause-unaborted
 returns-clause-unaborted c =
-    let n = numbering c.args.grouping c.args.map.now in
+    let n = numbering c.args.grouping in
     ended n c.args.candidate.now (sym c.check_refusal.ensures ∙ c.in_default.is)

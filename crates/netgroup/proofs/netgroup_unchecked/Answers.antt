@@ -12,4 +12,4 @@ group_of-grouped-requires c = (
 )
 
 pub returns-clause-unaborted : goal.returns-clause-unaborted
-returns-clause-unaborted c = λ h. ended (numbering c.args.grouping c.args.map.now) c.args.candidate.now h
+returns-clause-unaborted c = λ h. ended (numbering c.args.grouping) c.args.candidate.now h

@@ -11,8 +11,8 @@ use Rattle.netgroup_pick.proofs.select_diverse_unchecked.Goals as goal
 pub fill_rest-total-requires : goal.fill_rest-total-requires
 fill_rest-total-requires c =
     let a = c.args in
-    let n = numbering a.grouping a.map.now in
-    let ready = none_ready n a.candidates.now a.occupied.now a.max a.picks.now a.groups.now (sym c.pick_refusal-why.ensures ∙ c.in_default.is) in
+    let n = numbering a.grouping in
+    let ready = none_ready n a.candidates.now a.occupied.now a.max a.picks.now a.groups.now (sym c.pick_refusal.ensures ∙ c.in_default.is) in
     let f = c.marked_pass-first in (
       ready.few,
       omega (arith, ready.room_picks, f.auto.picks),
@@ -23,19 +23,19 @@ fill_rest-total-requires c =
 pub returns-clause-groups_after : goal.returns-clause-groups_after
 returns-clause-groups_after c =
     let a = c.args in
-    let n = numbering a.grouping a.map.now in
+    let n = numbering a.grouping in
     let f = c.marked_pass-first in
     let r = c.fill_rest-total in
     picked-whole n a.candidates.now a.occupied.now a.max a.picks.now a.groups.now f.result _ _ f.ensures r.result _ r.ensures (limit_refusal n)
-    (sym c.pick_refusal-why.ensures ∙ c.in_default.is)
+    (sym c.pick_refusal.ensures ∙ c.in_default.is)
 
 pub returns-clause-demand3 : goal.returns-clause-demand3
 returns-clause-demand3 c =
     let a = c.args in
-    let n = numbering a.grouping a.map.now in
+    let n = numbering a.grouping in
     let f = c.marked_pass-first in
     let r = c.fill_rest-total in
     picked_demand n a.candidates.now a.occupied.now a.max a.picks.now a.groups.now f.result _ _ f.ensures r.result _ r.ensures
 
 pub returns-clause-unaborted : goal.returns-clause-unaborted
-returns-clause-unaborted c = λ h i k. ended (numbering c.args.grouping c.args.map.now) (get_or (candidates_of c.args.candidates.now) i []) h
+returns-clause-unaborted c = λ h i k. ended (numbering c.args.grouping) (get_or (candidates_of c.args.candidates.now) i []) h

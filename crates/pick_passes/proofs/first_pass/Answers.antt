@@ -1,5 +1,5 @@
 -- `first_pass` is the defined first pass: it stands where `Passing` says, and the used groups are linked.
-use Rattle.std.proofs.Common.{◌≡◌, ◌∙◌, ◌+◌, ◌<◌, refl, sym, ap, [], arith, length, get_or}
+use Rattle.std.proofs.Common.{◌≡◌, ◌∙◌, ◌+◌, ◌<◌, ◌/◌, refl, sym, ap, [], arith, length, get_or}
 use Rattle.netgroup.specs.declared.Grouped.{Grouped}
 use Rattle.netgroup.specs.Group.{numbering, grouped_of}
 use Rattle.peer_lists.specs.Candidates.{candidates_of}
@@ -15,12 +15,12 @@ pub loop-i-preserved : goal.loop-i-preserved
 loop-i-preserved c =
     let l = c.loop-i in
     let a = c.args in
-    let n = numbering a.grouping a.map.now in
+    let n = numbering a.grouping in
     let all = candidates_of a.candidates.now in
     let q = length_candidates a.candidates.now in
     let i : l.i < length all = omega arith in
-    let r = c.group_of-g.result in
-    let found : r ≡ grouped_of n (get_or all l.i []) = c.group_of-g.ensures ∙ ap (grouped_of n) c.candidate_at.ensures.0 in
+    let r = c.group_of-found.result in
+    let found : r ≡ grouped_of n (get_or all l.i []) = c.group_of-found.ensures ∙ ap (grouped_of n) c.candidate_at.ensures.0 in
     let same_group : r.group ≡ get_or (groups_of n all) l.i 0 = ap (λ (x : Grouped). x.group) found ∙ sym (group_at n all l.i i) in
     let same_count : r.count ≡ get_or (counts_of n all) l.i 0 = ap (λ (x : Grouped). x.count) found ∙ sym (count_at n all l.i i) in
     let in_groups : l.i < length (groups_of n all) = omega (arith, length-groups n all) in
@@ -50,20 +50,20 @@ loop-i-preserved c =
       )
     ]
 
-pub returns-after-loop-i : goal.returns-after-loop-i
-returns-after-loop-i c =
+pub returns : goal.returns
+returns c =
     let l = c.loop-i in
     let a = c.args in
-    let n = numbering a.grouping a.map.now in
+    let n = numbering a.grouping in
     let all = candidates_of a.candidates.now in
     let q = length_candidates a.candidates.now in
     passing_done a.occupied.now a.max (groups_of n all) (counts_of n all) a.picks.now a.groups.now l.picks l.groups l.taken l.instructions l.i l.invariant.2
-    (omega (arith, length-groups n all))
+    (length a.candidates.now / 20) (omega arith) (omega (arith, length-groups n all))
 
 pub returns-then-max-taken : goal.returns-then-max-taken
 returns-then-max-taken c =
     let l = c.loop-i in
     let a = c.args in
-    let n = numbering a.grouping a.map.now in
+    let n = numbering a.grouping in
     let all = candidates_of a.candidates.now in
     passing_full a.occupied.now a.max (groups_of n all) (counts_of n all) a.picks.now a.groups.now l.picks l.groups l.taken l.instructions l.i l.invariant.2 (omega arith)

@@ -1,5 +1,5 @@
 -- The pass stands where `Passing` says, and the used groups are linked.
-use Rattle.std.proofs.Common.{◌≡◌, ◌≤◌, ◌-◌, ◌/◌, ◌++◌, length, take}
+use Rattle.std.proofs.Common.{◌≡◌, ◌≤◌, ◌/◌, ◌++◌, length, take}
 use Rattle.peer_lists.specs.Candidates.{candidates_of}
 use Rattle.free_groups.specs.models.Marks.{Linked}
 use Rattle.netgroup.specs.Group.{numbering}
@@ -11,10 +11,7 @@ abbrev pub invariant-loop-i : goal.invariant-loop-i
 invariant-loop-i l =
     (l.i ≤ l.n)
     × (l.n ≡ length l.candidates / 20)
-    × (Passing l.occupied l.max (groups_of (numbering l.grouping l.map) (candidates_of l.candidates)) (counts_of (numbering l.grouping l.map) (candidates_of l.candidates))
+    × (Passing l.occupied l.max (groups_of (numbering l.grouping) (candidates_of l.candidates)) (counts_of (numbering l.grouping) (candidates_of l.candidates))
     l.fn.picks l.fn.groups l.picks l.groups l.taken l.instructions l.i)
     × (length l.links ≡ length l.fn.links)
     × (Linked (l.occupied ++ take l.taken l.groups) l.marks l.links)
-
-abbrev pub decreases-loop-i : goal.decreases-loop-i
-decreases-loop-i l = l.n - l.i

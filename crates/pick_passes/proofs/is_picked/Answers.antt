@@ -4,4 +4,4 @@ use Rattle.pick_passes.proofs.Placing.{place-below}
 use Rattle.pick_passes.proofs.is_picked.Goals as goal
 
 pub candidate_at-requires : goal.candidate_at-requires
-candidate_at-requires c = place-below _ c.args.picks.now c.loop-j.j c.requires.1 (omega arith)
+candidate_at-requires c = place-below _ c.args.picks.now c.loop-pick.pick-index c.requires.1 (omega arith)

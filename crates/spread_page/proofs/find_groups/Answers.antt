@@ -14,12 +14,12 @@ pub loop-i-preserved : goal.loop-i-preserved
 loop-i-preserved c =
     let l = c.loop-i in
     let a = c.args in
-    let n = numbering a.grouping a.map.now in
+    let n = numbering a.grouping in
     let all = candidates_of a.candidates.now in
     let q = length_candidates a.candidates.now in
     let i : l.i < length all = omega arith in
-    let found : c.group_of-found.result ≡ grouped_of n (get_or all l.i []) = c.group_of-found.ensures ∙ ap (grouped_of n) c.candidate_at.ensures.0 in
-    let same : c.group_of-found.result.group ≡ get_or (groups_of n all) l.i 0 = ap (λ (x : Grouped). x.group) found ∙ sym (group_at n all l.i i) in (
+    let found : c.group_of.result ≡ grouped_of n (get_or all l.i []) = c.group_of.ensures ∙ ap (grouped_of n) c.candidate_at.ensures.0 in
+    let same : c.group_of.result.group ≡ get_or (groups_of n all) l.i 0 = ap (λ (x : Grouped). x.group) found ∙ sym (group_at n all l.i i) in (
       omega arith,
       refl,
       length-set l.groups l.i _ ∙ l.invariant.2,
@@ -30,7 +30,7 @@ pub returns : goal.returns
 returns c =
     let l = c.loop-i in
     let a = c.args in
-    let n = numbering a.grouping a.map.now in
+    let n = numbering a.grouping in
     let all = candidates_of a.candidates.now in
     let e : length a.candidates.now / 20 ≡ l.i = omega arith in
     ap (λ (k : ℕ). take k l.groups) e

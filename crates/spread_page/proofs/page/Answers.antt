@@ -13,7 +13,7 @@ pub returns-in-Some-clause-hands : goal.returns-in-Some-clause-hands
 unfolding spread_page
 returns-in-Some-clause-hands c =
     let a = c.args in
-    let n = numbering a.grouping a.map.now in
+    let n = numbering a.grouping in
     let listed = sym c.candidates_refusal.ensures ∙ c.in-Some.is in
     hands_no (spread_page n a.candidates.now) a.out.now _ (list_refused (check_refusal n) n a.candidates.now _ listed)
 
@@ -29,7 +29,7 @@ pub returns-in-Some-check_refusal-clause-hands : goal.returns-in-Some-check_refu
 unfolding spread_page
 returns-in-Some-check_refusal-clause-hands c =
     let a = c.args in
-    let n = numbering a.grouping a.map.now in
+    let n = numbering a.grouping in
     let listed = sym c.candidates_refusal.ensures ∙ c.in_default.is in
     let checked = sym c.check_refusal.ensures ∙ c.in-Some-check_refusal.is in
     hands_no (spread_page n a.candidates.now) a.out.now _ (map_refused (check_refusal n) n a.candidates.now _ listed checked)
@@ -46,7 +46,7 @@ pub returns-clause-hands : goal.returns-clause-hands
 unfolding spread_page
 returns-clause-hands c =
     let a = c.args in
-    let n = numbering a.grouping a.map.now in
+    let n = numbering a.grouping in
     let listed = sym c.candidates_refusal.ensures ∙ c.in_default.is in
     let checked = sym c.check_refusal.ensures ∙ c.in_default-check_refusal.is in
     hands_same (sym (page_made (check_refusal n) n a.candidates.now listed checked)) c.make_page.ensures
@@ -54,12 +54,12 @@ returns-clause-hands c =
 pub returns-clause-told : goal.returns-clause-told
 returns-clause-told c =
     let a = c.args in
-    let n = numbering a.grouping a.map.now in
+    let n = numbering a.grouping in
     let listed = sym c.candidates_refusal.ensures ∙ c.in_default.is in
     told_either n a.candidates.now c.make_page.result (none_listed a.candidates.now [] listed) (λ i. omega (arith, c.type_inv.candidates i))
 
 pub returns-clause-unaborted : goal.returns-clause-unaborted
 returns-clause-unaborted c =
     let a = c.args in
-    let n = numbering a.grouping a.map.now in
+    let n = numbering a.grouping in
     unaborted_either n a.candidates.now c.make_page.result (sym c.check_refusal.ensures ∙ c.in_default-check_refusal.is)

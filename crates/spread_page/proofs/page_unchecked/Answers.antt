@@ -13,7 +13,7 @@ pub returns-in-Some-clause-hands : goal.returns-in-Some-clause-hands
 unfolding spread_unchecked
 returns-in-Some-clause-hands c =
     let a = c.args in
-    let n = numbering a.grouping a.map.now in
+    let n = numbering a.grouping in
     let listed = sym c.candidates_refusal.ensures ∙ c.in-Some.is in
     hands_no (spread_unchecked n a.candidates.now) a.out.now _ (list_refused (limit_refusal n) n a.candidates.now _ listed)
 
@@ -29,7 +29,7 @@ pub returns-in-Some-limit_refusal-clause-hands : goal.returns-in-Some-limit_refu
 unfolding spread_unchecked
 returns-in-Some-limit_refusal-clause-hands c =
     let a = c.args in
-    let n = numbering a.grouping a.map.now in
+    let n = numbering a.grouping in
     let listed = sym c.candidates_refusal.ensures ∙ c.in_default.is in
     let limited = sym c.limit_refusal.ensures ∙ c.in-Some-limit_refusal.is in
     hands_no (spread_unchecked n a.candidates.now) a.out.now _ (map_refused (limit_refusal n) n a.candidates.now _ listed limited)
@@ -46,7 +46,7 @@ pub returns-clause-hands : goal.returns-clause-hands
 unfolding spread_unchecked
 returns-clause-hands c =
     let a = c.args in
-    let n = numbering a.grouping a.map.now in
+    let n = numbering a.grouping in
     let listed = sym c.candidates_refusal.ensures ∙ c.in_default.is in
     let limited = sym c.limit_refusal.ensures ∙ c.in_default-limit_refusal.is in
     hands_same (sym (page_made (limit_refusal n) n a.candidates.now listed limited)) c.make_page.ensures
@@ -54,9 +54,9 @@ returns-clause-hands c =
 pub returns-clause-told : goal.returns-clause-told
 returns-clause-told c =
     let a = c.args in
-    let n = numbering a.grouping a.map.now in
+    let n = numbering a.grouping in
     let listed = sym c.candidates_refusal.ensures ∙ c.in_default.is in
     told_either n a.candidates.now c.make_page.result (none_listed a.candidates.now [] listed) (λ i. omega (arith, c.type_inv.candidates i))
 
 pub returns-clause-unaborted : goal.returns-clause-unaborted
-returns-clause-unaborted c = unaborted_either (numbering c.args.grouping c.args.map.now) c.args.candidates.now c.make_page.result
+returns-clause-unaborted c = unaborted_either (numbering c.args.grouping) c.args.candidates.now c.make_page.result
