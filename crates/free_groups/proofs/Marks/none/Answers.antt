@@ -1,0 +1,6 @@
+-- `none`: with no group used each mark is 0, and no link counts (`linked_none`).
+use Rattle.free_groups.proofs.Marking.{linked_none}
+use Rattle.free_groups.proofs.Marks.none.Goals as goal
+
+pub returns : goal.returns
+returns c = linked_none _
