@@ -1,8 +1,7 @@
 -- The numbers that the group calls, the occupied scan and the pick hand out (document 01, Groups and pick; document 02, CR 2).
 -- Assumes nothing.
 use Rattle.std.specs.Prelude.{ℕ, zero, suc, ◌≡◌, List, ◌∷◌, [], Result, Ok, Err, Option, Some, None}
-use Rattle.netgroup.specs.declared.Grouping.{Grouping}
-use Rattle.netgroup.specs.declared.Grouping.TheVariants.{Prefixes, Map}
+use Rattle.netgroup.specs.Group.{Numbering, by_map, by_prefixes}
 use Rattle.netgroup_pick.specs.declared.Totals.{Totals}
 use Rattle.netgroup_pick.specs.Pick.{Handed}
 use Rattle.answer_outcome.specs.Outcome.{Outcome, Done, No, Hands}
@@ -10,10 +9,10 @@ use Rattle.group_lists.specs.declared.Scan.{Scan}
 use Rattle.refusals.specs.declared.Refusal.{Refusal}
 use Rattle.refusals.specs.Numbers.{refusal_number}
 
--- What `has_map` says: 0 is without a map, any other number is with the map beside it.
-unfoldable pub grouping_of : ℕ → Grouping
-grouping_of zero = Prefixes
-grouping_of (suc n) = Map
+-- What `has_map` says: 0 is without a map, any other number is with the map beside it. Without one what stands in the map's place is not looked at.
+unfoldable pub numbering_of : ℕ → List ℕ → Numbering
+numbering_of zero m = by_prefixes
+numbering_of (suc n) m = by_map m
 
 -- A group that was found.
 unfoldable pub group_found : Result ℕ Refusal → Outcome

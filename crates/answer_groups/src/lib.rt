@@ -4,7 +4,8 @@
 
 ghost use Rattle.std.specs.Prelude.{◌≡◌, ◌∷◌, []};
 ghost use Rattle.answer_outcome.specs.Outcome.{handed};
-ghost use Rattle.answer_groups.specs.Groups.{grouping_of, group_found, scan_made, pick_made};
+ghost use Rattle.netgroup.specs.Group.{numbering};
+ghost use Rattle.answer_groups.specs.Groups.{numbering_of, group_found, scan_made, pick_made};
 
 use group_lists::Scan;
 use netgroup::Grouping;
@@ -12,14 +13,14 @@ use netgroup_pick::Totals;
 use refusals::Refusal;
 
 // What numbers the groups.
-#[tactic(auto, unfolding(crate::specs::Groups::grouping_of))]
-pub fn grouping_of(has_map: u8) -> Grouping
-    ensures { result ≡ grouping_of has_map }
+#[tactic(auto, unfolding(crate::specs::Groups::numbering_of))]
+pub fn grouping_of(has_map: u8, map: &[u8]) -> Grouping<'_>
+    ensures { numbering result ≡ numbering_of has_map map.now }
 {
     if has_map == 0 {
         return Grouping::Prefixes;
     }
-    Grouping::Map
+    Grouping::Map(map)
 }
 
 // What a group call came to, as an answer and a lent number.

@@ -10,7 +10,7 @@ ghost use Rattle.netgroup.specs.Refusal.{check_refusal};
 ghost use Rattle.netgroup_pick.specs.Pick.{select_diverse, select_unchecked, old_prefix_pick};
 ghost use Rattle.netgroup_pick.specs.Demand.{Demand3, Unaborted};
 ghost use Rattle.answer_outcome.specs.Outcome.{Hands};
-ghost use Rattle.answer_groups.specs.Groups.{grouping_of, group_found, scan_made, totals_of, Picks};
+ghost use Rattle.answer_groups.specs.Groups.{numbering_of, group_found, scan_made, totals_of, Picks};
 
 use answer_groups::{grouping_of, hand_group, hand_pick, hand_scan};
 
@@ -23,11 +23,11 @@ pub fn corbastrigo_prefix_group(candidate: &[u8], group: &mut u64) -> u8
 
 // The group of a candidate, with a map or none. Refusals 13, then with a map the check's, 1 to 10 and 19.
 pub fn corbastrigo_netgroup(candidate: &[u8], has_map: u8, map: &[u8], group: &mut u64) -> u8
-    ensures hands { Hands (group_found (netgroup_of (numbering (grouping_of has_map) map.now) candidate.now)) result (group.old ∷ []) (group.new ∷ []) }
-    ensures unaborted { result ≡ 0 → Whole (numbering (grouping_of has_map) map.now) candidate.now (Ok group.new) }
+    ensures hands { Hands (group_found (netgroup_of (numbering_of has_map map.now) candidate.now)) result (group.old ∷ []) (group.new ∷ []) }
+    ensures unaborted { result ≡ 0 → Whole (numbering_of has_map map.now) candidate.now (Ok group.new) }
 {
     hand_group(
-        netgroup::netgroup(candidate, grouping_of(has_map), map),
+        netgroup::netgroup(candidate, grouping_of(has_map, map)),
         group,
     )
 }
@@ -39,11 +39,11 @@ pub fn corbastrigo_netgroup_unchecked(
     map: &[u8],
     group: &mut u64,
 ) -> u8
-    ensures hands { Hands (group_found (netgroup_unchecked (numbering (grouping_of has_map) map.now) candidate.now)) result (group.old ∷ []) (group.new ∷ []) }
-    ensures unaborted { check_refusal (numbering (grouping_of has_map) map.now) ≡ None → result ≡ 0 → Whole (numbering (grouping_of has_map) map.now) candidate.now (Ok group.new) }
+    ensures hands { Hands (group_found (netgroup_unchecked (numbering_of has_map map.now) candidate.now)) result (group.old ∷ []) (group.new ∷ []) }
+    ensures unaborted { check_refusal (numbering_of has_map map.now) ≡ None → result ≡ 0 → Whole (numbering_of has_map map.now) candidate.now (Ok group.new) }
 {
     hand_group(
-        netgroup::netgroup_unchecked(candidate, grouping_of(has_map), map),
+        netgroup::netgroup_unchecked(candidate, grouping_of(has_map, map)),
         group,
     )
 }
@@ -81,14 +81,12 @@ pub fn corbastrigo_select_diverse(
     examined: &mut usize,
     instructions: &mut u64,
 ) -> u8
-    ensures picks { Picks (select_diverse (numbering (grouping_of has_map) map.now) candidates.now occupied.now max picks.old groups.old) result (total.old ∷ first.old ∷ examined.old ∷ instructions.old ∷ []) (total.new ∷ first.new ∷ examined.new ∷ instructions.new ∷ []) picks.new groups.new }
-    ensures demand3 { result ≡ 0 → Demand3 (numbering (grouping_of has_map) map.now) (candidates_of candidates.now) occupied.now max (Ok (totals_of total.new first.new examined.new instructions.new)) picks.new groups.new }
-    ensures unaborted { result ≡ 0 → Unaborted (numbering (grouping_of has_map) map.now) (candidates_of candidates.now) (Ok (totals_of total.new first.new examined.new instructions.new)) }
+    ensures picks { Picks (select_diverse (numbering_of has_map map.now) candidates.now occupied.now max picks.old groups.old) result (total.old ∷ first.old ∷ examined.old ∷ instructions.old ∷ []) (total.new ∷ first.new ∷ examined.new ∷ instructions.new ∷ []) picks.new groups.new }
+    ensures demand3 { result ≡ 0 → Demand3 (numbering_of has_map map.now) (candidates_of candidates.now) occupied.now max (Ok (totals_of total.new first.new examined.new instructions.new)) picks.new groups.new }
+    ensures unaborted { result ≡ 0 → Unaborted (numbering_of has_map map.now) (candidates_of candidates.now) (Ok (totals_of total.new first.new examined.new instructions.new)) }
 {
-    let grouping = grouping_of(has_map);
-    let got = netgroup_pick::select_diverse(
-        candidates, occupied, max, grouping, map, picks, groups,
-    );
+    let grouping = grouping_of(has_map, map);
+    let got = netgroup_pick::select_diverse(candidates, occupied, max, grouping, picks, groups);
     hand_pick(got, total, first, examined, instructions)
 }
 
@@ -106,13 +104,13 @@ pub fn corbastrigo_select_diverse_unchecked(
     examined: &mut usize,
     instructions: &mut u64,
 ) -> u8
-    ensures picks { Picks (select_unchecked (numbering (grouping_of has_map) map.now) candidates.now occupied.now max picks.old groups.old) result (total.old ∷ first.old ∷ examined.old ∷ instructions.old ∷ []) (total.new ∷ first.new ∷ examined.new ∷ instructions.new ∷ []) picks.new groups.new }
-    ensures demand3 { result ≡ 0 → Demand3 (numbering (grouping_of has_map) map.now) (candidates_of candidates.now) occupied.now max (Ok (totals_of total.new first.new examined.new instructions.new)) picks.new groups.new }
-    ensures unaborted { check_refusal (numbering (grouping_of has_map) map.now) ≡ None → result ≡ 0 → Unaborted (numbering (grouping_of has_map) map.now) (candidates_of candidates.now) (Ok (totals_of total.new first.new examined.new instructions.new)) }
+    ensures picks { Picks (select_unchecked (numbering_of has_map map.now) candidates.now occupied.now max picks.old groups.old) result (total.old ∷ first.old ∷ examined.old ∷ instructions.old ∷ []) (total.new ∷ first.new ∷ examined.new ∷ instructions.new ∷ []) picks.new groups.new }
+    ensures demand3 { result ≡ 0 → Demand3 (numbering_of has_map map.now) (candidates_of candidates.now) occupied.now max (Ok (totals_of total.new first.new examined.new instructions.new)) picks.new groups.new }
+    ensures unaborted { check_refusal (numbering_of has_map map.now) ≡ None → result ≡ 0 → Unaborted (numbering_of has_map map.now) (candidates_of candidates.now) (Ok (totals_of total.new first.new examined.new instructions.new)) }
 {
-    let grouping = grouping_of(has_map);
+    let grouping = grouping_of(has_map, map);
     let got = netgroup_pick::select_diverse_unchecked(
-        candidates, occupied, max, grouping, map, picks, groups,
+        candidates, occupied, max, grouping, picks, groups,
     );
     hand_pick(got, total, first, examined, instructions)
 }

@@ -5,7 +5,7 @@ ghost use Rattle.netgroup.specs.Group.{by_old_prefixes, numbering};
 ghost use Rattle.netgroup.specs.Refusal.{check_refusal};
 ghost use Rattle.spread_page.specs.Page.{spread_page, spread_unchecked, old_prefix_page};
 ghost use Rattle.spread_page.specs.Promise.{Told, Unaborted};
-ghost use Rattle.answer_groups.specs.Groups.{grouping_of};
+ghost use Rattle.answer_groups.specs.Groups.{numbering_of};
 ghost use Rattle.answer_bytes.specs.Bytes.{Writes};
 
 use answer_bytes::hand_bytes;
@@ -19,12 +19,12 @@ pub fn corbastrigo_page(
     out: &mut [u8],
     written: &mut usize,
 ) -> u8
-    ensures writes { Writes (spread_page (numbering (grouping_of has_map) map.now) candidates.now) out.old out.new result (written.old ∷ []) (written.new ∷ []) }
-    ensures told { result ≡ 0 → Told (numbering (grouping_of has_map) map.now) candidates.now (Ok written.new) }
-    ensures unaborted { result ≡ 0 → Unaborted (numbering (grouping_of has_map) map.now) candidates.now (Ok written.new) }
+    ensures writes { Writes (spread_page (numbering_of has_map map.now) candidates.now) out.old out.new result (written.old ∷ []) (written.new ∷ []) }
+    ensures told { result ≡ 0 → Told (numbering_of has_map map.now) candidates.now (Ok written.new) }
+    ensures unaborted { result ≡ 0 → Unaborted (numbering_of has_map map.now) candidates.now (Ok written.new) }
 {
-    let grouping = grouping_of(has_map);
-    let got = spread_page::page(candidates, grouping, map, out);
+    let grouping = grouping_of(has_map, map);
+    let got = spread_page::page(candidates, grouping, out);
     hand_bytes(got, written)
 }
 
@@ -36,12 +36,12 @@ pub fn corbastrigo_page_unchecked(
     out: &mut [u8],
     written: &mut usize,
 ) -> u8
-    ensures writes { Writes (spread_unchecked (numbering (grouping_of has_map) map.now) candidates.now) out.old out.new result (written.old ∷ []) (written.new ∷ []) }
-    ensures told { result ≡ 0 → Told (numbering (grouping_of has_map) map.now) candidates.now (Ok written.new) }
-    ensures unaborted { check_refusal (numbering (grouping_of has_map) map.now) ≡ None → result ≡ 0 → Unaborted (numbering (grouping_of has_map) map.now) candidates.now (Ok written.new) }
+    ensures writes { Writes (spread_unchecked (numbering_of has_map map.now) candidates.now) out.old out.new result (written.old ∷ []) (written.new ∷ []) }
+    ensures told { result ≡ 0 → Told (numbering_of has_map map.now) candidates.now (Ok written.new) }
+    ensures unaborted { check_refusal (numbering_of has_map map.now) ≡ None → result ≡ 0 → Unaborted (numbering_of has_map map.now) candidates.now (Ok written.new) }
 {
-    let grouping = grouping_of(has_map);
-    let got = spread_page::page_unchecked(candidates, grouping, map, out);
+    let grouping = grouping_of(has_map, map);
+    let got = spread_page::page_unchecked(candidates, grouping, out);
     hand_bytes(got, written)
 }
 

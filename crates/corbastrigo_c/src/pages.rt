@@ -4,9 +4,8 @@ ghost use Rattle.netgroup.specs.Group.{by_old_prefixes, numbering};
 ghost use Rattle.netgroup.specs.Refusal.{check_refusal};
 ghost use Rattle.spread_page.specs.Page.{spread_page, spread_unchecked, old_prefix_page};
 ghost use Rattle.spread_page.specs.Promise.{Told, Unaborted};
-ghost use Rattle.answer_groups.specs.Groups.{grouping_of};
+ghost use Rattle.answer_groups.specs.Groups.{numbering_of};
 ghost use Rattle.answer_bytes.specs.Bytes.{Writes};
-
 
 #[unsafe(no_mangle)]
 pub extern "C" fn corbastrigo_page(
@@ -16,9 +15,9 @@ pub extern "C" fn corbastrigo_page(
     out: &mut [u8],
     written: &mut usize,
 ) -> u8
-    ensures writes { Writes (spread_page (numbering (grouping_of has_map) map.now) candidates.now) out.old out.new result (written.old ∷ []) (written.new ∷ []) }
-    ensures told { result ≡ 0 → Told (numbering (grouping_of has_map) map.now) candidates.now (Ok written.new) }
-    ensures unaborted { result ≡ 0 → Unaborted (numbering (grouping_of has_map) map.now) candidates.now (Ok written.new) }
+    ensures writes { Writes (spread_page (numbering_of has_map map.now) candidates.now) out.old out.new result (written.old ∷ []) (written.new ∷ []) }
+    ensures told { result ≡ 0 → Told (numbering_of has_map map.now) candidates.now (Ok written.new) }
+    ensures unaborted { result ≡ 0 → Unaborted (numbering_of has_map map.now) candidates.now (Ok written.new) }
 {
     corbastrigo::pages::corbastrigo_page(candidates, has_map, map, out, written)
 }
@@ -31,9 +30,9 @@ pub extern "C" fn corbastrigo_page_unchecked(
     out: &mut [u8],
     written: &mut usize,
 ) -> u8
-    ensures writes { Writes (spread_unchecked (numbering (grouping_of has_map) map.now) candidates.now) out.old out.new result (written.old ∷ []) (written.new ∷ []) }
-    ensures told { result ≡ 0 → Told (numbering (grouping_of has_map) map.now) candidates.now (Ok written.new) }
-    ensures unaborted { check_refusal (numbering (grouping_of has_map) map.now) ≡ None → result ≡ 0 → Unaborted (numbering (grouping_of has_map) map.now) candidates.now (Ok written.new) }
+    ensures writes { Writes (spread_unchecked (numbering_of has_map map.now) candidates.now) out.old out.new result (written.old ∷ []) (written.new ∷ []) }
+    ensures told { result ≡ 0 → Told (numbering_of has_map map.now) candidates.now (Ok written.new) }
+    ensures unaborted { check_refusal (numbering_of has_map map.now) ≡ None → result ≡ 0 → Unaborted (numbering_of has_map map.now) candidates.now (Ok written.new) }
 {
     corbastrigo::pages::corbastrigo_page_unchecked(candidates, has_map, map, out, written)
 }

@@ -31,7 +31,7 @@ use Rattle.spread_page.proofs.PageLaws.{page_made}
 use Rattle.answer_outcome.specs.Outcome.{Hands}
 use Rattle.answer_maps.specs.Maps.{map_checked}
 use Rattle.answer_bytes.specs.Bytes.{bytes_written, Writes}
-use Rattle.answer_groups.specs.Groups.{grouping_of}
+use Rattle.answer_groups.specs.Groups.{numbering_of}
 use Rattle.answers.proofs.NeverZeroGroups.{page-numbers, by-limit}
 use Rattle.demand_statements.specs.Picked.{each, prefix_at, old_prefix_at}
 use Rattle.demand_statements.specs.Printed.{Printed, PrintedByMap, Paged}
@@ -82,10 +82,10 @@ module _ (of_map : Option Refusal) (m bytes : List ℕ) {o o' : List ℕ} {r wri
   printed_by-prefix n prefix at w t z =
       subst (λ (gs : List ℕ). Printed gs (take written' o')) (each_candidate (group_of n) prefix (length bytes / 20) bytes at) (printed of_map n bytes w (t z) z)
 
-  paged_as : (has : ℕ) → Writes (page_call of_map (numbering (grouping_of has) m) bytes) o o' r (written ∷ []) (written' ∷ [])
-      → (r ≡ 0 → Told (numbering (grouping_of has) m) bytes (Ok written')) → (r ≡ 0 → Unaborted (numbering (grouping_of has) m) bytes (Ok written'))
+  paged_as : (has : ℕ) → Writes (page_call of_map (numbering_of has m) bytes) o o' r (written ∷ []) (written' ∷ [])
+      → (r ≡ 0 → Told (numbering_of has m) bytes (Ok written')) → (r ≡ 0 → Unaborted (numbering_of has m) bytes (Ok written'))
       → r ≡ 0 → Paged has m bytes (take written' o')
-  unfolding grouping_of
+  unfolding numbering_of
   paged_as zero w t u z = record { by_map = λ n. absurd (n refl); by_prefix = λ y. printed_by-prefix by_prefixes (prefix_at bytes) (prefix_at_lem bytes) w t z }
   paged_as (suc k) w t u z = record { by_map = λ n. printed_by-map w t u z; by_prefix = λ y. absurd (omega arith) }
 
@@ -127,10 +127,10 @@ pages has m bytes o o' n of w =
       untouched = trip.left_alone made w;
     }
 
-loaded_pages : (m bytes o o' : List ℕ) {r written written' : ℕ} → Writes (page_call (limit_refusal (numbering (grouping_of 1) m)) (numbering (grouping_of 1) m) bytes) o o' r (written ∷ []) (written' ∷ [])
+loaded_pages : (m bytes o o' : List ℕ) {r written written' : ℕ} → Writes (page_call (limit_refusal (numbering_of 1 m)) (numbering_of 1 m) bytes) o o' r (written ∷ []) (written' ∷ [])
     → LoadedPages o o' r written written'
 loaded_pages m bytes o o' w =
-    let n = numbering (grouping_of 1) m in
+    let n = numbering_of 1 m in
     let c = limit_refusal n in
     let made = page_call c n bytes in
     record {
@@ -142,21 +142,21 @@ loaded_pages m bytes o o' w =
 -- ---- what the callers conclude
 
 module _ (m bytes o o' : List ℕ) {r written written' : ℕ} where
-  pub page_concluded : (has : ℕ) → Writes (spread_page (numbering (grouping_of has) m) bytes) o o' r (written ∷ []) (written' ∷ [])
-      → (r ≡ 0 → Told (numbering (grouping_of has) m) bytes (Ok written')) → (r ≡ 0 → Unaborted (numbering (grouping_of has) m) bytes (Ok written'))
+  pub page_concluded : (has : ℕ) → Writes (spread_page (numbering_of has m) bytes) o o' r (written ∷ []) (written' ∷ [])
+      → (r ≡ 0 → Told (numbering_of has m) bytes (Ok written')) → (r ≡ 0 → Unaborted (numbering_of has m) bytes (Ok written'))
       → (r ≡ 0 → Paged has m bytes (take written' o')) × Pages has m bytes o o' r written written'
   unfolding spread_page
   page_concluded has w t u =
-      let n = numbering (grouping_of has) m in
+      let n = numbering_of has m in
       (paged_as (check_refusal n) m bytes has w t u, pages has m bytes o o' n (of_call has m) w)
 
   -- the check answered q, 0
   pub loaded_page_concluded : {q k d : ℕ} {lent : List ℕ} → Hands (map_checked (of_map (check_of m 128))) q lent (k ∷ d ∷ []) → q ≡ 0
-      → Writes (spread_unchecked (numbering (grouping_of 1) m) bytes) o o' r (written ∷ []) (written' ∷ [])
-      → (r ≡ 0 → Told (numbering (grouping_of 1) m) bytes (Ok written'))
-      → (check_refusal (numbering (grouping_of 1) m) ≡ None → r ≡ 0 → Unaborted (numbering (grouping_of 1) m) bytes (Ok written'))
+      → Writes (spread_unchecked (numbering_of 1 m) bytes) o o' r (written ∷ []) (written' ∷ [])
+      → (r ≡ 0 → Told (numbering_of 1 m) bytes (Ok written'))
+      → (check_refusal (numbering_of 1 m) ≡ None → r ≡ 0 → Unaborted (numbering_of 1 m) bytes (Ok written'))
       → (r ≡ 0 → PrintedByMap m bytes (take written' o')) × LoadedPages o o' r written written'
-  unfolding spread_unchecked grouping_of
+  unfolding spread_unchecked numbering_of
   loaded_page_concluded v z w t u = (printed_by-map (limit_refusal (by_map m)) m bytes w t (u (unrefused m v z)), loaded_pages m bytes o o' w)
 
 -- in the old numbering

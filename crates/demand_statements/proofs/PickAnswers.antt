@@ -22,7 +22,7 @@ use Rattle.netgroup_pick.specs.Demand.{Demand3, Unaborted}
 use Rattle.netgroup_pick.specs.Pick.{pick_unless, select_diverse, select_unchecked, old_prefix_pick}
 use Rattle.answer_outcome.specs.Outcome.{handed, IsDone, Hands}
 use Rattle.answer_maps.specs.Maps.{map_checked}
-use Rattle.answer_groups.specs.Groups.{grouping_of, group_found, totals_of, pick_made}
+use Rattle.answer_groups.specs.Groups.{numbering_of, group_found, totals_of, pick_made}
 use Rattle.answer_groups.specs.Groups as call
 use Rattle.answers.proofs.NeverZeroGroups.{From, by_check, by-limit, group-numbers, pick-numbers}
 use Rattle.demand_statements.specs.Picked.{old_prefix_at, Grouped, ByMap, ByPrefixes, Picked}
@@ -49,18 +49,18 @@ pub record Of (has : ℕ) (m : List ℕ) (n : Numbering) : Type 1 where
   pub passes : Usable has m → check_refusal n ≡ None
 
 -- a call with a map says so
-of_map_lem : (P : ℕ → Type 0) (has : ℕ) (m : List ℕ) → (has ≢ 0 → (n : ℕ) → CheckNumber n → P n) → From P (check_refusal (numbering (grouping_of has) m))
-unfolding grouping_of
+of_map_lem : (P : ℕ → Type 0) (has : ℕ) (m : List ℕ) → (has ≢ 0 → (n : ℕ) → CheckNumber n → P n) → From P (check_refusal (numbering_of has m))
+unfolding numbering_of
 of_map_lem P zero m h = tt
 of_map_lem P (suc k) m h = by_check P (by_map m) (h (λ z. omega arith) 1 number_1) (λ n q. h (λ z. omega arith) n (reason-number n q))
 
 -- nothing is wrong with a map that can be used
-map_passes : (has : ℕ) (m : List ℕ) → Usable has m → check_refusal (numbering (grouping_of has) m) ≡ None
-unfolding grouping_of
+map_passes : (has : ℕ) (m : List ℕ) → Usable has m → check_refusal (numbering_of has m) ≡ None
+unfolding numbering_of
 map_passes zero m u = refl
 map_passes (suc k) m u = ap verdict_refusal (u (λ z. omega arith)).2
 
-pub of_call : (has : ℕ) (m : List ℕ) → Of has m (numbering (grouping_of has) m)
+pub of_call : (has : ℕ) (m : List ℕ) → Of has m (numbering_of has m)
 of_call has m = record { numbers = λ P h. of_map_lem P has m h; passes = map_passes has m }
 
 pub of_old : Of 0 [] by_old_prefixes
@@ -86,10 +86,10 @@ groups has m c n o h =
     }
 
 -- what the caller of a group call concludes
-pub group_concluded : (has : ℕ) (m c : List ℕ) {r g g' : ℕ} → Hands (group_found (netgroup_of (numbering (grouping_of has) m) c)) r (g ∷ []) (g' ∷ [])
-    → (r ≡ 0 → Whole (numbering (grouping_of has) m) c (Ok g')) → (r ≡ 0 → Grouped has m c g') × Groups has m c r (g ∷ []) (g' ∷ [])
+pub group_concluded : (has : ℕ) (m c : List ℕ) {r g g' : ℕ} → Hands (group_found (netgroup_of (numbering_of has m) c)) r (g ∷ []) (g' ∷ [])
+    → (r ≡ 0 → Whole (numbering_of has m) c (Ok g')) → (r ≡ 0 → Grouped has m c g') × Groups has m c r (g ∷ []) (g' ∷ [])
 group_concluded has m c h w =
-    (grouped has (check_refusal (numbering (grouping_of has) m)) m c h w, groups has m c (numbering (grouping_of has) m) (of_call has m) h)
+    (grouped has (check_refusal (numbering_of has m)) m c h w, groups has m c (numbering_of has m) (of_call has m) h)
 
 pub prefix_concluded : (c : List ℕ) {r g g' : ℕ} → Hands (group_found (prefix_group_call c)) r (g ∷ []) (g' ∷ [])
     → (r ≡ 0 → g' ≡ old_prefix_at c 0) × Groups 0 [] c r (g ∷ []) (g' ∷ [])
@@ -104,9 +104,9 @@ abbrev LoadedGroup : ℕ → Type 0
 LoadedGroup n = (n ≡ 13) ⊎ CheckNumber n
 
 loaded_groups : (m c : List ℕ) {r : ℕ} {entry exit : List ℕ}
-    → Hands (group_found (netgroup_unchecked (numbering (grouping_of 1) m) c)) r entry exit → LoadedGroups r entry exit
+    → Hands (group_found (netgroup_unchecked (numbering_of 1 m) c)) r entry exit → LoadedGroups r entry exit
 loaded_groups m c h =
-    let n = numbering (grouping_of 1) m in
+    let n = numbering_of 1 m in
     record {
       numbers = numbered LoadedGroup _ (group-numbers LoadedGroup (limit_refusal n) n c (inl refl) (by-limit LoadedGroup n (inr number_1))) h;
       untouched = kept _ h;
@@ -114,10 +114,10 @@ loaded_groups m c h =
 
 -- the check answered q, 0
 pub loaded_concluded : (m c : List ℕ) {q k d r g g' : ℕ} {lent : List ℕ} → Hands (map_checked (of_map (check_of m 128))) q lent (k ∷ d ∷ []) → q ≡ 0
-    → Hands (group_found (netgroup_unchecked (numbering (grouping_of 1) m) c)) r (g ∷ []) (g' ∷ [])
-    → (check_refusal (numbering (grouping_of 1) m) ≡ None → r ≡ 0 → Whole (numbering (grouping_of 1) m) c (Ok g'))
+    → Hands (group_found (netgroup_unchecked (numbering_of 1 m) c)) r (g ∷ []) (g' ∷ [])
+    → (check_refusal (numbering_of 1 m) ≡ None → r ≡ 0 → Whole (numbering_of 1 m) c (Ok g'))
     → (r ≡ 0 → Grouped 1 m c g') × LoadedGroups r (g ∷ []) (g' ∷ [])
-loaded_concluded m c v z h w = (grouped_loaded (limit_refusal (numbering (grouping_of 1) m)) m c (unrefused m v z) h w, loaded_groups m c h)
+loaded_concluded m c v z h w = (grouped_loaded (limit_refusal (numbering_of 1 m)) m c (unrefused m v z) h w, loaded_groups m c h)
 
 -- ---- a pick
 
@@ -199,9 +199,9 @@ picks has m bytes occupied max ps gs n of p =
     }
 
 loaded_picks : (m bytes occupied : List ℕ) (max : ℕ) (ps gs : List ℕ) {r : ℕ} {entry exit ps' gs' : List ℕ}
-    → call.Picks (select_unchecked (numbering (grouping_of 1) m) bytes occupied max ps gs) r entry exit ps' gs' → LoadedPicks r entry exit ps ps' gs gs'
+    → call.Picks (select_unchecked (numbering_of 1 m) bytes occupied max ps gs) r entry exit ps' gs' → LoadedPicks r entry exit ps ps' gs gs'
 loaded_picks m bytes occupied max ps gs p =
-    let n = numbering (grouping_of 1) m in
+    let n = numbering_of 1 m in
     let o = limit_refusal n in
     let why = pick_refusal o bytes occupied max ps gs in
     record {
@@ -214,24 +214,24 @@ loaded_picks m bytes occupied max ps gs p =
 -- what the caller of a pick concludes
 module _ (m bytes occupied : List ℕ) (max : ℕ) (ps gs : List ℕ) {r total taken examined instructions : ℕ} {entry ps' gs' : List ℕ} where
   pub pick_concluded : (has : ℕ)
-      → call.Picks (select_diverse (numbering (grouping_of has) m) bytes occupied max ps gs) r entry (total ∷ taken ∷ examined ∷ instructions ∷ []) ps' gs'
-      → (r ≡ 0 → Demand3 (numbering (grouping_of has) m) (candidates_of bytes) occupied max (Ok (totals_of total taken examined instructions)) ps' gs')
-      → (r ≡ 0 → Unaborted (numbering (grouping_of has) m) (candidates_of bytes) (Ok (totals_of total taken examined instructions)))
+      → call.Picks (select_diverse (numbering_of has m) bytes occupied max ps gs) r entry (total ∷ taken ∷ examined ∷ instructions ∷ []) ps' gs'
+      → (r ≡ 0 → Demand3 (numbering_of has m) (candidates_of bytes) occupied max (Ok (totals_of total taken examined instructions)) ps' gs')
+      → (r ≡ 0 → Unaborted (numbering_of has m) (candidates_of bytes) (Ok (totals_of total taken examined instructions)))
       → (r ≡ 0 → Picked m bytes occupied max ps' gs' taken examined instructions has)
       × Picks has m bytes occupied max r entry (total ∷ taken ∷ examined ∷ instructions ∷ []) ps ps' gs gs'
   pick_concluded has p d u =
-      let n = numbering (grouping_of has) m in
+      let n = numbering_of has m in
       (picked_as (check_refusal n) m bytes occupied max ps gs has p d u, picks has m bytes occupied max ps gs n (of_call has m) p)
 
   -- the check answered q, 0
   pub loaded_pick_concluded : {q k d : ℕ} {lent : List ℕ} → Hands (map_checked (of_map (check_of m 128))) q lent (k ∷ d ∷ []) → q ≡ 0
-      → call.Picks (select_unchecked (numbering (grouping_of 1) m) bytes occupied max ps gs) r entry (total ∷ taken ∷ examined ∷ instructions ∷ []) ps' gs'
-      → (r ≡ 0 → Demand3 (numbering (grouping_of 1) m) (candidates_of bytes) occupied max (Ok (totals_of total taken examined instructions)) ps' gs')
-      → (check_refusal (numbering (grouping_of 1) m) ≡ None → r ≡ 0 → Unaborted (numbering (grouping_of 1) m) (candidates_of bytes) (Ok (totals_of total taken examined instructions)))
+      → call.Picks (select_unchecked (numbering_of 1 m) bytes occupied max ps gs) r entry (total ∷ taken ∷ examined ∷ instructions ∷ []) ps' gs'
+      → (r ≡ 0 → Demand3 (numbering_of 1 m) (candidates_of bytes) occupied max (Ok (totals_of total taken examined instructions)) ps' gs')
+      → (check_refusal (numbering_of 1 m) ≡ None → r ≡ 0 → Unaborted (numbering_of 1 m) (candidates_of bytes) (Ok (totals_of total taken examined instructions)))
       → (r ≡ 0 → ByMap m bytes occupied max ps' gs' taken examined instructions)
       × LoadedPicks r entry (total ∷ taken ∷ examined ∷ instructions ∷ []) ps ps' gs gs'
   loaded_pick_concluded v z p d u =
-      (picked_loaded (limit_refusal (numbering (grouping_of 1) m)) m bytes occupied max ps gs (unrefused m v z) p d u, loaded_picks m bytes occupied max ps gs p)
+      (picked_loaded (limit_refusal (numbering_of 1 m)) m bytes occupied max ps gs (unrefused m v z) p d u, loaded_picks m bytes occupied max ps gs p)
 
 -- in the old numbering
 pub old_pick_concluded : (bytes occupied : List ℕ) (max : ℕ) (ps gs : List ℕ) {r total taken examined instructions : ℕ} {entry ps' gs' : List ℕ}

@@ -23,7 +23,7 @@ use Rattle.peer_lists.proofs.Lists.{candidate_at_lem, length_candidates}
 use Rattle.pick_passes.proofs.Lists.{length-groups}
 use Rattle.answer_outcome.specs.Outcome.{Hands}
 use Rattle.answer_maps.specs.Maps.{map_checked}
-use Rattle.answer_groups.specs.Groups.{grouping_of, group_found, totals_of, Picks}
+use Rattle.answer_groups.specs.Groups.{numbering_of, group_found, totals_of, Picks}
 use Rattle.answers.proofs.Promised.{found, picked}
 use Rattle.demand_statements.specs.Picked.{walk_at, prefix_at, old_prefix_at, Ends, Grouped, Passed, ByMap, ByPrefixes, Picked}
 use Rattle.demand_statements.proofs.AnswerLaws.{accepted}
@@ -55,9 +55,9 @@ same_group (Some k) n c g e = let z : ◌≡◌ {A = ℕ} 0 1 = cc in absurd (om
 
 -- of_map: what is wrong with the map; has: whether there is one
 pub grouped : (has : ℕ) (of_map : Option Refusal) (m c : List ℕ) {r g : ℕ} {lent : List ℕ}
-    → Hands (group_found (group_call of_map (numbering (grouping_of has) m) c)) r lent (g ∷ [])
-    → (r ≡ 0 → Whole (numbering (grouping_of has) m) c (Ok g)) → r ≡ 0 → Grouped has m c g
-unfolding grouping_of
+    → Hands (group_found (group_call of_map (numbering_of has m) c)) r lent (g ∷ [])
+    → (r ≡ 0 → Whole (numbering_of has m) c (Ok g)) → r ≡ 0 → Grouped has m c g
+unfolding numbering_of
 grouped zero of_map m c {r} {g} h w z =
     let e = same_group (or_else (candidate_refusal c) of_map) by_prefixes c g (found (group_call of_map by_prefixes c) h z) in
     record { by_map = λ n. absurd (n refl); by_prefix = λ y. e ∙ prefix_of c }
@@ -71,9 +71,9 @@ grouped_old c {r} {g} h z = same_group (or_else (candidate_refusal c) None) by_o
 
 -- by a map that was checked before
 pub grouped_loaded : (of_map : Option Refusal) (m c : List ℕ) {r g : ℕ} {lent : List ℕ} → check_refusal (by_map m) ≡ None
-    → Hands (group_found (group_call of_map (numbering (grouping_of 1) m) c)) r lent (g ∷ [])
-    → (check_refusal (numbering (grouping_of 1) m) ≡ None → r ≡ 0 → Whole (numbering (grouping_of 1) m) c (Ok g)) → r ≡ 0 → Grouped 1 m c g
-unfolding grouping_of
+    → Hands (group_found (group_call of_map (numbering_of 1 m) c)) r lent (g ∷ [])
+    → (check_refusal (numbering_of 1 m) ≡ None → r ≡ 0 → Whole (numbering_of 1 m) c (Ok g)) → r ≡ 0 → Grouped 1 m c g
+unfolding numbering_of
 grouped_loaded of_map m c q h w z = grouped 1 of_map m c h (w q) z
 
 -- ---- a pick
@@ -137,19 +137,19 @@ module _ (of_map : Option Refusal) (m bytes occupied : List ℕ) (max : ℕ) (pi
   picked_old = picked_by-prefix by_old_prefixes (old_prefix_at bytes) refl (old-prefix_at bytes)
 
   pub picked_as : (has : ℕ)
-      → Picks (pick_call of_map (numbering (grouping_of has) m) bytes occupied max picks₀ groups₀) r lent (total ∷ taken ∷ examined ∷ instructions ∷ []) picks groups
-      → (r ≡ 0 → Demand3 (numbering (grouping_of has) m) (candidates_of bytes) occupied max (Ok (totals_of total taken examined instructions)) picks groups)
-      → (r ≡ 0 → Unaborted (numbering (grouping_of has) m) (candidates_of bytes) (Ok (totals_of total taken examined instructions)))
+      → Picks (pick_call of_map (numbering_of has m) bytes occupied max picks₀ groups₀) r lent (total ∷ taken ∷ examined ∷ instructions ∷ []) picks groups
+      → (r ≡ 0 → Demand3 (numbering_of has m) (candidates_of bytes) occupied max (Ok (totals_of total taken examined instructions)) picks groups)
+      → (r ≡ 0 → Unaborted (numbering_of has m) (candidates_of bytes) (Ok (totals_of total taken examined instructions)))
       → r ≡ 0 → Picked m bytes occupied max picks groups taken examined instructions has
-  unfolding grouping_of
+  unfolding numbering_of
   picked_as zero p d u z = record { by_map = λ n. absurd (n refl); by_prefix = λ y. picked_by-prefix by_prefixes (prefix_at bytes) refl (prefix_at_lem bytes) p d z }
   picked_as (suc k) p d u z = record { by_map = λ n. picked_by-map p d u z; by_prefix = λ y. absurd (omega arith) }
 
   -- by a map that was checked before
   pub picked_loaded : check_refusal (by_map m) ≡ None
-      → Picks (pick_call of_map (numbering (grouping_of 1) m) bytes occupied max picks₀ groups₀) r lent (total ∷ taken ∷ examined ∷ instructions ∷ []) picks groups
-      → (r ≡ 0 → Demand3 (numbering (grouping_of 1) m) (candidates_of bytes) occupied max (Ok (totals_of total taken examined instructions)) picks groups)
-      → (check_refusal (numbering (grouping_of 1) m) ≡ None → r ≡ 0 → Unaborted (numbering (grouping_of 1) m) (candidates_of bytes) (Ok (totals_of total taken examined instructions)))
+      → Picks (pick_call of_map (numbering_of 1 m) bytes occupied max picks₀ groups₀) r lent (total ∷ taken ∷ examined ∷ instructions ∷ []) picks groups
+      → (r ≡ 0 → Demand3 (numbering_of 1 m) (candidates_of bytes) occupied max (Ok (totals_of total taken examined instructions)) picks groups)
+      → (check_refusal (numbering_of 1 m) ≡ None → r ≡ 0 → Unaborted (numbering_of 1 m) (candidates_of bytes) (Ok (totals_of total taken examined instructions)))
       → r ≡ 0 → ByMap m bytes occupied max picks groups taken examined instructions
-  unfolding grouping_of
+  unfolding numbering_of
   picked_loaded q p d u z = picked_by-map p d (u q) z

@@ -9,10 +9,10 @@ use replay_words::{Words, byte, lengthened, number, wide, word};
 use refusals::Refusal;
 
 // What groups go by: 0 without a map, 1 with one, 2 without one in the old numbering of prefixes.
-pub fn grouping_of(n: u8) -> Grouping {
+pub fn grouping_of(n: u8, map: &[u8]) -> Grouping<'_> {
     match n {
         0 => Grouping::Prefixes,
-        1 => Grouping::Map,
+        1 => Grouping::Map(map),
         _ => Grouping::OldPrefixes,
     }
 }
@@ -32,9 +32,9 @@ pub fn prefix_group(bytes: &[u8], words: Words) -> Seen {
 // By a map that is checked, or is not.
 fn group_by(candidate: &[u8], by: u8, map: &[u8], checked: bool) -> Result<u64, Refusal> {
     if checked {
-        return netgroup::netgroup(candidate, grouping_of(by), map);
+        return netgroup::netgroup(candidate, grouping_of(by, map));
     }
-    netgroup::netgroup_unchecked(candidate, grouping_of(by), map)
+    netgroup::netgroup_unchecked(candidate, grouping_of(by, map))
 }
 
 pub fn group(bytes: &[u8], words: Words, checked: bool) -> Seen {
@@ -149,16 +149,16 @@ fn pick_by(
     places: &mut [u16],
     groups: &mut [u64],
 ) -> Result<Totals, Refusal> {
-    let grouping = grouping_of(by % 3);
+    let grouping = grouping_of(by % 3, map);
     if 2 < by {
         return netgroup_pick::select_diverse_unchecked(
-            list, occupied, max, grouping, map, places, groups,
+            list, occupied, max, grouping, places, groups,
         );
     }
     if by == 2 {
         return netgroup_pick::old_prefix_pick(list, occupied, max, places, groups);
     }
-    netgroup_pick::select_diverse(list, occupied, max, grouping, map, places, groups)
+    netgroup_pick::select_diverse(list, occupied, max, grouping, places, groups)
 }
 
 fn compared_picks(

@@ -8,12 +8,12 @@ use refusals::Refusal;
 // By a map that is checked, or is not. The old numbering of prefixes has a call of its own.
 fn page_by(list: &[u8], by: u8, map: &[u8], checked: bool, out: &mut [u8]) -> Result<usize, Refusal> {
     if !checked {
-        return spread_page::page_unchecked(list, grouping_of(by), map, out);
+        return spread_page::page_unchecked(list, grouping_of(by, map), out);
     }
     if by == 2 {
         return spread_page::old_prefix_page(list, out);
     }
-    spread_page::page(list, grouping_of(by), map, out)
+    spread_page::page(list, grouping_of(by, map), out)
 }
 
 fn compared_page(bytes: &[u8], words: Words, by: u8, checked: bool, out: &mut [u8]) -> Seen {

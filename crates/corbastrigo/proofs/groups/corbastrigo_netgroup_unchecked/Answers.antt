@@ -12,6 +12,6 @@ pub returns : goal.returns
 returns c =
     let a = c.args in
     let g = c.netgroup_unchecked.ensures in
-    let n = numbering c.grouping_of.result a.map.now in
+    let n = numbering c.grouping_of.result in
     let h = hands group_found g.value (unchecked_found n a.candidate.now) c.hand_group.ensures in
     rw (← c.grouping_of.ensures) record { hands = h; unaborted = λ e z. subst (Whole n a.candidate.now) (g.value ∙ found (netgroup_unchecked n a.candidate.now) h z) (g.unaborted e) }

@@ -11,7 +11,7 @@ pub returns : goal.returns
 returns c =
     let a = c.args in
     let s = c.select_diverse_unchecked-got in
-    let n = numbering c.grouping_of-grouping.result a.map.now in
+    let n = numbering c.grouping_of-grouping.result in
     let all = candidates_of a.candidates.now in
     let p = picks (select_unchecked n a.candidates.now a.occupied.now a.max a.picks.now a.groups.now) s.result s.ensures.groups_after (unchecked_made a.candidates.now a.occupied.now a.max a.picks.now a.groups.now n) c.hand_pick.ensures in
     rw (← c.grouping_of-grouping.ensures)

@@ -14,7 +14,7 @@ pub returns : goal.returns
 returns c =
     let a = c.args in
     let p = c.page_unchecked-got.ensures in
-    let n = numbering c.grouping_of-grouping.result a.map.now in
+    let n = numbering c.grouping_of-grouping.result in
     let bytes = a.candidates.now in
     let h = hands bytes_written p.hands.answer (unchecked_written (length a.out.now) n bytes) c.hand_bytes.ensures in
     let y = answer_of (within (length a.out.now) (spread_unchecked n bytes)) in
