@@ -15,7 +15,7 @@ ghost use Rattle.asmap_build.specs.Build.{tree_bits, build_as, build_of, build_a
 ghost use Rattle.asmap_build.specs.Promise.{WritesMap};
 ghost use Rattle.asmap_build.specs.models.Size.{Sized, WriteReady, Filled};
 
-use asmap_front_writer::Front;
+use asmap_front_writer::{Counts, Front, Step, Writes};
 use asmap_program::{JUMP, RETURN};
 use prefix_records::Address;
 use prefix_runs::Prefixes;
@@ -39,12 +39,12 @@ fn no_starts() -> [usize; 129]
     [0; 129]
 }
 
-// One pass over the tree of the addresses of 128 bits, from its end to its start: how many bits the map has, none where it is over the limit. Without `writes` it only counts; with it, it writes the bits, of which
-// there are `total`.
-fn pass(prefixes: Prefixes, out: &mut [u8], writes: bool, total: usize) -> Option<usize>
-    requires { WriteReady writes total (tree_bits prefixes.records.now prefixes.given 128) out.old }
-    ensures { Sized (tree_bits prefixes.entry.records.now prefixes.entry.given 128) result
-        × Filled writes (tree_bits prefixes.entry.records.now prefixes.entry.given 128) out.old out.new }
+// One pass over the tree of the addresses of 128 bits, from its end to its start: how many bits the map has, none where it is over the limit. What
+// is done with each instruction, the step says: `Counts` leaves the output as it is; `Writes` writes the bits, of which there are `total`.
+fn pass<S: Step>(records: &[u8], given: u32, out: &mut [u8], total: usize) -> Option<usize>
+    requires { Rising 128 records.now × Number given × WriteReady S.writes total (tree_bits records.now given 128) out.old }
+    ensures { Sized (tree_bits records.now given 128) result
+        × Filled S.writes (tree_bits records.now given 128) out.old out.new }
 {
     let mut starts = no_starts();
     let mut run = prefixes.last_run();
@@ -64,7 +64,7 @@ fn pass(prefixes: Prefixes, out: &mut [u8], writes: bool, total: usize) -> Optio
                 depth += 1;
             }
             Turn::Returns => {
-                front = asmap_front_writer::put_before(out, front, RETURN, run.number, writes);
+                front = S::put_before(out, front, RETURN, run.number);
                 if MAX_BITS < front.done {
                     return None;
                 }
@@ -72,7 +72,7 @@ fn pass(prefixes: Prefixes, out: &mut [u8], writes: bool, total: usize) -> Optio
             }
             Turn::Closes => {
                 let over = (front.done - starts[depth]) as u32;
-                front = asmap_front_writer::put_before(out, front, JUMP, over, writes);
+                front = S::put_before(out, front, JUMP, over);
                 if MAX_BITS < front.done {
                     return None;
                 }
@@ -93,14 +93,14 @@ fn pass(prefixes: Prefixes, out: &mut [u8], writes: bool, total: usize) -> Optio
 fn build_listed(prefixes: Prefixes, out: &mut [u8]) -> Result<usize, Refusal>
     ensures { Hands (build_as (tree_bits prefixes.entry.records.now prefixes.entry.given 128) Listed) out.old out.new result }
 {
-    let Some(total) = pass(prefixes, out, false, 0) else {
+    let Some(total) = pass::<Counts>(records, given, out, 0) else {
         return Err(Refusal::Map(Fault::MapTooLong));
     };
     let bytes = (total + 7) / 8;
     if out.len() < bytes {
         return Err(Refusal::OutputTooShort);
     }
-    pass(prefixes, out, true, total);
+    pass::<Writes>(records, given, out, total);
     Ok(bytes)
 }
 

@@ -2,7 +2,7 @@
 // map is built from its end). Fewer than 8 bits are held, and whole bytes go out.
 #![tactic(auto)]
 
-ghost use Rattle.std.specs.Prelude.{◌≡◌, ◌+◌, ◌^◌, ◌≤◌, ◌<◌, length};
+ghost use Rattle.std.specs.Prelude.{Bool, ◌≡◌, ◌+◌, ◌^◌, ◌≤◌, ◌<◌, length};
 ghost use Rattle.asmap_codes.specs.Bits.{low};
 ghost use Rattle.asmap_front_writer.specs.models.Front.{Room, Moved, Ready, Emitted};
 
@@ -10,7 +10,7 @@ use asmap_encode::Word;
 
 // What is written of a map, from its end on: how many bits; of them the first, fewer than 8, that fill no byte yet, the first lowest; and the place
 // behind their byte.
-#[derive(Clone, Copy)]
+#[derive(Clone, Copy, Debug, PartialEq, Eq)]
 pub struct Front {
     pub done: usize,
     pub bits: u64,
@@ -33,34 +33,52 @@ fn put_word_before(out: &mut [u8], front: Front, word: Word) -> Front
         held -= 8;
         out[place] = ((all >> held) % 256) as u8;
     }
-    let bits = all % (1 << held);
-    let done = front.done + word.len;
     Front {
-        done,
-        bits,
+        done: front.done + word.len,
+        bits: all % (1 << held),
         held,
         place,
     }
 }
 
-// Puts an instruction that is in range, which is never refused, before what is there. Where nothing is to be written it is only counted.
-pub fn put_before(out: &mut [u8], front: Front, opcode: u32, operand: u32, writes: bool) -> Front
-    requires { Ready out.old front opcode operand writes }
-    ensures { Emitted out.old front opcode operand writes out.new result }
-{
-    if writes {
-        let written = asmap_encode::encode_instruction(opcode, operand);
-        let Ok(word) = written else {
+// What is done with each instruction, from a map's last to its first: it is counted, or it is written too.
+pub trait Step {
+    ghost writes: { Bool };
+
+    // Puts an instruction that is in range, which is never refused, before what is there.
+    fn put_before(out: &mut [u8], front: Front, opcode: u32, operand: u32) -> Front
+        requires { Ready out.old front opcode operand writes }
+        ensures { Emitted out.old front opcode operand writes out.new result };
+}
+
+// Instructions are only counted, and the output stays as it is.
+pub struct Counts;
+
+impl Step for Counts {
+    ghost use Rattle.std.specs.Prelude.{false};
+
+    ghost writes = { false };
+
+    fn put_before(_out: &mut [u8], front: Front, opcode: u32, operand: u32) -> Front {
+        Front {
+            done: front.done + asmap_encode::instruction_length(opcode, operand),
+            ..front
+        }
+    }
+}
+
+// Instructions are written.
+pub struct Writes;
+
+impl Step for Writes {
+    ghost use Rattle.std.specs.Prelude.{true};
+
+    ghost writes = { true };
+
+    fn put_before(out: &mut [u8], front: Front, opcode: u32, operand: u32) -> Front {
+        let Ok(word) = asmap_encode::encode_instruction(opcode, operand) else {
             return front;
         };
-        return put_word_before(out, front, word);
-    }
-    let len = asmap_encode::instruction_length(opcode, operand);
-    let done = front.done + len;
-    Front {
-        done,
-        bits: front.bits,
-        held: front.held,
-        place: front.place,
+        put_word_before(out, front, word)
     }
 }
