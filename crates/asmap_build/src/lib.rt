@@ -7,8 +7,7 @@
 // it stands and, for each length of prefix, how many bits there were when a half with bit 0 was begun.
 #![tactic(auto)]
 
-ghost use Rattle.std.specs.Prelude.{◌≡◌, ℕ, ◌≤◌, length, get_or};
-ghost use Rattle.prefix_records.specs.models.Cursor.{value_of};
+ghost use Rattle.std.specs.Prelude.{◌≤◌};
 ghost use Rattle.prefix_lists.specs.Judged.{Listed};
 ghost use Rattle.asmap_records.specs.Output.{Hands};
 ghost use Rattle.asmap_build.specs.Build.{tree_bits, build_as, build_of, build_at};
@@ -16,28 +15,14 @@ ghost use Rattle.asmap_build.specs.Promise.{WritesMap};
 ghost use Rattle.asmap_build.specs.models.Size.{Sized, WriteReady, Filled};
 
 use asmap_front_writer::{Counts, Front, Step, Writes};
-use asmap_program::{JUMP, RETURN};
+use asmap_program::{JUMP, MAX_MAP_BYTES, RETURN};
 use prefix_records::Address;
 use prefix_runs::Prefixes;
 use refusals::{Fault, Refusal};
 use tree_turns::Turn;
 
 // The most bits of a map: 16,777,216 bytes.
-const MAX_BITS: usize = 134217728;
-
-// Where the tree starts: the address 0.
-fn origin() -> Address
-    ensures { value_of result ≡ 0 }
-{
-    Address::ZERO
-}
-
-// No half is begun.
-fn no_starts() -> [usize; 129]
-    ensures { (length result ≡ 129) × ((i : ℕ) → get_or result i 0 ≡ 0) }
-{
-    [0; 129]
-}
+const MAX_BITS: usize = 8 * MAX_MAP_BYTES;
 
 // One pass over the tree of the addresses of 128 bits, from its end to its start: how many bits the map has, none where it is over the limit. What
 // is done with each instruction, the step says: `Counts` leaves the output as it is; `Writes` writes the bits, of which there are `total`.
@@ -46,16 +31,16 @@ fn pass<S: Step>(records: &[u8], given: u32, out: &mut [u8], total: usize) -> Op
     ensures { Sized (tree_bits records.now given 128) result
         × Filled S.writes (tree_bits records.now given 128) out.old out.new }
 {
-    let mut starts = no_starts();
-    let mut run = prefixes.last_run();
-    let mut first = origin();
+    let mut starts = [0usize; 129];
+    let mut run = prefix_runs::last_run(records, given);
+    let mut first = Address { high: 0, low: 0 };
     let mut depth: usize = 0;
     let mut todo: usize = 1;
     let mut front = Front {
         done: 0,
         bits: 0,
         held: (8 - total % 8) % 8,
-        place: (total + 7) / 8,
+        place: total.div_ceil(8),
     };
     while 0 < depth + todo {
         match tree_turns::turn_of(todo, first, depth, run.first) {
@@ -96,7 +81,7 @@ fn build_listed(prefixes: Prefixes, out: &mut [u8]) -> Result<usize, Refusal>
     let Some(total) = pass::<Counts>(records, given, out, 0) else {
         return Err(Refusal::Map(Fault::MapTooLong));
     };
-    let bytes = (total + 7) / 8;
+    let bytes = total.div_ceil(8);
     if out.len() < bytes {
         return Err(Refusal::OutputTooShort);
     }

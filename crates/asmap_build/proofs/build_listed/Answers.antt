@@ -1,5 +1,5 @@
 -- A pass counts, then the room decides, and a pass writes.
-use Rattle.std.proofs.Common.{◌∙◌, ℕ, ◌+◌, ◌/◌, List, length, false, sym, ap, subst, refl, arith, Result}
+use Rattle.std.proofs.Common.{◌∙◌, ℕ, List, length, false, sym, ap, subst, refl, arith, Result}
 use Rattle.std.proofs.lemmas.List.Edits.{sets}
 use Rattle.asmap_bit_writer.specs.Bytes.{bytes_of}
 use Rattle.asmap_records.specs.Output.{Hands}
@@ -21,7 +21,7 @@ returns-then-out-bytes c =
     let k = c.in-Some.ensures.0 in
     let l = ap length (c.in-Some.ensures.1.idle refl) in
     unwritten c.in-Some.ensures.1
-    (hands_no_room (tree_bits c.args.prefixes.records.now c.args.prefixes.given 128) c.args.out.now _ k.1 (ap (λ (x : ℕ). (x + 7) / 8) k.0) (omega (arith, c.if-out-bytes.true, l)))
+    (hands_no_room (tree_bits c.args.records.now c.args.given 128) c.args.out.now c.div_ceil-bytes.result k.1 (omega (arith, k.0, c.div_ceil-bytes.ensures)) (omega (arith, c.if-out-bytes.true, l)))
 
 pub returns : goal.returns
 returns c =
@@ -29,5 +29,5 @@ returns c =
     let k = c.in-Some.ensures.0 in
     let e = c.in-Some.ensures.1.idle refl in
     let l = ap length e in
-    hands-bits bits c.args.out.now _ k.1 (ap (λ (x : ℕ). (x + 7) / 8) k.0) _ (omega (arith, c.if-out-bytes.false, l))
+    hands-bits bits c.args.out.now c.div_ceil-bytes.result k.1 (omega (arith, k.0, c.div_ceil-bytes.ensures)) _ (omega (arith, c.if-out-bytes.false, l))
     (c.pass-2.ensures.1.busy refl ∙ ap (λ (x : List ℕ). sets x 0 (bytes_of bits)) e)

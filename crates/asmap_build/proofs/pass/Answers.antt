@@ -1,5 +1,5 @@
 -- Each turn keeps what the loop knows (`Turns`).
-use Rattle.std.proofs.Common.{◌≡◌, ◌∙◌, ℕ, suc, ◌+◌, ◌-◌, ◌^◌, ◌≤◌, List, ap, arith}
+use Rattle.std.proofs.Common.{◌≡◌, ◌∙◌, ℕ, zero, suc, ◌+◌, ◌-◌, ◌/◌, ◌^◌, ◌≤◌, List, refl, ap, arith, get_or, replicate}
 use Rattle.prefix_records.specs.models.Cursor.{value_of}
 use Rattle.prefix_lists.specs.List.{count_of, piece_at}
 use Rattle.prefix_lists.specs.models.Listed.{Number, Rising}
@@ -26,10 +26,17 @@ small = omega arith
 lower : (d v : ℕ) → v + 2 ^ (127 - d) ≡ v + 2 ^ (128 - suc d)
 lower d v = let e : 127 - d ≡ 128 - suc d = omega arith in ap (λ (i : ℕ). v + 2 ^ i) e
 
+-- no half is begun
+zeros : (n i : ℕ) → get_or {A = ℕ} (replicate n 0) i 0 ≡ 0
+zeros zero i = refl
+zeros (suc n) zero = refl
+zeros (suc n) (suc i) = zeros n i
+
 pub loop-depth-init : goal.loop-depth-init
 loop-depth-init g c =
-    rw c.origin-first.ensures (starting (F c.args.records.now c.args.given) (K c.args.records.now) 128 g.S.Step.writes c.args.total c.args.out.now
-    c.no_starts-starts.result c.last_run-run.result c.no_starts-starts.ensures.0 c.no_starts-starts.ensures.1 c.last_run-run.ensures.0 c.last_run-run.ensures.1 c.requires.2)
+    let n : c.div_ceil.result ≡ (c.args.total + 7) / 8 = omega (arith, c.div_ceil.ensures) in
+    rw n (starting (F c.args.records.now c.args.given) (K c.args.records.now) 128 g.S.Step.writes c.args.total c.args.out.now
+    (replicate 129 0) c.last_run-run.result refl (zeros 129) c.last_run-run.ensures.0 c.last_run-run.ensures.1 c.requires.2)
 
 pub one_half-first-requires : goal.one_half-first-requires
 one_half-first-requires g c =
