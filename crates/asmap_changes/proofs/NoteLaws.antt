@@ -4,8 +4,6 @@ use mathlib.Core.Bool.{Bool, true, false}
 use mathlib.Core.Path.{◌≡◌, refl, sym, ap, subst, ◌∙◌}
 use mathlib.Core.List.{List, ◌++◌}
 use lib.Dec.{ltb, eqb}
-use lib.ListN.{length}
-use lib.Seq.{sets}
 use native.Mathlib.Nat.{mul-le-mul_right, suc-mul}
 use native.Mathlib.Omega.{arith}
 use borrow.Author.Tests.{lt-ltb, le-ltb, ltb-true, ltb-false, eq-eqb, ne_eqb, eqb-true, eqb-false}
@@ -15,7 +13,7 @@ use Rattle.prefix_records.specs.models.Cursor.{value_of, record_at}
 use Rattle.asmap_changes.specs.declared.Front.{Front}
 use Rattle.asmap_changes.specs.declared.Found.{Found}
 use Rattle.asmap_changes.specs.declared.Place.{Place}
-use Rattle.asmap_changes.specs.models.Side.{place_if, place_of, put_if, first_if, added, NotedIf, Noted, Roomy}
+use Rattle.asmap_changes.specs.models.Side.{place_if, place_of, put_if, first_if, added, NotedIf, Noted}
 
 pub added-first : (f : Found) (a : Address) → f.pieces ≡ 0 → record { pieces = 1; first = a } ≡ added f a
 added-first f a e = ap (λ (k : ℕ). record { pieces = k + 1; first = first_if k a f.first }) (sym e)
@@ -32,12 +30,6 @@ place_new o n h = ap (λ (b : Bool). place_if b o n) (sym (lt-ltb o.len n.len h)
 
 pub place_old : (o n : Front) → n.len ≤ o.len → record { begin = o.begin; len = o.len } ≡ place_of o n
 place_old o n h = ap (λ (b : Bool). place_if b o n) (sym (le-ltb o.len n.len h))
-
-pub roomy : (writes : Bool) (k : ℕ) (out : List ℕ) → Roomy writes k out → writes ≡ true → 28 * k + 28 ≤ length out
-roomy writes k out h e = subst (λ (b : Bool). Roomy b k out) e h
-
-pub put_it : (writes : Bool) (o o' : List ℕ) (k : ℕ) (bs : List ℕ) → writes ≡ true → o' ≡ sets o k bs → o' ≡ put_if writes o k bs
-put_it writes o o' k bs e h = h ∙ ap (λ (b : Bool). put_if b o k bs) (sym e)
 
 pub noted_same : (writes : Bool) (o n : Front) (f : Found) (out : List ℕ) → o.number ≡ n.number → Noted writes o n f f out out
 noted_same writes o n f out e = subst (λ (b : Bool). NotedIf b writes o n f f out out) (sym (eq-eqb o.number n.number e)) (refl, refl)

@@ -2,7 +2,7 @@
 // are wanted. Nothing of either listing is written down.
 #![tactic(auto)]
 
-ghost use Rattle.std.specs.Prelude.{◌≡◌, List, ◌++◌, ℕ, ◌*◌, ◌≤◌, length, eqb};
+ghost use Rattle.std.specs.Prelude.{◌≡◌, Bool, true, false, List, ◌++◌, ℕ, ◌*◌, ◌≤◌, length, eqb};
 ghost use Rattle.byte_numbers.specs.Numbers.{bytes4};
 ghost use Rattle.asmap_program.specs.Map.{limit};
 ghost use Rattle.prefix_records.specs.Tiling.{Piece};
@@ -10,7 +10,7 @@ ghost use Rattle.prefix_records.specs.models.Cursor.{value_of, record_at, Behind
 ghost use Rattle.asmap_changes.specs.Changes.{changes_of};
 ghost use Rattle.asmap_changes.specs.models.Side.{Ready, Coming, Comes, Fronted, Paired, place_of, put_if, added, Noted, Roomy, RoomFor, Whole, most_changes};
 
-use asmap_list_step::Spot;
+use asmap_list_step::{Spot, Stack};
 use prefix_records::Address;
 
 // The foremost piece of a listing: where it begins and the address behind it, its prefix length and number, and where the listing stands behind it.
@@ -54,10 +54,10 @@ fn front_at(begin: Address, len: u8, number: u32, s: Spot) -> Front
 {
     let end = prefix_records::behind(begin, len);
     Front {
-        begin: begin,
-        end: end,
-        len: len,
-        number: number,
+        begin,
+        end,
+        len,
+        number,
         spot: Spot {
             at: s.at,
             used: s.used,
@@ -71,20 +71,11 @@ fn front_at(begin: Address, len: u8, number: u32, s: Spot) -> Front
 }
 
 // The next piece of a listing, which begins at an address; none at the listing's end.
-fn next_front(
-    map: &[u8],
-    begin: Address,
-    from: Spot,
-    bits: &mut [u8],
-    numbers: &mut [u32],
-) -> Option<Front>
-    requires { (length map.now ≤ limit) × Comes map.now from begin bits.old numbers.old }
-    ensures { (lo : ℕ) (ps : List Piece) → Coming map.now from begin bits.old numbers.old lo ps → Fronted map.now from ps bits.new numbers.new result }
+fn next_front(map: &[u8], begin: Address, from: Spot, stack: &mut Stack) -> Option<Front>
+    requires { (length map.now ≤ limit) × Comes map.now from begin stack.old.bits stack.old.numbers }
+    ensures { (lo : ℕ) (ps : List Piece) → Coming map.now from begin stack.old.bits stack.old.numbers lo ps → Fronted map.now from ps stack.new.bits stack.new.numbers result }
 {
-    let got = asmap_list_step::next_piece(map, from, bits, numbers);
-    let Some((len, number, next)) = got else {
-        return None;
-    };
+    let (len, number, next) = asmap_list_step::next_piece(map, from, stack)?;
     Some(front_at(begin, len, number, next))
 }
 
@@ -93,28 +84,45 @@ fn shared(o: Front, n: Front) -> Place
     ensures { result ≡ place_of o n }
 {
     if o.len < n.len {
-        let begin = n.begin;
         return Place {
-            begin: begin,
+            begin: n.begin,
             len: n.len,
         };
     }
-    let begin = o.begin;
     Place {
-        begin: begin,
+        begin: o.begin,
         len: o.len,
     }
 }
 
-// Where the pieces are counted only, nothing is written.
-fn put_if(writes: bool, out: &mut [u8], k: usize, p: Place, old: u32, new: u32)
-    requires { Roomy writes k out.old }
-    ensures { out.new ≡ put_if writes out.old (28 * k) (record_at p.begin p.len old ++ bytes4 new) }
-{
-    if writes {
-        let begin = p.begin;
-        prefix_changes::put_change(out, 28 * k, begin, p.len, old, new);
+// What is done about a piece that differs, the k-th.
+pub trait Report {
+    // whether it writes
+    ghost writes: { Bool };
+
+    fn piece(out: &mut [u8], k: usize, p: Place, old: u32, new: u32)
+        requires { Roomy writes k out.old }
+        ensures { out.new ≡ put_if writes out.old (28 * k) (record_at p.begin p.len old ++ bytes4 new) };
+}
+
+// Its record is written.
+pub struct Written;
+
+impl Report for Written {
+    ghost writes = { true };
+
+    fn piece(out: &mut [u8], k: usize, p: Place, old: u32, new: u32) {
+        prefix_changes::put_change(out, 28 * k, p.begin, p.len, old, new);
     }
+}
+
+// It is only counted, and nothing is written.
+pub struct Counted;
+
+impl Report for Counted {
+    ghost writes = { false };
+
+    fn piece(_out: &mut [u8], _k: usize, _p: Place, _old: u32, _new: u32) {}
 }
 
 // One piece more that differs.
@@ -129,25 +137,23 @@ fn add(found: Found, a: Address) -> Found
             first: a,
         };
     }
-    let first = found.first;
     Found {
         pieces: k + 1,
-        first: first,
+        ..found
     }
 }
 
 // The foremost pieces of both listings: what they share is a change where their numbers differ.
-fn note(found: Found, writes: bool, out: &mut [u8], o: Front, n: Front) -> Found
-    requires { (found.pieces ≤ most_changes) × ((o.number ≡ n.number → ⊥) → Roomy writes found.pieces out.old) }
-    ensures { Noted writes o n found result out.old out.new }
+fn note<R: Report>(found: Found, out: &mut [u8], o: Front, n: Front) -> Found
+    requires { (found.pieces ≤ most_changes) × ((o.number ≡ n.number → ⊥) → Roomy R.writes found.pieces out.old) }
+    ensures { Noted R.writes o n found result out.old out.new }
 {
     if o.number == n.number {
         return found;
     }
     let place = shared(o, n);
-    put_if(writes, out, found.pieces, place, o.number, n.number);
-    let begin = place.begin;
-    add(found, begin)
+    R::piece(out, found.pieces, place, o.number, n.number);
+    add(found, place.begin)
 }
 
 // Whether two addresses are one.
@@ -161,86 +167,60 @@ fn same(a: Address, b: Address) -> bool
 }
 
 // From the foremost pieces of both listings to their ends. Of two that overlap the one with the longer prefix ends first, or both end at once.
-fn merge(
+fn merge<R: Report>(
     old: &[u8],
     new: &[u8],
-    writes: bool,
     out: &mut [u8],
     first_old: Front,
     first_new: Front,
-    old_bits: &mut [u8],
-    old_numbers: &mut [u32],
-    new_bits: &mut [u8],
-    new_numbers: &mut [u32],
+    old_stack: &mut Stack,
+    new_stack: &mut Stack,
 ) -> Found
-    requires { Ready old.now × Ready new.now × RoomFor writes (length (changes_of old.now new.now 128)) out.old × Paired old.now new.now first_old first_new old_bits.old old_numbers.old new_bits.old new_numbers.old }
-    ensures { Whole writes (changes_of old.now new.now 128) out.old out.new result }
+    requires { Ready old.now × Ready new.now × RoomFor R.writes (length (changes_of old.now new.now 128)) out.old × Paired old.now new.now first_old first_new old_stack.old.bits old_stack.old.numbers new_stack.old.bits new_stack.old.numbers }
+    ensures { Whole R.writes (changes_of old.now new.now 128) out.old out.new result }
 {
     let mut found = nothing();
     let mut o = first_old;
     let mut n = first_new;
     loop {
-        found = note(found, writes, out, o, n);
-        let old_end = o.end;
-        let new_end = n.end;
-        let old_spot = o.spot;
-        let new_spot = n.spot;
-        if same(old_end, new_end) {
-            let next_old = next_front(old, old_end, old_spot, old_bits, old_numbers);
-            let Some(o1) = next_old else {
+        found = note::<R>(found, out, o, n);
+        if same(o.end, n.end) {
+            let Some(next_old) = next_front(old, o.end, o.spot, old_stack) else {
                 return found;
             };
-            let next_new = next_front(new, new_end, new_spot, new_bits, new_numbers);
-            let Some(n1) = next_new else {
+            let Some(next_new) = next_front(new, n.end, n.spot, new_stack) else {
                 return found;
             };
-            o = o1;
-            n = n1;
+            o = next_old;
+            n = next_new;
         } else if n.len < o.len {
-            let next_old = next_front(old, old_end, old_spot, old_bits, old_numbers);
-            let Some(o1) = next_old else {
+            let Some(next_old) = next_front(old, o.end, o.spot, old_stack) else {
                 return found;
             };
-            o = o1;
+            o = next_old;
         } else {
-            let next_new = next_front(new, new_end, new_spot, new_bits, new_numbers);
-            let Some(n1) = next_new else {
+            let Some(next_new) = next_front(new, n.end, n.spot, new_stack) else {
                 return found;
             };
-            n = n1;
+            n = next_new;
         }
     }
 }
 
-// The pieces on which two maps that the check accepts differ: how many, the first of them, and their records, where they are wanted.
-pub fn put_changes(old: &[u8], new: &[u8], writes: bool, out: &mut [u8]) -> Found
-    requires { Ready old.now × Ready new.now × RoomFor writes (length (changes_of old.now new.now 128)) out.old }
-    ensures { Whole writes (changes_of old.now new.now 128) out.old out.new result }
+// The pieces on which two maps that the check accepts differ: how many, and the first of them. Each is written or only counted, as R says.
+pub fn put_changes<R: Report>(old: &[u8], new: &[u8], out: &mut [u8]) -> Found
+    requires { Ready old.now × Ready new.now × RoomFor R.writes (length (changes_of old.now new.now 128)) out.old }
+    ensures { Whole R.writes (changes_of old.now new.now 128) out.old out.new result }
 {
-    let mut old_bits = asmap_list_step::stack_bits();
-    let mut old_numbers = asmap_list_step::stack_numbers();
-    let mut new_bits = asmap_list_step::stack_bits();
-    let mut new_numbers = asmap_list_step::stack_numbers();
+    let mut old_stack = Stack::new();
+    let mut new_stack = Stack::new();
     let zero = Address { high: 0, low: 0 };
     let s = asmap_list_step::start();
-    let first_old = next_front(old, zero, s, &mut old_bits, &mut old_numbers);
-    let Some(o) = first_old else {
+    let Some(o) = next_front(old, zero, s, &mut old_stack) else {
         return nothing();
     };
-    let first_new = next_front(new, zero, s, &mut new_bits, &mut new_numbers);
-    let Some(n) = first_new else {
+    let Some(n) = next_front(new, zero, s, &mut new_stack) else {
         return nothing();
     };
-    merge(
-        old,
-        new,
-        writes,
-        out,
-        o,
-        n,
-        &mut old_bits,
-        &mut old_numbers,
-        &mut new_bits,
-        &mut new_numbers,
-    )
+    merge::<R>(old, new, out, o, n, &mut old_stack, &mut new_stack)
 }
