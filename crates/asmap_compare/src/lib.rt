@@ -10,7 +10,7 @@ ghost use Rattle.asmap_changes.specs.models.Side.{Ready, RoomFor};
 ghost use Rattle.asmap_compare.specs.Compare.{Told, comparison, comparison_at, compare_of, compare_at, Finds};
 ghost use Rattle.asmap_compare.specs.Promise.{Compares};
 
-use asmap_changes::put_changes;
+use asmap_changes::{Counted, Written, put_changes};
 use asmap_program::ADDRESS_BITS;
 use refusals::Refusal;
 
@@ -19,7 +19,7 @@ fn write_changes(old: &[u8], new: &[u8], out: &mut [u8]) -> Result<usize, Refusa
     requires { Ready old.now × Ready new.now × RoomFor true (length (changes_of old.now new.now 128)) out.old }
     ensures { Hands (Made (change_records_of (changes_of old.now new.now 128))) out.old out.new result }
 {
-    Ok(28 * put_changes(old, new, true, out).pieces)
+    Ok(28 * put_changes::<Written>(old, new, out).pieces)
 }
 
 // The same into any output. One with room for all `pieces` of both maps has room for the changes; else they are counted first, so that an output
@@ -31,7 +31,7 @@ fn write_if_room(old: &[u8], new: &[u8], pieces: usize, out: &mut [u8]) -> Resul
     if pieces <= out.len() / 28 {
         return write_changes(old, new, out);
     }
-    let found = put_changes(old, new, false, out);
+    let found = put_changes::<Counted>(old, new, out);
     if out.len() / 28 < found.pieces {
         return Err(Refusal::OutputTooShort);
     }
@@ -76,7 +76,7 @@ fn find_changes(old: &[u8], new: &[u8], first: &mut [u8]) -> Result<usize, Refus
     if first.len() < 16 {
         return Err(Refusal::OutputTooShort);
     }
-    let found = put_changes(old, new, false, first);
+    let found = put_changes::<Counted>(old, new, first);
     let address = found.first;
     byte_numbers::put_big(first, 0, address.high);
     byte_numbers::put_big(first, 8, address.low);
