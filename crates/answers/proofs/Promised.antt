@@ -30,7 +30,7 @@ use Rattle.answer_bytes.specs.Bytes.{byte_count, Writes, Finds}
 use Rattle.answer_codes.specs.Codes.{code_read}
 use Rattle.answer_groups.specs.Groups.{group_found, totals_of, pick_made, Picks}
 use Rattle.answers.specs.Promise.{Finished, Demand3, Demand3At, CoreVerdict, CoreVerdictAt, CoreNumber, CoreNumberAt, CoreCode}
-use Rattle.answers.proofs.Handing.{hands}
+use Rattle.answers.proofs.Handing.{refusal_some, hands}
 use Rattle.answers.proofs.NeverZeroMaps.{byte_count_lem}
 use Rattle.answers.proofs.NeverZeroGroups.{pick_made_lem}
 use Rattle.asmap_program.specs.declared.Accepted as struct
@@ -40,8 +40,8 @@ use Rattle.netgroup_pick.specs.declared.Totals.{Totals}
 use Rattle.refusals.specs.declared.Fault.{Fault}
 use Rattle.refusals.specs.declared.Refusal.{Refusal}
 use Rattle.refusals.specs.declared.Refusal.TheVariants as refusal
-use Rattle.refusals.specs.Numbers.{of_map}
-use Rattle.std.specs.Prelude.{Result, Ok, Err}
+use Rattle.refusals.specs.Numbers.{refusal_number, of_map}
+use Rattle.std.specs.Prelude.{Result, Ok, Err, MatchResult, IsErrAnd}
 
 -- ---- the walk
 
@@ -114,6 +114,13 @@ pub core-code : (m : List ℕ) (at : ℕ) {x y : Result Code Fault} {answer valu
     → x ≡ y → CoreReads m at x r → Hands (code_read y) answer lent (value ∷ next ∷ []) → CoreCode m at answer value next r
 core-code m at {y} r e p h = read_by_core m at y (subst (λ (d : Result Code Fault). CoreReads m at d r) e p) h
 
+-- ---- what `map_err` makes of an answer that is refused for its map
+
+pub mapped : {A : Type 0} (x : Result A Fault) (y : Result A Refusal) → MatchResult x (λ a. y ≡ Ok a) (λ f. IsErrAnd y (λ e. e ≡ refusal.Map f)) → y ≡ of_map x
+mapped (Ok a) y h = h
+mapped (Err f) (Ok a) h = absurd h
+mapped (Err f) (Err e) h = ap Err h
+
 -- ---- the check: 0 where Core accepts, and no other number
 
 verdict_over : (m : List ℕ) (w : ℕ) (x : Result struct.Accepted Refusal) {r : ℕ} {lent left : List ℕ} → LikeCore m w x → Hands (map_checked x) r lent left
@@ -147,14 +154,11 @@ unfolding handed IsDone group_found
 found (Ok g') h z = let e = h.numbers in cc
 found (Err n) h z = absurd (h.zero_is_done z)
 
-wrote : (x : Result ℕ Refusal) {r n : ℕ} {lent : List ℕ} → Hands (byte_count x) r lent (n ∷ []) → r ≡ 0 → x ≡ Ok n
-unfolding handed IsDone byte_count
-wrote (Ok k) h z = let e = h.numbers in cc
-wrote (Err k) h z = absurd (h.zero_is_done z)
-
--- what is promised of an answer x, which is y, holds of the bytes that were written
-pub of_written : (P : Result ℕ Refusal → Type 0) (y : Result ℕ Refusal) {x : Result ℕ Refusal} {r n : ℕ} {lent : List ℕ} → P x → x ≡ y → Hands (byte_count y) r lent (n ∷ []) → r ≡ 0 → P (Ok n)
-of_written P y k e h z = subst P (e ∙ wrote y h z) k
+-- what is promised of an answer x holds of the bytes that were written
+pub of_written : (P : Result ℕ Refusal → Type 0) (x : Result ℕ Refusal) (lent : List ℕ) {r n : ℕ} → P x → r ∷ n ∷ [] ≡ handed (byte_count x) lent → r ≡ 0 → P (Ok n)
+unfolding handed byte_count
+of_written P (Ok k) lent {n} p e z = let q : k ≡ n = cc in subst (λ (m : ℕ). P (Ok m)) q p
+of_written P (Err f) lent p e z = let q : refusal_number f ≡ 0 = cc in let s = refusal_some f in absurd (omega arith)
 
 pub picked : (x : Result Totals Refusal) {r total first examined instructions : ℕ} {lent : List ℕ}
     → Hands (pick_made x) r lent (total ∷ first ∷ examined ∷ instructions ∷ []) → r ≡ 0 → x ≡ Ok (totals_of total first examined instructions)
