@@ -10,20 +10,24 @@ ghost use Rattle.asmap_compare.specs.Compare.{comparison, compare_of};
 ghost use Rattle.asmap_compare.specs.Promise.{Compares};
 ghost use Rattle.answer_outcome.specs.Outcome.{Hands};
 ghost use Rattle.answer_maps.specs.Maps.{map_checked, check_stopped, walk_made};
-ghost use Rattle.answer_bytes.specs.Bytes.{bytes_needed, Writes, Finds};
+ghost use Rattle.answer_bytes.specs.Bytes.{byte_count, Writes, Finds};
 ghost use Rattle.answers.specs.Promise.{Demand3, CoreVerdict, CoreNumber};
 ghost use Rattle.refusals.specs.Numbers.{of_map};
 
-use refusals::Refusal;
-use answer_bytes::{hand_bytes, hand_needed};
+use answer_bytes::hand_bytes;
 use answer_maps::{hand_stop, hand_verdict, hand_walk};
+use refusals::Refusal;
 
 // Checks a map. 0 says that it is accepted, with its instructions counted and the most jumps open at once. Refusals 1 to 10 and 19.
 pub fn corbastrigo_sanity_check(map: &[u8], count: &mut u32, depth: &mut u8) -> u8
     ensures hands { Hands (map_checked (of_map (check_of map.now 128))) result (count.old ∷ depth.old ∷ []) (count.new ∷ depth.new ∷ []) }
     ensures core { CoreVerdict map.now result }
 {
-    hand_verdict(asmap_check::sanity_check(map).map_err(Refusal::Map), count, depth)
+    hand_verdict(
+        asmap_check::sanity_check(map).map_err(Refusal::Map),
+        count,
+        depth,
+    )
 }
 
 // Says where the check of a map stops, and why: the reason, 0 where the check accepts and else 2 to 10 or 19, and the place, the bit of the map at
@@ -31,7 +35,11 @@ pub fn corbastrigo_sanity_check(map: &[u8], count: &mut u32, depth: &mut u8) -> 
 pub fn corbastrigo_sanity_check_stop(map: &[u8], reason: &mut u8, place: &mut usize) -> u8
     ensures { Hands (check_stopped (of_map (stopped_of map.now 128))) result (reason.old ∷ place.old ∷ []) (reason.new ∷ place.new ∷ []) }
 {
-    hand_stop(asmap_check::sanity_check_stop(map).map_err(Refusal::Map), reason, place)
+    hand_stop(
+        asmap_check::sanity_check_stop(map).map_err(Refusal::Map),
+        reason,
+        place,
+    )
 }
 
 // Walks any map by an address of 16 bytes. `kind` is 1 where the walk ended at a RETURN, 2 at a MATCH that differs. Where it aborted `kind`
@@ -83,9 +91,9 @@ pub fn corbastrigo_list(map: &[u8], out: &mut [u8], written: &mut usize) -> u8
 
 // Says how many bytes the listing of a map needs. Refusals: the check's, 1 to 10 and 19.
 pub fn corbastrigo_list_bytes(map: &[u8], bytes: &mut usize) -> u8
-    ensures { Hands (bytes_needed (needed_of map.now 128)) result (bytes.old ∷ []) (bytes.new ∷ []) }
+    ensures { Hands (byte_count (needed_of map.now 128)) result (bytes.old ∷ []) (bytes.new ∷ []) }
 {
-    hand_needed(asmap_list::list_bytes(map), bytes)
+    hand_bytes(asmap_list::list_bytes(map), bytes)
 }
 
 // Compares two maps that the check accepts, for every address: a record of 28 bytes for each prefix on which they differ. An address lies in a record
@@ -114,5 +122,5 @@ pub fn corbastrigo_compare_bytes(
     ensures finds { Finds (comparison old_map.now new_map.now 128) first.old first.new result (bytes.old ∷ []) (bytes.new ∷ []) }
     ensures compares { Compares old_map.now new_map.now 128 }
 {
-    hand_needed(asmap_compare::compare_bytes(old_map, new_map, first), bytes)
+    hand_bytes(asmap_compare::compare_bytes(old_map, new_map, first), bytes)
 }

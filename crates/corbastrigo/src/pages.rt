@@ -23,9 +23,10 @@ pub fn corbastrigo_page(
     ensures told { result ≡ 0 → Told (numbering_of has_map map.now) candidates.now (Ok written.new) }
     ensures unaborted { result ≡ 0 → Unaborted (numbering_of has_map map.now) candidates.now (Ok written.new) }
 {
-    let grouping = grouping_of(has_map, map);
-    let got = spread_page::page(candidates, grouping, out);
-    hand_bytes(got, written)
+    hand_bytes(
+        spread_page::page(candidates, grouping_of(has_map), map, out),
+        written,
+    )
 }
 
 // The same over a map taken as it is. Refusals 13, 12, 13, with a map 1, then 14.
@@ -40,9 +41,10 @@ pub fn corbastrigo_page_unchecked(
     ensures told { result ≡ 0 → Told (numbering_of has_map map.now) candidates.now (Ok written.new) }
     ensures unaborted { check_refusal (numbering_of has_map map.now) ≡ None → result ≡ 0 → Unaborted (numbering_of has_map map.now) candidates.now (Ok written.new) }
 {
-    let grouping = grouping_of(has_map, map);
-    let got = spread_page::page_unchecked(candidates, grouping, out);
-    hand_bytes(got, written)
+    hand_bytes(
+        spread_page::page_unchecked(candidates, grouping_of(has_map), map, out),
+        written,
+    )
 }
 
 // The page without a map in the old numbering of prefixes (document 02, CR 7). Refusals 13, 12, 13, 14.
@@ -50,6 +52,5 @@ pub fn corbastrigo_old_prefix_page(candidates: &[u8], out: &mut [u8], written: &
     ensures writes { Writes (old_prefix_page candidates.now) out.old out.new result (written.old ∷ []) (written.new ∷ []) }
     ensures told { result ≡ 0 → Told by_old_prefixes candidates.now (Ok written.new) }
 {
-    let got = spread_page::old_prefix_page(candidates, out);
-    hand_bytes(got, written)
+    hand_bytes(spread_page::old_prefix_page(candidates, out), written)
 }

@@ -11,10 +11,10 @@ ghost use Rattle.asmap_compare.specs.Compare.{comparison_at, compare_at};
 ghost use Rattle.asmap_compare.specs.Promise.{Compares};
 ghost use Rattle.answer_outcome.specs.Outcome.{Hands};
 ghost use Rattle.answer_maps.specs.Maps.{map_checked, check_stopped, walk_made};
-ghost use Rattle.answer_bytes.specs.Bytes.{bytes_needed, Writes, Finds};
+ghost use Rattle.answer_bytes.specs.Bytes.{byte_count, Writes, Finds};
 ghost use Rattle.answers.specs.Promise.{Demand3At, CoreVerdictAt, CoreNumberAt};
 
-use answer_bytes::{hand_bytes, hand_needed};
+use answer_bytes::hand_bytes;
 use answer_maps::{hand_stop, hand_verdict, hand_walk};
 
 // Checks a map over the width's address bits. Refusals 18, then 1 to 10 and 19.
@@ -83,9 +83,9 @@ pub fn corbastrigo_list_bits(map: &[u8], width: u32, out: &mut [u8], written: &m
 
 // Says how many bytes that listing needs. Refusals 18, the check's.
 pub fn corbastrigo_list_bytes_bits(map: &[u8], width: u32, bytes: &mut usize) -> u8
-    ensures { Hands (bytes_needed (needed_at map.now width)) result (bytes.old ∷ []) (bytes.new ∷ []) }
+    ensures { Hands (byte_count (needed_at map.now width)) result (bytes.old ∷ []) (bytes.new ∷ []) }
 {
-    hand_needed(asmap_list::list_bytes_bits(map, width), bytes)
+    hand_bytes(asmap_list::list_bytes_bits(map, width), bytes)
 }
 
 // Compares two maps that the check accepts at the width, for every address of so many bits. Refusals 18, the old map's check, the new map's with 100
@@ -117,7 +117,7 @@ pub fn corbastrigo_compare_bytes_bits(
     ensures finds { Finds (comparison_at old_map.now new_map.now width) first.old first.new result (bytes.old ∷ []) (bytes.new ∷ []) }
     ensures compares { Compares old_map.now new_map.now width }
 {
-    hand_needed(
+    hand_bytes(
         asmap_compare::compare_bytes_bits(old_map, new_map, width, first),
         bytes,
     )

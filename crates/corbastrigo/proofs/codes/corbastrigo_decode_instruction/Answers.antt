@@ -5,4 +5,4 @@ use Rattle.answers.proofs.NeverZeroCodes.{instruction_read_lem}
 use Rattle.corbastrigo.proofs.codes.corbastrigo_decode_instruction.Goals as goal
 
 pub returns : goal.returns
-returns c = let a = c.args in hands instruction_read c.decode_instruction.ensures (instruction_read_lem a.map.now a.at) c.hand_instruction.ensures
+returns c = hands instruction_read c.decode_instruction.ensures instruction_read_lem c.hand_instruction.ensures

@@ -1,5 +1,4 @@
 -- What the decoder answered is handed out, and it is what Core reads (`core-code`).
-use Rattle.asmap_codes.specs.Row.{jump_row}
 use Rattle.asmap_codes.specs.Core.{file_of}
 use Rattle.answer_codes.specs.Codes.{code_read}
 use Rattle.answers.proofs.Handing.{hands}
@@ -11,5 +10,5 @@ pub returns : goal.returns
 returns c =
     let a = c.args in
     let d = c.decode_jump.ensures in
-    let h = hands code_read d.value (code_read_lem a.map.now a.at jump_row) c.hand_code.ensures in
+    let h = hands code_read d.value code_read_lem c.hand_code.ensures in
     record { hands = h; core = core-code a.map.now a.at ((file_of a.map.now).decode_jump a.at) d.value d.core h }

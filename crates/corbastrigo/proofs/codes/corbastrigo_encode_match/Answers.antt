@@ -1,9 +1,8 @@
 -- What the writer answered is handed out.
-use Rattle.asmap_codes.specs.Row.{match_row}
 use Rattle.answer_codes.specs.Codes.{bits_written}
 use Rattle.answers.proofs.Handing.{hands}
-use Rattle.answers.proofs.NeverZeroCodes.{code_written}
+use Rattle.answers.proofs.NeverZeroCodes.{bits_written_lem}
 use Rattle.corbastrigo.proofs.codes.corbastrigo_encode_match.Goals as goal
 
 pub returns : goal.returns
-returns c = hands bits_written c.encode_match.ensures (code_written match_row c.args.value) c.hand_bits.ensures
+returns c = hands bits_written c.encode_match.ensures bits_written_lem c.hand_bits.ensures

@@ -5,6 +5,4 @@ use Rattle.answers.proofs.NeverZeroGroups.{scan_made_lem}
 use Rattle.corbastrigo.proofs.groups.corbastrigo_scan_occupied.Goals as goal
 
 pub returns : goal.returns
-returns c =
-    let a = c.args in
-    hands scan_made c.scan_occupied.ensures.value (scan_made_lem a.group a.occupied.now) c.hand_scan.ensures
+returns c = hands scan_made c.scan_occupied.ensures.value scan_made_lem c.hand_scan.ensures

@@ -10,5 +10,5 @@ pub returns : goal.returns
 returns c =
     let s = c.args.s in
     let p = c.next_draw.ensures in
-    let h = hands number_drawn p.value (draw_drawn s) c.hand_draw.ensures in
+    let h = hands number_drawn p.value draw_drawn c.hand_draw.ensures in
     record { hands = h; some = λ z. p.some _ (p.value ∙ number_drawn_lem (drawn_after s) h z) }

@@ -9,4 +9,4 @@ pub returns : goal.returns
 returns c =
     let a = c.args in
     let w = c.interpret.ensures in
-    let h = c.hand_walk.ensures in record { hands = hands walk_made w.walked (walk_made_lem a.map.now a.address.now) h; demand3 = walk_finished a.map.now a.address.now _ _ _ _ _ _ _ w.demand3 h; core = core-number a.map.now a.address.now _ _ _ _ _ _ _ w.core h }
+    let h = c.hand_walk.ensures in record { hands = hands walk_made w.walked walk_made_lem h; demand3 = walk_finished a.map.now a.address.now _ _ _ _ _ _ _ w.demand3 h; core = core-number a.map.now a.address.now _ _ _ _ _ _ _ w.core h }
