@@ -10,7 +10,7 @@ ghost use Rattle.asmap_compare.specs.Compare.{comparison, compare_of};
 ghost use Rattle.asmap_compare.specs.Promise.{Compares};
 ghost use Rattle.answer_outcome.specs.Outcome.{Hands};
 ghost use Rattle.answer_maps.specs.Maps.{map_checked, check_stopped, walk_made};
-ghost use Rattle.answer_bytes.specs.Bytes.{bytes_needed, Writes, Finds};
+ghost use Rattle.answer_bytes.specs.Bytes.{byte_count, Writes, Finds};
 ghost use Rattle.answers.specs.Promise.{Demand3, CoreVerdict, CoreNumber};
 ghost use Rattle.refusals.specs.Numbers.{of_map};
 
@@ -73,7 +73,7 @@ pub extern "C" fn corbastrigo_list(map: &[u8], out: &mut [u8], written: &mut usi
 
 #[unsafe(no_mangle)]
 pub extern "C" fn corbastrigo_list_bytes(map: &[u8], bytes: &mut usize) -> u8
-    ensures { Hands (bytes_needed (needed_of map.now 128)) result (bytes.old ∷ []) (bytes.new ∷ []) }
+    ensures { Hands (byte_count (needed_of map.now 128)) result (bytes.old ∷ []) (bytes.new ∷ []) }
 {
     corbastrigo::maps::corbastrigo_list_bytes(map, bytes)
 }

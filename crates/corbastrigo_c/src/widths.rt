@@ -9,7 +9,7 @@ ghost use Rattle.asmap_compare.specs.Compare.{comparison_at, compare_at};
 ghost use Rattle.asmap_compare.specs.Promise.{Compares};
 ghost use Rattle.answer_outcome.specs.Outcome.{Hands};
 ghost use Rattle.answer_maps.specs.Maps.{map_checked, check_stopped, walk_made};
-ghost use Rattle.answer_bytes.specs.Bytes.{bytes_needed, Writes, Finds};
+ghost use Rattle.answer_bytes.specs.Bytes.{byte_count, Writes, Finds};
 ghost use Rattle.answers.specs.Promise.{Demand3At, CoreVerdictAt, CoreNumberAt};
 
 #[unsafe(no_mangle)]
@@ -81,7 +81,7 @@ pub extern "C" fn corbastrigo_list_bits(
 
 #[unsafe(no_mangle)]
 pub extern "C" fn corbastrigo_list_bytes_bits(map: &[u8], width: u32, bytes: &mut usize) -> u8
-    ensures { Hands (bytes_needed (needed_at map.now width)) result (bytes.old ∷ []) (bytes.new ∷ []) }
+    ensures { Hands (byte_count (needed_at map.now width)) result (bytes.old ∷ []) (bytes.new ∷ []) }
 {
     corbastrigo::widths::corbastrigo_list_bytes_bits(map, width, bytes)
 }
