@@ -1,13 +1,15 @@
 -- What an answer says, from the contract that every exported call has (`Hands`).
 -- Assumes nothing.
 use Prim.Native.Nat.{ℕ}
-use mathlib.Core.Path.{◌≡◌, ap, subst}
+use mathlib.Core.Path.{◌≡◌, ap, ap₂, subst}
 use mathlib.Core.Logic.{◌⊎◌, inl, inr}
 use mathlib.Core.List.{List, [], ◌∷◌}
 use Rattle.answer_outcome.specs.Outcome.{Outcome, Done, No, handed, IsDone, Hands}
 use Rattle.answer_maps.specs.Maps.{map_checked}
 use Rattle.answers.proofs.Handing.{Refuses}
 use Rattle.asmap_program.specs.Verdict.{Accepted, Verdict}
+use Rattle.refusals.specs.declared.Fault.{Fault}
+use Rattle.refusals.specs.Numbers.{fault_number, of_map}
 use Rattle.std.specs.Prelude.{Err, Ok}
 
 -- ---- any call
@@ -36,22 +38,26 @@ done_as o e h = let n = rw e at h.numbers in cc
 -- ---- the check
 
 -- 0: accepted
-pub accepted : (v : Verdict) {r c d : ℕ} {lent : List ℕ} → Hands (map_checked v) r lent (c ∷ d ∷ []) → r ≡ 0 → v ≡ Accepted c d
+pub accepted : (v : Verdict) {r c d : ℕ} {lent : List ℕ} → Hands (map_checked (of_map v)) r lent (c ∷ d ∷ []) → r ≡ 0 → v ≡ Accepted c d
 unfolding handed IsDone map_checked
-accepted (Ok got) h z = let e = h.numbers in cc
-accepted (Err n) h z = absurd (h.zero_is_done z)
+accepted (Ok got) {r} {c} {d} h z =
+    let e = h.numbers in
+    let x : got.count ≡ c = cc in
+    let y : got.depth ≡ d = cc in
+    ap₂ Accepted x y
+accepted (Err f) h z = absurd (h.zero_is_done z)
 
 -- and an accepted map is answered by 0
-pub answered : (v : Verdict) {r c d : ℕ} {lent left : List ℕ} → v ≡ Accepted c d → Hands (map_checked v) r lent left → r ≡ 0
+pub answered : (v : Verdict) {r c d : ℕ} {lent left : List ℕ} → v ≡ Accepted c d → Hands (map_checked (of_map v)) r lent left → r ≡ 0
 unfolding map_checked
-answered v e h = done_as (map_checked v) (ap map_checked e) h
+answered v e h = done_as (map_checked (of_map v)) (ap (λ (x : Verdict). map_checked (of_map x)) e) h
 
 -- with its count and its depth
-pub handed_out : (v : Verdict) {r c d : ℕ} {lent left : List ℕ} → v ≡ Accepted c d → Hands (map_checked v) r lent left → (r ≡ 0) × (left ≡ c ∷ d ∷ [])
+pub handed_out : (v : Verdict) {r c d : ℕ} {lent left : List ℕ} → v ≡ Accepted c d → Hands (map_checked (of_map v)) r lent left → (r ≡ 0) × (left ≡ c ∷ d ∷ [])
 unfolding handed map_checked
 handed_out v e h = let k = rw e at h.numbers in (cc, cc)
 
--- a refusal's number is the answer
-pub refused_by : (v : Verdict) {r n : ℕ} {lent left : List ℕ} → v ≡ Err n → Hands (map_checked v) r lent left → r ≡ n
+-- the number of what is wrong is the answer
+pub refused_by : (v : Verdict) {f : Fault} {r : ℕ} {lent left : List ℕ} → v ≡ Err f → Hands (map_checked (of_map v)) r lent left → r ≡ fault_number f
 unfolding map_checked
-refused_by v e h = refused_as (map_checked v) (ap map_checked e) h
+refused_by v e h = refused_as (map_checked (of_map v)) (ap (λ (x : Verdict). map_checked (of_map x)) e) h

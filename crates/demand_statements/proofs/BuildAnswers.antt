@@ -7,10 +7,11 @@ use mathlib.Core.Logic.{◌⊎◌, inl, inr}
 use mathlib.Core.List.{List, [], ◌∷◌}
 use native.Mathlib.Numerals.{add-one}
 use native.Mathlib.Omega.{arith}
-use lib.Dec.{ltb, leb, eqb}
+use lib.Dec.{ltb}
 use lib.Pow as pow
 use lib.ListN.{length, take, get_or}
-use borrow.Author.Tests.{eqb-true, eq-eqb, leb-true, le-leb, ltb-false}
+use borrow.Author.Tests.{ltb-false}
+use Rattle.std.proofs.lemmas.Bool.Decides.{nat_tests}
 use Rattle.asmap_program.specs.Map.{address_bit}
 use Rattle.asmap_program.specs.Widths.{is_width, at_width}
 use Rattle.asmap_program.proofs.Widths.{at_width_lem, no_width, a_width, neither_width, narrow}
@@ -20,7 +21,7 @@ use Rattle.prefix_records.proofs.PlaceLaws.{held_from, held_if}
 use Rattle.prefix_lists.specs.List.{big, count_of, address_at, length_at, piece_at, number_at, earliest, fits, is_number, judge}
 use Rattle.prefix_lists.specs.models.Listed.{Rising}
 use Rattle.prefix_lists.proofs.BigLaws.{halves, big-eight}
-use Rattle.prefix_lists.proofs.FitLaws.{Fitting, fitting, and-true, clean-first, clean_past}
+use Rattle.prefix_lists.proofs.FitLaws.{Fitting, fitting, clean-first, clean_past}
 use Rattle.prefix_lists.proofs.JudgeLaws.{number_read, judge_uneven}
 use Rattle.prefix_lists.proofs.ListLaws.{Passes, Judgement, all_passed, judged_rising}
 use Rattle.prefix_lists.proofs.ListLaws as lists
@@ -33,9 +34,9 @@ use Rattle.asmap_build.specs.Build.{number_in, tree_bits, build_as, build_of, bu
 use Rattle.asmap_build.specs.Promise as promise
 use Rattle.asmap_build.proofs.WidthLaws.{number_scaled}
 use Rattle.answer_outcome.specs.Outcome.{Outcome}
-use Rattle.answer_bytes.specs.Bytes.{bytes_written, Writes}
+use Rattle.answer_bytes.specs.Bytes.{byte_count, Writes}
 use Rattle.answers.proofs.NeverZeroBuilds.{build-numbers}
-use Rattle.demand_statements.specs.Listed.{eight, address, first, past, number}
+use Rattle.demand_statements.specs.Listed.{eight, address, first, past}
 use Rattle.demand_statements.specs.Built.{InRange, Right, Builds, Built}
 use Rattle.demand_statements.proofs.AnswerLaws.{numbered, refused_as}
 use Rattle.demand_statements.proofs.TripLaws.{wrote, has_room, no_room, left_alone}
@@ -60,16 +61,13 @@ past_is l j z = ap (λ (x : ℕ). x + 2 ^ (128 - length_at l j)) (first_is l j) 
 -- ---- a right list is one that is not refused
 
 in_range : (n : ℕ) → is_number n ≡ true → InRange n
-in_range n h = let a = and-true (leb 1 n) (leb n 33521664) h in (leb-true 1 n a.0, leb-true n 33521664 a.1)
+in_range n h = (grind (arith, nat_tests), grind (arith, nat_tests))
 
 is-number : (n : ℕ) → InRange n → is_number n ≡ true
-is-number n h = rw (le-leb 1 n h.0, le-leb n 33521664 h.1)
+is-number n h = grind (arith, nat_tests)
 
 zeros_of : (w : ℕ) (l : List ℕ) (j : ℕ) → Fitting w l j → (get_or l (24 * j + 17) 0 ≡ 0) × (get_or l (24 * j + 18) 0 ≡ 0) × (get_or l (24 * j + 19) 0 ≡ 0)
-zeros_of w l j f =
-    let b = and-true (eqb (get_or l (24 * j + 17) 0) 0 && eqb (get_or l (24 * j + 18) 0) 0) (eqb (get_or l (24 * j + 19) 0) 0) f.zeros in
-    let c = and-true (eqb (get_or l (24 * j + 17) 0) 0) (eqb (get_or l (24 * j + 18) 0) 0) b.0 in
-    (eqb-true (get_or l (24 * j + 17) 0) 0 c.0, eqb-true (get_or l (24 * j + 18) 0) 0 c.1, eqb-true (get_or l (24 * j + 19) 0) 0 b.1)
+zeros_of w l j f = let z = f.zeros in (grind (arith, nat_tests), grind (arith, nat_tests), grind (arith, nat_tests))
 
 right_of : (w : ℕ) (l : List ℕ) (given : ℕ) → Judgement w l given → Right l given w
 right_of w l given j = record {
@@ -101,15 +99,11 @@ module _ (w : ℕ) (l : List ℕ) (given : ℕ) (r : Right l given w) where
   passes_at : (j : ℕ) → j < length l / 24 → Passes w l j
   unfolding fits
   passes_at j h =
-      let z = r.zeros j h in (
-        rw (
-          le-leb (length_at l j) w (r.short j h),
-          eq-eqb (get_or l (24 * j + 17) 0) 0 z.0,
-          eq-eqb (get_or l (24 * j + 18) 0) 0 z.1,
-          eq-eqb (get_or l (24 * j + 19) 0) 0 z.2,
-          eq-eqb (address_at l j % 2 ^ (128 - length_at l j)) 0 (clean_at j h),
-          le-leb (earliest l j) (address_at l j) (earliest_at j h),
-        ),
+      let z = r.zeros j h in
+      let a = r.short j h in
+      let c = clean_at j h in
+      let e = earliest_at j h in (
+        grind (arith, nat_tests),
         is-number (piece_at l j).number (subst InRange (sym (number_read l j)) (r.numbers j h)),
       )
 
@@ -133,16 +127,16 @@ made_from l given w bs e = go (is_width w) refl e
   where
     by : (v : Result (Unit {0}) Refusal) → judge w l given ≡ v → build_as (tree_bits l given w) v ≡ Made bs → judge w l given ≡ Listed
     by Listed q h = q
-    by (Err n) q h = let z : ◌≡◌ {A = ℕ} 0 1 = cc in absurd (omega arith)
+    by (Err n) q h = absurd cc
 
     go : (b : Bool) → is_width w ≡ b → mathlib.Core.Bool.cond b (build_of l given w) (No refusal.Width) ≡ Made bs → (is_width w ≡ true) × (judge w l given ≡ Listed)
     go true q h = (q, by (judge w l given) refl h)
-    go false q h = let z : ◌≡◌ {A = ℕ} 0 1 = cc in absurd (omega arith)
+    go false q h = absurd cc
 
 -- a right list is answered, or its map is over the limit
 answers : (l : List ℕ) (given w : ℕ) (o o' : List ℕ) {r x x' : ℕ} → Writes (build_at l given w) o o' r (x ∷ []) (x' ∷ [])
     → (w ≡ 32) ⊎ (w ≡ 128) → judge w l given ≡ Listed → 16777216 ≤ length o → (r ≡ 0) ⊎ (r ≡ 1)
-unfolding bytes_written refuse
+unfolding byte_count refuse
 answers l given w o o' {r} h k e room = go (ltb 134217728 (length bits)) refl
   where
     bits : List ℕ
@@ -152,13 +146,13 @@ answers l given w o o' {r} h k e room = go (ltb 134217728 (length bits)) refl
     made = at_bits l given w k ∙ ap (build_as bits) e
 
     go : (b : Bool) → ltb 134217728 (length bits) ≡ b → (r ≡ 0) ⊎ (r ≡ 1)
-    go true q = inr (refused_as _ (ap (λ (x : Making). bytes_written (answer_of (within (length o) x))) (made ∙ ap (λ (b : Bool). refuse b (refusal.Map fault.MapTooLong) (Made (bytes_of bits))) q)) h.hands)
+    go true q = inr (refused_as _ (ap (λ (x : Making). byte_count (answer_of (within (length o) x))) (made ∙ ap (λ (b : Bool). refuse b (refusal.Map fault.MapTooLong) (Made (bytes_of bits))) q)) h.hands)
     go false q =
         inl (has_room (build_at l given w) (bytes_of bits) o o' (made ∙ ap (λ (b : Bool). refuse b (refusal.Map fault.MapTooLong) (Made (bytes_of bits))) q)
         (omega (arith, length-bytes_of bits, ltb-false 134217728 (length bits) q, room)) h)
 
 pub builds : (l : List ℕ) (given w : ℕ) (o o' : List ℕ) {r x x' : ℕ} → Writes (build_at l given w) o o' r (x ∷ []) (x' ∷ []) → Builds l given w o o' r x x'
-unfolding bytes_written
+unfolding byte_count
 builds l given w o o' h = record {
   numbers = numbered BuildNumber _ (build-numbers BuildNumber (length o) l given w (inr (inr (inl refl))) (inr (inr (inr (inl refl)))) (inr (inr (inr (inr refl)))) (inl refl) (inr (inl refl))) h.hands;
   no_width = λ a b. refused_as _ (ap by (no_width w No (build_of l given w) (neither_width w a b))) h.hands;
@@ -171,7 +165,7 @@ builds l given w o o' h = record {
 }
   where
     by : Making → Outcome
-    by x = bytes_written (answer_of (within (length o) x))
+    by x = byte_count (answer_of (within (length o) x))
 
 -- ---- what was built
 

@@ -6,9 +6,10 @@ use mathlib.Core.Bool.{Bool, true, false, ◌&&◌}
 use mathlib.Core.Logic.{◌⊎◌, inl, inr}
 use mathlib.Core.List.{List, []}
 use native.Mathlib.Omega.{arith}
-use borrow.Author.Tests.{ltb-true, lt-ltb, le-ltb, le-leb, lt-leb}
-use lib.Dec.{ltb, leb}
+use borrow.Author.Tests.{ltb-true, lt-ltb, le-ltb}
+use lib.Dec.{ltb}
 use lib.ListN.{length, drop, drop_of_length-le}
+use Rattle.std.proofs.lemmas.Bool.Decides.{nat_tests}
 use Rattle.asmap_program.specs.Map.{limit, Fetched, Whole, CutOpcode, CutOperand, Part, Opcode, Operand, cut_reason}
 use Rattle.asmap_program.specs.Core.{Read}
 use Rattle.asmap_codes.specs.Bits.{map_bits}
@@ -27,6 +28,7 @@ use Rattle.demand_statements.specs.AnyInput.{Reads, ReadsInstruction, Writes, Wr
 use Rattle.demand_statements.proofs.AnswerLaws.{kept, refused_as, done_as}
 use Rattle.asmap_codes.specs.Reading.{Code, Cut, Value}
 use Rattle.refusals.specs.declared.Refusal.TheVariants as refusal
+use Rattle.refusals.specs.Numbers.{fault_number}
 use Rattle.std.specs.Prelude.{Ok, Err, Option}
 
 -- ---- reading
@@ -74,24 +76,24 @@ read_cut m o h l e = refused_as _ (ap o (le-ltb limit (length m) l) ∙ e) h
 nothing : (m : List ℕ) (at : ℕ) → 8 * length m ≤ at → drop at (map_bits m) ≡ []
 nothing m at h = drop_of_length-le (map_bits m) {i = at} (omega (arith, length-map_bits m))
 
-read_code_lem : (p : Part) (b : Bool) (c : Option Code) → Outcomes (λ n. n ≡ cut_reason p) b (code_read (answered p b c))
+read_code_lem : (p : Part) (b : Bool) (c : Option Code) → Outcomes (λ n. n ≡ fault_number (cut_reason p)) b (code_read (answered p b c))
 unfolding code_read
 read_code_lem p true c = long
 read_code_lem p false (Value v n) = found
 read_code_lem p false Cut = cut refl
 
-not_1 : (p : Part) → cut_reason p ≡ 1 → ⊥
+not_1 : (p : Part) → fault_number (cut_reason p) ≡ 1 → ⊥
 not_1 Opcode e = absurd (omega arith)
 not_1 Operand e = absurd (omega arith)
 
 -- a row's codes are cut where there are no bits
 pub code_reads : (m : List ℕ) (at : ℕ) (row : Row) {r : ℕ} {entry exit : List ℕ} → code row.sizes row.least at [] ≡ Cut
-    → Hands (code_read (read_code m at row)) r entry exit → Reads (cut_reason (part_from row.least)) m at r entry exit
+    → Hands (code_read (read_code m at row)) r entry exit → Reads (fault_number (cut_reason (part_from row.least))) m at r entry exit
 unfolding code_read
 code_reads m at row e h =
     let p = part_from row.least in
     let o : Bool → Outcome = λ (b : Bool). code_read (answered p b (code_at m at row)) in
-    let a = read_answered (λ n. n ≡ cut_reason p) (λ n q z. not_1 p (sym q ∙ z)) m o refl (read_code_lem p _ (code_at m at row)) h in
+    let a = read_answered (λ n. n ≡ fault_number (cut_reason p)) (λ n q z. not_1 p (sym q ∙ z)) m o refl (read_code_lem p _ (code_at m at row)) h in
     record {
       numbers = a.numbers;
       too_long = a.too_long;
@@ -128,18 +130,13 @@ instruction_reads m at h =
 
 -- ---- writing
 
-and-false : (b : Bool) → (b && false) ≡ false
-and-false true = refl
-and-false false = refl
-
 -- row: a row whose greatest value is this
 module _ (row : Row) (greatest : ℕ) (top : row.least + span row.sizes ≡ greatest + 1) (v : ℕ) where
   inside : row.least ≤ v → v ≤ greatest → in_range row v ≡ true
-  inside l h = rw (le-leb row.least v l, lt-ltb v (row.least + span row.sizes) (omega arith))
+  inside l h = grind (arith, nat_tests)
 
   outside : (v < row.least) ⊎ (greatest < v) → in_range row v ≡ false
-  outside (inl l) = rw (lt-leb row.least v l)
-  outside (inr h) = rw (le-ltb v (row.least + span row.sizes) (omega arith)) (and-false (leb row.least v))
+  outside h = grind (arith, nat_tests)
 
 wrote : (b : Bool) (w : Word) {r : ℕ} {entry exit : List ℕ} → b ≡ true → Hands (bits_written (pick_written b (Ok w) (Err refusal.OutOfRange))) r entry exit → r ≡ 0
 unfolding bits_written
@@ -178,7 +175,7 @@ instruction_writes op v h =
     let t = greatest_operand_lem op in
     let both : in_range type_row op ≡ true → in_range (operand_row op) v ≡ true → (in_range type_row op && in_range (operand_row op) v) ≡ true = λ a b. rw (a, b) in
     let first : in_range type_row op ≡ false → (in_range type_row op && in_range (operand_row op) v) ≡ false = λ a. rw a in
-    let second : in_range (operand_row op) v ≡ false → (in_range type_row op && in_range (operand_row op) v) ≡ false = λ b. rw b (and-false (in_range type_row op)) in
+    let second : in_range (operand_row op) v ≡ false → (in_range type_row op && in_range (operand_row op) v) ≡ false = λ b. grind (arith, nat_tests) in
     record {
       in_range = λ k l g. wrote _ w (both (inside type_row 3 refl op (omega arith) k) (inside (operand_row op) (greatest_operand op) t v (omega arith) g)) h;
       no_opcode = λ k. unwritten _ w (first (outside type_row 3 refl op (inr k))) h;

@@ -22,7 +22,7 @@ use Rattle.prefix_changes.proofs.RecordLaws.{length-changes}
 use Rattle.asmap_compare.proofs.CallLaws.{told, old_refused, new_refused, first-length}
 use Rattle.answer_outcome.specs.Outcome.{handed, IsDone, Hands}
 use Rattle.answer_maps.specs.Maps.{walk_made}
-use Rattle.answer_bytes.specs.Bytes.{bytes_written, bytes_needed, Writes, Finds}
+use Rattle.answer_bytes.specs.Bytes.{byte_count, Writes, Finds}
 use Rattle.answers.proofs.NeverZeroMaps.{map-numbers, compare-numbers, find-numbers}
 use Rattle.demand_statements.specs.AnyInput.{CheckNumber, NewMapNumber, Changes, FindsFirst}
 use Rattle.demand_statements.specs.Agreed.{AgreedWalks}
@@ -50,13 +50,13 @@ of_new n (inr e) = inr (inr (inr (omega arith)))
 -- ---- the comparison
 
 pub changed : (m n : List ℕ) (w : ℕ) (o o' : List ℕ) {r written written' : ℕ} → Writes (compare_of m n w) o o' r (written ∷ []) (written' ∷ []) → Changes m n w o o' r written written'
-unfolding bytes_written
+unfolding byte_count
 changed m n w o o' v = record {
   numbers = numbered OfTwo _
       (compare-numbers OfTwo m n w (map-numbers OfTwo of_old m w (inl number_1))
       (map-numbers (λ k. OfTwo (100 + k)) of_new n w (inr (inr (inl (omega arith, omega arith))))) (length o) (inr (inl refl))) v.hands;
-  old_refused = λ k e. refused_as _ (ap (λ (x : Comparison). bytes_written (answer_of (within (length o) (records_made x)))) (old_refused m n w k e)) v.hands;
-  new_refused = λ c d k e f. refused_as _ (ap (λ (x : Comparison). bytes_written (answer_of (within (length o) (records_made x)))) (new_refused m n w c d k e f)) v.hands;
+  old_refused = λ f e. refused_as _ (ap (λ (x : Comparison). byte_count (answer_of (within (length o) (records_made x)))) (old_refused m n w f e)) v.hands;
+  new_refused = λ c d f e g. refused_as _ (ap (λ (x : Comparison). byte_count (answer_of (within (length o) (records_made x)))) (new_refused m n w c d f e g)) v.hands;
   past = λ z. (wrote (compare_of m n w) v z).past;
   untouched = left_alone (compare_of m n w) v;
 }
@@ -65,22 +65,22 @@ changed m n w o o' v = record {
 
 -- what is lent for the address, by whether it is too short
 module _ (cs : List Change) (o o' : List ℕ) {r : ℕ} {lent left : List ℕ} where
-  past_first : (b : Bool) → Hands (bytes_needed (needed_with (Told cs) (refuse b refusal.OutputTooShort (Made (first_changed cs))))) r lent left
+  past_first : (b : Bool) → Hands (byte_count (needed_with (Told cs) (refuse b refusal.OutputTooShort (Made (first_changed cs))))) r lent left
       → o' ≡ leaves (refuse b refusal.OutputTooShort (Made (first_changed cs))) o → r ≡ 0 → drop 16 o' ≡ drop 16 o
-  unfolding refuse bytes_needed IsDone
+  unfolding refuse byte_count IsDone
   past_first true h e z = absurd (h.zero_is_done z)
   past_first false h e z =
       let f = first_changed cs in
       ap (drop 16) e ∙ ap (λ (k : ℕ). drop k (f ++ drop (length f) o)) (sym (first-length cs)) ∙ drop-append_seam f (drop (length f) o) ∙ ap (λ (k : ℕ). drop k o) (first-length cs)
 
-  left-first : (b : Bool) → Hands (bytes_needed (needed_with (Told cs) (refuse b refusal.OutputTooShort (Made (first_changed cs))))) r lent left
+  left-first : (b : Bool) → Hands (byte_count (needed_with (Told cs) (refuse b refusal.OutputTooShort (Made (first_changed cs))))) r lent left
       → o' ≡ leaves (refuse b refusal.OutputTooShort (Made (first_changed cs))) o → (r ≡ 0 → ⊥) → o' ≡ o
-  unfolding refuse bytes_needed handed
+  unfolding refuse byte_count handed
   left-first true h e n = e
   left-first false h e n = let k = h.numbers in let z : r ≡ 0 = cc in absurd (n z)
 
 past_finds : (c : Comparison) (o o' : List ℕ) {r : ℕ} {lent left : List ℕ} → Finds c o o' r lent left → r ≡ 0 → drop 16 o' ≡ drop 16 o
-unfolding bytes_needed IsDone
+unfolding byte_count IsDone
 past_finds (Told cs) o o' w z = past_first cs o o' (ltb (length o) (length (first_changed cs))) w.hands w.output z
 past_finds (Refuses k) o o' w z = absurd (w.hands.zero_is_done z)
 
@@ -89,19 +89,19 @@ left_finds (Told cs) o o' w n = left-first cs o o' (ltb (length o) (length (firs
 left_finds (Refuses k) o o' w n = w.output
 
 pub found : (m n : List ℕ) (w : ℕ) (o o' : List ℕ) {r bytes bytes' : ℕ} → Finds (comparison m n w) o o' r (bytes ∷ []) (bytes' ∷ []) → FindsFirst m n w o o' r bytes bytes'
-unfolding bytes_needed refuse
+unfolding byte_count refuse
 found m n w o o' {r} {bytes} {bytes'} v = record {
   numbers = numbered OfTwo _
       (find-numbers OfTwo m n w (map-numbers OfTwo of_old m w (inl number_1))
       (map-numbers (λ k. OfTwo (100 + k)) of_new n w (inr (inr (inl (omega arith, omega arith))))) (length o) (inr (inl refl))) v.hands;
-  old_refused = λ k e. refused_as _ (ap (λ (x : Comparison). bytes_needed (needed_with x (within (length o) (first_made x)))) (old_refused m n w k e)) v.hands;
-  new_refused = λ c d k e f. refused_as _ (ap (λ (x : Comparison). bytes_needed (needed_with x (within (length o) (first_made x)))) (new_refused m n w c d k e f)) v.hands;
+  old_refused = λ f e. refused_as _ (ap (λ (x : Comparison). byte_count (needed_with x (within (length o) (first_made x)))) (old_refused m n w f e)) v.hands;
+  new_refused = λ c d f e g. refused_as _ (ap (λ (x : Comparison). byte_count (needed_with x (within (length o) (first_made x)))) (new_refused m n w c d f e g)) v.hands;
   answered = λ c d c' d' e f l.
-      done_as _ (ap (λ (x : Comparison). bytes_needed (needed_with x (within (length o) (first_made x)))) (told m n w c d c' d' e f)
-      ∙ ap (λ (b : Bool). bytes_needed (needed_with (Told (changes_of m n w)) (refuse b refusal.OutputTooShort (Made (first_changed (changes_of m n w)))))) (le-ltb (length o) (length (first_changed (changes_of m n w))) (omega (arith, first-length (changes_of m n w), l)))) v.hands;
+      done_as _ (ap (λ (x : Comparison). byte_count (needed_with x (within (length o) (first_made x)))) (told m n w c d c' d' e f)
+      ∙ ap (λ (b : Bool). byte_count (needed_with (Told (changes_of m n w)) (refuse b refusal.OutputTooShort (Made (first_changed (changes_of m n w)))))) (le-ltb (length o) (length (first_changed (changes_of m n w))) (omega (arith, first-length (changes_of m n w), l)))) v.hands;
   no_room = λ c d c' d' e f l.
-      refused_as _ (ap (λ (x : Comparison). bytes_needed (needed_with x (within (length o) (first_made x)))) (told m n w c d c' d' e f)
-      ∙ ap (λ (b : Bool). bytes_needed (needed_with (Told (changes_of m n w)) (refuse b refusal.OutputTooShort (Made (first_changed (changes_of m n w)))))) (lt-ltb (length o) (length (first_changed (changes_of m n w))) (omega (arith, first-length (changes_of m n w), l)))) v.hands;
+      refused_as _ (ap (λ (x : Comparison). byte_count (needed_with x (within (length o) (first_made x)))) (told m n w c d c' d' e f)
+      ∙ ap (λ (b : Bool). byte_count (needed_with (Told (changes_of m n w)) (refuse b refusal.OutputTooShort (Made (first_changed (changes_of m n w)))))) (lt-ltb (length o) (length (first_changed (changes_of m n w))) (omega (arith, first-length (changes_of m n w), l)))) v.hands;
   past = past_finds (comparison m n w) o o' v;
   untouched = λ z. (left_finds (comparison m n w) o o' v z, let e = kept _ v.hands z in cc);
 }
@@ -116,17 +116,17 @@ both_accepted m n w cs e = go (check_of m w) refl (check_of n w) refl
   where
     go : (v : Verdict) → check_of m w ≡ v → (u : Verdict) → check_of n w ≡ u
         → (c : ℕ) × (d : ℕ) × (c' : ℕ) × (d' : ℕ) × (check_of m w ≡ Accepted c d) × (check_of n w ≡ Accepted c' d')
-    go (Err k) h u g = let x = rw h at e in let z : ◌≡◌ {A = ℕ} 0 1 = cc in absurd (omega arith)
-    go (Ok got) h (Err k) g = let x = rw (h, g) at e in let z : ◌≡◌ {A = ℕ} 0 1 = cc in absurd (omega arith)
+    go (Err k) h u g = let x = rw h at e in absurd cc
+    go (Ok got) h (Err k) g = let x = rw (h, g) at e in absurd cc
     go (Ok got) h (Ok got') g = (got.count, got.depth, got'.count, got'.depth, h, g)
 
 -- what was asked for and answered by 0 was told, and its length handed out
 told-length : (x : Comparison) (o o' : List ℕ) {r bytes : ℕ} {lent : List ℕ} → Finds x o o' r lent (bytes ∷ []) → r ≡ 0
     → (cs : List Change) × (x ≡ Told cs) × (bytes ≡ length (change_records_of cs))
-unfolding bytes_needed IsDone handed refuse
+unfolding byte_count IsDone handed refuse
 told-length (Told cs) o o' {r} {bytes} {lent} w z = (cs, refl, go (ltb (length o) (length (first_changed cs))) w.hands)
   where
-    go : (b : Bool) → Hands (bytes_needed (needed_with (Told cs) (refuse b refusal.OutputTooShort (Made (first_changed cs))))) r lent (bytes ∷ []) → bytes ≡ length (change_records_of cs)
+    go : (b : Bool) → Hands (byte_count (needed_with (Told cs) (refuse b refusal.OutputTooShort (Made (first_changed cs))))) r lent (bytes ∷ []) → bytes ≡ length (change_records_of cs)
     go true h = absurd (h.zero_is_done z)
     go false h = let k = h.numbers in cc
 told-length (Refuses k) o o' w z = absurd (w.hands.zero_is_done z)

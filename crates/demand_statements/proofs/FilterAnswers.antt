@@ -1,6 +1,6 @@
 -- The numbers of the two filters.
 -- Assumes nothing.
-use Prim.Native.Nat.{ℕ, zero, suc, ◌≤◌, ◌<◌}
+use Prim.Native.Nat.{ℕ, zero, suc, ◌<◌}
 use mathlib.Core.Path.{◌≡◌, ◌∙◌, refl, sym}
 use mathlib.Core.Bool.{Bool, true, false, not}
 use mathlib.Core.Logic.{◌⊎◌, inl, inr}
@@ -9,12 +9,16 @@ use native.Mathlib.Omega.{arith}
 use borrow.Author.Tests.{eq-eqb, ne_eqb, eqb-true, le-leb, leb-true}
 use lib.Dec.{eqb, leb}
 use lib.ListN.{length}
+use Rattle.std.proofs.lemmas.Bool.Decides.{nat_tests}
 use Rattle.netaddr.specs.Answer.{unless_refused}
 use Rattle.netaddr_ranges.specs.Unroutable.{unroutable16}
 use Rattle.netaddr.specs.Filter.{filter_of}
 use Rattle.netaddr.specs.Relay.{length_fits, skips, relay_of}
 use Rattle.answer_outcome.specs.Outcome.{handed, IsDone, Hands}
 use Rattle.answer_filters.specs.Filters.{said}
+use Rattle.refusals.specs.declared.Refusal.{Refusal}
+use Rattle.refusals.specs.declared.Refusal.TheVariants as refusal
+use Rattle.refusals.specs.Numbers.{refusal_number}
 use Rattle.demand_statements.specs.AnyInput.{Filters, Sized, Relays}
 
 -- what a filter says, by whether it was asked rightly: refused with k, or 0 or 1
@@ -25,53 +29,39 @@ record Said (right : Bool) (k r entry exit : ℕ) : Type 0 where
   bit : r ≡ 0 → (exit ≡ 0) ⊎ (exit ≡ 1)
   untouched : (r ≡ 0 → ⊥) → exit ≡ entry
 
-says : (right b : Bool) (k : ℕ) {r entry exit : ℕ} → Hands (said (unless_refused (not right) k b)) r (entry ∷ []) (exit ∷ []) → Said right k r entry exit
+says : (right b : Bool) (k : Refusal) {r entry exit : ℕ} → Hands (said (unless_refused (not right) k b)) r (entry ∷ []) (exit ∷ []) → Said right (refusal_number k) r entry exit
 unfolding handed IsDone said
 says true true k {r} h =
     let e = h.numbers in let z : r ≡ 0 = cc in
-    record { yes = λ q. z; no = λ q. absurd (omega (arith, wrong q)); only = λ q. refl; bit = λ q. inr cc; untouched = λ n. absurd (n z) }
-  where
-    wrong : true ≡ false → ◌≡◌ {A = ℕ} 0 1
-    wrong q = cc
+    record { yes = λ q. z; no = λ q. absurd cc; only = λ q. refl; bit = λ q. inr cc; untouched = λ n. absurd (n z) }
 says true false k {r} h =
     let e = h.numbers in let z : r ≡ 0 = cc in
-    record { yes = λ q. z; no = λ q. absurd (omega (arith, wrong q)); only = λ q. refl; bit = λ q. inl cc; untouched = λ n. absurd (n z) }
-  where
-    wrong : true ≡ false → ◌≡◌ {A = ℕ} 0 1
-    wrong q = cc
+    record { yes = λ q. z; no = λ q. absurd cc; only = λ q. refl; bit = λ q. inl cc; untouched = λ n. absurd (n z) }
 says false b k h =
     let e = h.numbers in
-    record { yes = λ q. absurd (omega (arith, wrong q)); no = λ q. cc; only = λ z. absurd (h.zero_is_done z); bit = λ z. absurd (h.zero_is_done z); untouched = λ n. cc }
-  where
-    wrong : false ≡ true → ◌≡◌ {A = ℕ} 0 1
-    wrong q = cc
+    record { yes = λ q. absurd cc; no = λ q. cc; only = λ z. absurd (h.zero_is_done z); bit = λ z. absurd (h.zero_is_done z); untouched = λ n. cc }
 
 pub filters : (a : List ℕ) {r entry exit : ℕ} → Hands (said (filter_of a)) r (entry ∷ []) (exit ∷ []) → Filters a r entry exit
 filters a h =
-    let s = says (eqb (length a) 16) (unroutable16 a) 11 h in
+    let s = says (eqb (length a) 16) (unroutable16 a) refusal.AddressLength h in
     record { no_address = λ n. s.no (ne_eqb (length a) 16 n); answered = λ l. s.yes (eq-eqb (length a) 16 l); yes_or_no = s.bit; untouched = s.untouched }
 
 -- ---- the lengths by network id
 
-neither : {id : ℕ} → 1 ≤ id → id ≤ 6 → (id ≡ 0) ⊎ (6 < id) → ⊥
-neither l h (inl z) = omega arith
-neither l h (inr k) = omega arith
-
 -- an id past 6
 other : (id n : ℕ) → 6 < id → length_fits id n ≡ leb n 512
 unfolding length_fits
-other id n h =
-    rw (ne_eqb id 1 (λ z. omega arith), ne_eqb id 2 (λ z. omega arith), ne_eqb id 3 (λ z. omega arith), ne_eqb id 4 (λ z. omega arith), ne_eqb id 5 (λ z. omega arith), ne_eqb id 6 (λ z. omega arith))
+other id n h = grind (arith, nat_tests)
 
 sized : (id n : ℕ) → length_fits id n ≡ true → Sized id n
 unfolding length_fits
 sized zero n e = record { known = λ l h. absurd (omega arith); others = λ q. leb-true n 512 e }
-sized (suc zero) n e = record { known = λ l h. eqb-true n 4 e; others = λ q. absurd (neither (omega arith) (omega arith) q) }
-sized (suc (suc zero)) n e = record { known = λ l h. eqb-true n 16 e; others = λ q. absurd (neither (omega arith) (omega arith) q) }
-sized (suc (suc (suc zero))) n e = record { known = λ l h. eqb-true n 10 e; others = λ q. absurd (neither (omega arith) (omega arith) q) }
-sized (suc (suc (suc (suc zero)))) n e = record { known = λ l h. eqb-true n 32 e; others = λ q. absurd (neither (omega arith) (omega arith) q) }
-sized (suc (suc (suc (suc (suc zero))))) n e = record { known = λ l h. eqb-true n 32 e; others = λ q. absurd (neither (omega arith) (omega arith) q) }
-sized (suc (suc (suc (suc (suc (suc zero)))))) n e = record { known = λ l h. eqb-true n 16 e; others = λ q. absurd (neither (omega arith) (omega arith) q) }
+sized (suc zero) n e = record { known = λ l h. eqb-true n 4 e; others = λ q. absurd (omega arith) }
+sized (suc (suc zero)) n e = record { known = λ l h. eqb-true n 16 e; others = λ q. absurd (omega arith) }
+sized (suc (suc (suc zero))) n e = record { known = λ l h. eqb-true n 10 e; others = λ q. absurd (omega arith) }
+sized (suc (suc (suc (suc zero)))) n e = record { known = λ l h. eqb-true n 32 e; others = λ q. absurd (omega arith) }
+sized (suc (suc (suc (suc (suc zero))))) n e = record { known = λ l h. eqb-true n 32 e; others = λ q. absurd (omega arith) }
+sized (suc (suc (suc (suc (suc (suc zero)))))) n e = record { known = λ l h. eqb-true n 16 e; others = λ q. absurd (omega arith) }
 sized (suc (suc (suc (suc (suc (suc (suc k))))))) n e = record { known = λ l h. absurd (omega arith); others = λ q. leb-true n 512 (sym (other (suc (suc (suc (suc (suc (suc (suc k))))))) n (omega arith)) ∙ e) }
 
 fits : (id n : ℕ) → Sized id n → length_fits id n ≡ true
@@ -91,7 +81,7 @@ either_way false s = inr (s.no refl)
 
 pub relays : (id : ℕ) (a : List ℕ) (port : ℕ) {r entry exit : ℕ} → Hands (said (relay_of id a port)) r (entry ∷ []) (exit ∷ []) → Relays id a r entry exit
 relays id a port h =
-    let s = says (length_fits id (length a)) (skips id a port) 17 h in
+    let s = says (length_fits id (length a)) (skips id a port) refusal.RelayLength h in
     record {
       numbers = either_way (length_fits id (length a)) s;
       answered = λ f. s.yes (fits id (length a) f);

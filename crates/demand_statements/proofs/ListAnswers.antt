@@ -30,24 +30,26 @@ use Rattle.asmap_list.specs.List.{list_as, list_of, bytes_of, needed_of}
 use Rattle.asmap_list.specs.Promise.{Covers}
 use Rattle.answer_outcome.specs.Outcome.{handed, Hands}
 use Rattle.answer_maps.specs.Maps.{walk_made}
-use Rattle.answer_bytes.specs.Bytes.{bytes_needed, Writes}
+use Rattle.answer_bytes.specs.Bytes.{byte_count, Writes}
 use Rattle.answers.specs.Promise.{Finished}
 use Rattle.answers.proofs.NeverZeroMaps.{map-numbers, list-numbers, length-numbers}
 use Rattle.demand_statements.specs.AnyInput.{CheckNumber, Lists, Needs}
-use Rattle.demand_statements.specs.Listed.{address, first, prefix, past, number, Tiled, InOne, ListedWalk, ListedWithRoom}
+use Rattle.demand_statements.specs.Listed.{address, first, past, Tiled, InOne, ListedWalk, ListedWithRoom}
 use Rattle.demand_statements.proofs.AnswerLaws.{kept, numbered, refused_as, done_as}
 use Rattle.demand_statements.proofs.TripLaws.{wrote, has_room, no_room}
 use Rattle.demand_statements.proofs.WalkLaws.{has-bits, Ends}
 use Rattle.demand_statements.proofs.MapAnswers.{reason-number, number_1, CheckOr14, by_check}
 use Rattle.demand_statements.proofs.ListBytes.{Reads, reads, in_front, address_number}
 use Rattle.asmap_program.specs.Verdict.{Accepted, Verdict}
+use Rattle.refusals.specs.declared.Fault.{Fault}
+use Rattle.refusals.specs.declared.Refusal.TheVariants as refusal
 use Rattle.std.specs.Prelude.{Err, Ok}
 
 -- ---- any input
 
-not_made : (m : List ℕ) (w n : ℕ) → check_of m w ≡ Err n → list_of m w ≡ No n
+not_made : (m : List ℕ) (w : ℕ) (f : Fault) → check_of m w ≡ Err f → list_of m w ≡ No (refusal.Map f)
 unfolding list_of
-not_made m w n e = ap (list_as m) e
+not_made m w f e = ap (list_as m) e
 
 made : (m : List ℕ) (w c d : ℕ) → check_of m w ≡ Accepted c d → list_of m w ≡ Made (records_of (listing (map_of m)))
 unfolding list_of
@@ -58,12 +60,12 @@ lists m w o o' h =
     let b = by_check m w o o' (list_of m w) (not_made m w) (list-numbers CheckOr14 (length o) m w) h in
     record { numbers = b.numbers; refused = b.refused; past = b.past; untouched = b.untouched }
 
-pub needs : (m : List ℕ) (w : ℕ) {r : ℕ} {entry exit : List ℕ} → Hands (bytes_needed (needed_of m w)) r entry exit → Needs m w r entry exit
-unfolding bytes_needed
+pub needs : (m : List ℕ) (w : ℕ) {r : ℕ} {entry exit : List ℕ} → Hands (byte_count (needed_of m w)) r entry exit → Needs m w r entry exit
+unfolding byte_count
 needs m w h = record {
   numbers = numbered CheckNumber _ (length-numbers CheckNumber m w (map-numbers CheckNumber reason-number m w number_1)) h;
-  accepted = λ c d e. done_as _ (ap (λ (x : Making). bytes_needed (bytes_of x)) (made m w c d e)) h;
-  refused = λ n e. refused_as _ (ap (λ (x : Making). bytes_needed (bytes_of x)) (not_made m w n e)) h;
+  accepted = λ c d e. done_as _ (ap (λ (x : Making). byte_count (bytes_of x)) (made m w c d e)) h;
+  refused = λ f e. refused_as _ (ap (λ (x : Making). byte_count (bytes_of x)) (not_made m w f e)) h;
   untouched = kept _ h;
 }
 
@@ -71,8 +73,8 @@ needs m w h = record {
 
 -- what was asked for is the length of what is made
 needed_is : (m : List ℕ) (w c d : ℕ) {q needed : ℕ} {entry : List ℕ} → check_of m w ≡ Accepted c d
-    → Hands (bytes_needed (needed_of m w)) q entry (needed ∷ []) → needed ≡ length (records_of (listing (map_of m)))
-unfolding handed bytes_needed
+    → Hands (byte_count (needed_of m w)) q entry (needed ∷ []) → needed ≡ length (records_of (listing (map_of m)))
+unfolding handed byte_count
 needed_is m w c d e h = let k = rw (made m w c d e) at h.numbers in cc
 
 -- a map that was listed is accepted
@@ -82,17 +84,17 @@ accepts m w bs e = go (check_of m w) refl
   where
     go : (v : Verdict) → check_of m w ≡ v → (c : ℕ) × (d : ℕ) × (check_of m w ≡ Accepted c d)
     go (Ok got) h = (got.count, got.depth, h)
-    go (Err n) h = let k = sym (ap (list_as m) h) ∙ e in let z : ◌≡◌ {A = ℕ} 0 1 = cc in absurd (omega arith)
+    go (Err n) h = let k = sym (ap (list_as m) h) ∙ e in absurd cc
 
 -- the first call refused, and nothing was listed
-pub unlisted : (m : List ℕ) (w : ℕ) (o : List ℕ) {r needed written : ℕ} {entry exit : List ℕ} → Hands (bytes_needed (needed_of m w)) r entry exit → (r ≡ 0 → ⊥) → ListedWithRoom m w o r needed written
+pub unlisted : (m : List ℕ) (w : ℕ) (o : List ℕ) {r needed written : ℕ} {entry exit : List ℕ} → Hands (byte_count (needed_of m w)) r entry exit → (r ≡ 0 → ⊥) → ListedWithRoom m w o r needed written
 unlisted m w o h n = record {
   exact = λ z. absurd (n z);
   answered = λ c d e l. (needs m w h).accepted c d e;
   no_room = λ c d e l. absurd (n ((needs m w h).accepted c d e));
 }
 
-pub with_room : (m : List ℕ) (w : ℕ) (o o' : List ℕ) {q r needed written : ℕ} {entry lent : List ℕ} → Hands (bytes_needed (needed_of m w)) q entry (needed ∷ [])
+pub with_room : (m : List ℕ) (w : ℕ) (o o' : List ℕ) {q r needed written : ℕ} {entry lent : List ℕ} → Hands (byte_count (needed_of m w)) q entry (needed ∷ [])
     → Writes (list_of m w) o o' r lent (written ∷ []) → ListedWithRoom m w o r needed written
 with_room m w o o' h x = record {
   exact = λ z.

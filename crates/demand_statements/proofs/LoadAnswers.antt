@@ -4,7 +4,7 @@ use Prim.Native.Nat.{ℕ, ◌≤◌, ◌<◌}
 use mathlib.Core.Path.{◌≡◌, ◌∙◌, refl, sym, ap}
 use mathlib.Core.Logic.{◌⊎◌, inl, inr, ◌≢◌}
 use mathlib.Core.List.{List, [], ◌∷◌}
-use native.Mathlib.Decide.{ℕ_discrete, dec_le}
+use native.Mathlib.Decide.{ℕ_discrete}
 use native.Mathlib.Omega.{arith}
 use lib.ListN.{length, take}
 use Rattle.asmap_check.specs.Check.{check_of}
@@ -18,18 +18,19 @@ use Rattle.asmap_load.proofs.PassLaws.{made_short}
 use Rattle.answer_outcome.specs.Outcome.{Outcome, Hands}
 use Rattle.answer_draws.specs.Draws.{number_drawn}
 use Rattle.answer_maps.specs.Maps.{map_checked}
-use Rattle.answer_bytes.specs.Bytes.{bytes_written, Writes}
+use Rattle.answer_bytes.specs.Bytes.{byte_count, Writes}
 use Rattle.answers.proofs.NeverZeroLoads.{load-numbers, number_drawn_lem}
 use Rattle.demand_statements.specs.Loaded.{Draws, DrawsOn, Loads, Loaded, LoadChecked}
 use Rattle.demand_statements.proofs.AnswerLaws.{kept, numbered, refused_as, done_as, handed_out}
 use Rattle.demand_statements.proofs.TripLaws.{wrote, has_room, no_room, left_alone}
-use Rattle.std.specs.Prelude.{Ok}
+use Rattle.std.specs.Prelude.{Result, Ok}
+use Rattle.refusals.specs.declared.Refusal.{Refusal}
 use Rattle.refusals.specs.declared.Refusal.TheVariants as refusal
 use Rattle.refusals.specs.Numbers.{of_map}
 
 -- ---- draws
 
-same_number : {a b : ℕ} → Ok a ≡ Ok b → b ≡ a
+same_number : {a b : ℕ} → ◌≡◌ {A = Result ℕ Refusal} (Ok a) (Ok b) → b ≡ a
 same_number e = cc
 
 pub draws : (s : ℕ) {r d d' : ℕ} → Hands (number_drawn (drawn_after s)) r (d ∷ []) (d' ∷ []) → (r ≡ 0 → d' ≢ 0) → Draws s r d d'
@@ -73,7 +74,7 @@ many_or_none seed pairs h = go (ℕ_discrete seed 0)
     go (no z) = load_many seed pairs z h
 
 pub loads : (seed pairs : ℕ) (o o' : List ℕ) {r w w' : ℕ} → Writes (load_of seed pairs) o o' r (w ∷ []) (w' ∷ []) → Loads seed pairs o o' r w w'
-unfolding bytes_written
+unfolding byte_count
 loads seed pairs o o' h = record {
   numbers = numbered LoadNumber _ (load-numbers LoadNumber (length o) seed pairs (inr refl) (inl refl)) h.hands;
   no_seed = λ z. refused_as _ (ap by (load_seed seed pairs z)) h.hands;
@@ -85,7 +86,7 @@ loads seed pairs o o' h = record {
 }
   where
     by : Making → Outcome
-    by x = bytes_written (answer_of (within (length o) x))
+    by x = byte_count (answer_of (within (length o) x))
 
 pub loaded : (seed pairs : ℕ) (o o' : List ℕ) {r w w' : ℕ} → Writes (load_of seed pairs) o o' r (w ∷ []) (w' ∷ [])
     → (r ≡ 0 → Passes seed pairs (take w' o')) → r ≡ 0 → Loaded seed pairs (take w' o')
@@ -103,11 +104,7 @@ loaded seed pairs o o' {w'} h p z =
 
 -- what was written has no more pairs than may be
 few : (seed pairs : ℕ) {o o' : List ℕ} {r w w' : ℕ} → Loads seed pairs o o' r w w' → r ≡ 0 → pairs ≤ 128
-few seed pairs {r} h z = go (dec_le pairs 128)
-  where
-    go : Dec (pairs ≤ 128) → pairs ≤ 128
-    go (yes k) = k
-    go (no k) = let e : r ≡ 20 = h.too_many (omega arith) in absurd (omega arith)
+few seed pairs h z = let f = h.too_many in grind arith
 
 -- made, and then checked
 pub load_checked_lem : (seed pairs : ℕ) (o m : List ℕ) {r c d : ℕ} {lent : List ℕ} → {o' : List ℕ} {q w w' : ℕ} → Loads seed pairs o o' q w w' → q ≡ 0

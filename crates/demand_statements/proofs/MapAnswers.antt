@@ -19,7 +19,7 @@ use Rattle.asmap_program.specs.Check.{check, StopsAt, stop_of}
 use Rattle.asmap_program.proofs.Stop.{stops_at, stop_inside}
 use Rattle.asmap_codes.specs.Instruction.{map_of}
 use Rattle.asmap_codes.proofs.MapLaws.{laws, map-bits}
-use Rattle.asmap_check.specs.Check.{unless_long, check_of, Reason, reason_of, stops_unless_long, stopped_of}
+use Rattle.asmap_check.specs.Check.{unless_long, check_of, Reason, wrong_of, stops_unless_long, stopped_of}
 use Rattle.asmap_check.proofs.Limit.{checked}
 use Rattle.asmap_walk_bits.specs.declared.Ending.{Ending}
 use Rattle.asmap_walk_bits.specs.Walk.{walk_of, summary}
@@ -30,8 +30,8 @@ use Rattle.asmap_records.specs.Unpack.{unpack_of}
 use Rattle.asmap_records.specs.Pack.{pack_bits, pack_of}
 use Rattle.asmap_records.proofs.OutputLaws.{made_same}
 use Rattle.answer_outcome.specs.Outcome.{handed, IsDone, Hands}
-use Rattle.answer_maps.specs.Maps.{map_checked, check_stopped, kind_number, end_numbers, walk_made}
-use Rattle.answer_bytes.specs.Bytes.{bytes_written, Writes}
+use Rattle.answer_maps.specs.Maps.{map_checked, wrong_number, check_stopped, kind_number, end_numbers, walk_made}
+use Rattle.answer_bytes.specs.Bytes.{byte_count, Writes}
 use Rattle.answers.proofs.Handing.{Refuses}
 use Rattle.answers.proofs.NeverZeroMaps.{check-numbers, map-numbers, unpack-numbers, pack-numbers}
 use Rattle.demand_statements.specs.AnyInput.{CheckNumber, Checks, Stops, Told, Walks, Unpacks, Packs}
@@ -40,9 +40,11 @@ use Rattle.demand_statements.proofs.TripLaws.{wrote, no_room, left_alone, unpack
 use Rattle.asmap_program.specs.Verdict.{Accepted, Verdict}
 use Rattle.asmap_check.specs.Stop.{At}
 use Rattle.refusals.specs.declared.Refusal.{Refusal}
-use Rattle.std.specs.Prelude.{Result, Ok, Err}
+use Rattle.std.specs.Prelude.{Result, Ok, Err, Option}
 use Rattle.refusals.specs.declared.Refusal.TheVariants as refusal
-use Rattle.refusals.specs.Numbers.{of_map}
+use Rattle.refusals.specs.declared.Fault.{Fault}
+use Rattle.refusals.specs.declared.Fault.TheVariants as fault
+use Rattle.refusals.specs.Numbers.{fault_number, of_map}
 
 -- ---- the check
 
@@ -72,7 +74,7 @@ module _ (m : List ℕ) (w : ℕ) {r : ℕ} {entry exit : List ℕ} where
 
       by : Dec (length m ≤ 16777216) → 16777216 < length m
       by (yes l) =
-          not_1 (numbered (λ n. 2 ≤ n) (map_checked (check (map_of m) w)) (check-numbers (λ n. 2 ≤ n) from_2 (map_of m) w) (rw (le-ltb limit (length m) l) at h))
+          not_1 (numbered (λ n. 2 ≤ n) (map_checked (of_map (check (map_of m) w))) (check-numbers (λ n. 2 ≤ n) from_2 (map_of m) w) (rw (le-ltb limit (length m) l) at h))
       by (no l) = omega arith
 
   pub checks : Hands (map_checked (of_map (check_of m w))) r entry exit → Checks m w r entry exit
@@ -80,8 +82,8 @@ module _ (m : List ℕ) (w : ℕ) {r : ℕ} {entry exit : List ℕ} where
   checks h = record {
     numbers = check-number h;
     accepted = λ c d e. handed_out (check_of m w) e h;
-    refused = λ n e. refused_by (check_of m w) e h;
-    too_long = λ l. refused_as _ (ap (λ (b : Bool). map_checked (unless_long b (check (map_of m) w))) (lt-ltb limit (length m) l)) h;
+    refused = λ f e. refused_by (check_of m w) e h;
+    too_long = λ l. refused_as _ (ap (λ (b : Bool). map_checked (of_map (unless_long b (check (map_of m) w)))) (lt-ltb limit (length m) l)) h;
     only_then = long_only h;
     untouched = kept _ h;
   }
@@ -89,23 +91,23 @@ module _ (m : List ℕ) (w : ℕ) {r : ℕ} {entry exit : List ℕ} where
 -- ---- where it stops
 
 -- an answer of 0 hands out the reason and the place, by the call's test; and the map is within the limit
-stop-numbers : (m : List ℕ) (long : Bool) → ltb limit (length m) ≡ long → (why at : ℕ) {r reason place : ℕ} {entry : List ℕ}
-    → Hands (check_stopped (stops_unless_long long (At why at))) r entry (reason ∷ place ∷ []) → r ≡ 0
-    → (length m ≤ 16777216) × ((reason ≡ why) × (place ≡ at))
+stop-numbers : (m : List ℕ) (long : Bool) → ltb limit (length m) ≡ long → (why : Option Fault) (at : ℕ) {r reason place : ℕ} {entry : List ℕ}
+    → Hands (check_stopped (of_map (stops_unless_long long (At why at)))) r entry (reason ∷ place ∷ []) → r ≡ 0
+    → (length m ≤ 16777216) × ((reason ≡ wrong_number why) × (place ≡ at))
 unfolding handed IsDone check_stopped
 stop-numbers m true q why at h z = absurd (h.zero_is_done z)
 stop-numbers m false q why at h z = let k = h.numbers in (ltb-false limit (length m) q, (cc, cc))
 
 module _ (m : List ℕ) (w : ℕ) {r reason place : ℕ} {entry : List ℕ} (h : Hands (check_stopped (of_map (stopped_of m w))) r entry (reason ∷ place ∷ [])) where
-  found : r ≡ 0 → (length m ≤ 16777216) × ((reason ≡ reason_of (check (map_of m) w)) × (place ≡ stop_of (map_of m) w))
-  found z = stop-numbers m (ltb limit (length m)) refl (reason_of (check (map_of m) w)) (stop_of (map_of m) w) h z
+  found : r ≡ 0 → (length m ≤ 16777216) × ((reason ≡ wrong_number (wrong_of (check (map_of m) w))) × (place ≡ stop_of (map_of m) w))
+  found z = stop-numbers m (ltb limit (length m)) refl (wrong_of (check (map_of m) w)) (stop_of (map_of m) w) h z
 
   -- the reason is the one in the verdict
-  same-reason : r ≡ 0 → (v : Verdict) → check_of m w ≡ v → reason ≡ reason_of v
-  same-reason z v e = let f = found z in f.1.0 ∙ ap reason_of (checked m w f.0 ∙ e)
+  same-reason : r ≡ 0 → (v : Verdict) → check_of m w ≡ v → reason ≡ wrong_number (wrong_of v)
+  same-reason z v e = let f = found z in f.1.0 ∙ ap (λ (x : Verdict). wrong_number (wrong_of x)) (checked m w f.0 ∙ e)
 
-  by_test : (b : Bool) → ltb limit (length m) ≡ b → check_stopped (of_map (stopped_of m w)) ≡ check_stopped (stops_unless_long b (At (reason_of (check (map_of m) w)) (stop_of (map_of m) w)))
-  by_test b e = ap (λ (x : Bool). check_stopped (stops_unless_long x (At (reason_of (check (map_of m) w)) (stop_of (map_of m) w)))) e
+  by_test : (b : Bool) → ltb limit (length m) ≡ b → check_stopped (of_map (stopped_of m w)) ≡ check_stopped (of_map (stops_unless_long b (At (wrong_of (check (map_of m) w)) (stop_of (map_of m) w))))
+  by_test b e = ap (λ (x : Bool). check_stopped (of_map (stops_unless_long x (At (wrong_of (check (map_of m) w)) (stop_of (map_of m) w))))) e
 
   pub stops : Stops m w r entry reason place
   unfolding check_stopped
@@ -113,7 +115,7 @@ module _ (m : List ℕ) (w : ℕ) {r reason place : ℕ} {entry : List ℕ} (h :
     too_long = λ l. refused_as _ (by_test true (lt-ltb limit (length m) l)) h;
     answered = λ l. done_as _ (by_test false (le-ltb limit (length m) l)) h;
     accepted = λ c d z e. same-reason z (Accepted c d) e;
-    refused = λ n z e. same-reason z (Err n) e;
+    refused = λ f z e. same-reason z (Err f) e;
     exact = λ z. (found z).1.1;
     stands = λ z.
         let f = found z in
@@ -130,13 +132,13 @@ stops_as_checked m w {r} {reason} s z k = by (check_of m w) refl
   where
     by : (v : Verdict) → check_of m w ≡ v → reason ≡ r
     by (Ok got) e = s.accepted got.count got.depth z e ∙ sym (k.accepted got.count got.depth e).0
-    by (Err n) e = s.refused n z e ∙ sym (k.refused n e)
+    by (Err f) e = s.refused f z e ∙ sym (k.refused f e)
 
 -- ---- the walk
 
 -- the numbers of a walk that was made, by the call's two tests
 ends_with : (enough long : Bool) (e : Ending) {r kind number count bits : ℕ} {entry : List ℕ}
-    → Hands (walk_made (refused_if (not enough) 11 (refused_if long 1 (Ok e)))) r entry (kind ∷ number ∷ count ∷ bits ∷ [])
+    → Hands (walk_made (refused_if (not enough) refusal.AddressLength (refused_if long (refusal.Map fault.MapTooLong) (Ok e)))) r entry (kind ∷ number ∷ count ∷ bits ∷ [])
     → r ≡ 0 → kind ∷ number ∷ count ∷ bits ∷ [] ≡ end_numbers e
 unfolding handed IsDone walk_made
 ends_with false long e h z = absurd (h.zero_is_done z)
@@ -182,13 +184,13 @@ unfolding walk_made
 walks m a w whole h =
     let e = summary (walk_of m a w) in
     let long = ltb limit (length m) in
-    let by : Bool → Result Ending Refusal = λ (b : Bool). refused_if (not b) 11 (refused_if long 1 (Ok e)) in
-    let enough : length a ≡ w / 8 → walk_made (interpret_over m a w) ≡ walk_made (refused_if long 1 (Ok e)) =
+    let by : Bool → Result Ending Refusal = λ (b : Bool). refused_if (not b) refusal.AddressLength (refused_if long (refusal.Map fault.MapTooLong) (Ok e)) in
+    let enough : length a ≡ w / 8 → walk_made (interpret_over m a w) ≡ walk_made (refused_if long (refusal.Map fault.MapTooLong) (Ok e)) =
     λ l. ap (λ (b : Bool). walk_made (by b)) (eq-eqb (8 * length a) w (omega arith)) in
     record {
       no_address = λ n. refused_as _ (ap (λ (b : Bool). walk_made (by b)) (ne_eqb (8 * length a) w (λ z. n (omega arith)))) h;
-      too_long = λ l k. refused_as _ (enough l ∙ ap (λ (b : Bool). walk_made (refused_if b 1 (Ok e))) (lt-ltb limit (length m) k)) h;
-      answered = λ l k. done_as _ (enough l ∙ ap (λ (b : Bool). walk_made (refused_if b 1 (Ok e))) (le-ltb limit (length m) k)) h;
+      too_long = λ l k. refused_as _ (enough l ∙ ap (λ (b : Bool). walk_made (refused_if b (refusal.Map fault.MapTooLong) (Ok e))) (lt-ltb limit (length m) k)) h;
+      answered = λ l k. done_as _ (enough l ∙ ap (λ (b : Bool). walk_made (refused_if b (refusal.Map fault.MapTooLong) (Ok e))) (le-ltb limit (length m) k)) h;
       told = λ z. told (walk_of m a w) (zero_of m a w) (ends_with (eqb (8 * length a) w) long e h z);
       untouched = kept _ h;
     }
@@ -199,14 +201,14 @@ over_128 m a {r} {lent} {left} h = subst (λ (x : Result Ending Refusal). Hands 
 
 -- ---- unpack and pack
 
-not_made : (m : List ℕ) (w n : ℕ) → check_of m w ≡ Err n → unpack_of m w ≡ No n
+not_made : (m : List ℕ) (w : ℕ) (f : Fault) → check_of m w ≡ Err f → unpack_of m w ≡ No (refusal.Map f)
 unfolding unpack_of
-not_made m w n e = rw e
+not_made m w f e = rw e
 
 -- A call that writes what is made by the check's verdict, in a room as long as o.
 pub record ByCheck (m : List ℕ) (w : ℕ) (o o' : List ℕ) (r written written' : ℕ) : Type 0 where
   pub numbers : (r ≡ 0) ⊎ (CheckNumber r ⊎ (r ≡ 14))
-  pub refused : (n : ℕ) → check_of m w ≡ Err n → r ≡ n
+  pub refused : (f : Fault) → check_of m w ≡ Err f → r ≡ fault_number f
   pub past : r ≡ 0 → drop written' o' ≡ drop written' o
   pub untouched : (r ≡ 0 → ⊥) → (o' ≡ o) × (written' ≡ written)
 
@@ -214,13 +216,13 @@ pub record ByCheck (m : List ℕ) (w : ℕ) (o o' : List ℕ) (r written written
 abbrev pub CheckOr14 : ℕ → Type 0
 CheckOr14 n = CheckNumber n ⊎ (n ≡ 14)
 
-pub by_check : (m : List ℕ) (w : ℕ) (o o' : List ℕ) {r written written' : ℕ} (made : Making) → ((n : ℕ) → check_of m w ≡ Err n → made ≡ No n)
-    → (CheckOr14 14 → Refuses CheckOr14 (map_checked (of_map (check_of m w))) → Refuses CheckOr14 (bytes_written (answer_of (within (length o) made))))
+pub by_check : (m : List ℕ) (w : ℕ) (o o' : List ℕ) {r written written' : ℕ} (made : Making) → ((f : Fault) → check_of m w ≡ Err f → made ≡ No (refusal.Map f))
+    → (CheckOr14 14 → Refuses CheckOr14 (map_checked (of_map (check_of m w))) → Refuses CheckOr14 (byte_count (answer_of (within (length o) made))))
     → Writes made o o' r (written ∷ []) (written' ∷ []) → ByCheck m w o o' r written written'
-unfolding bytes_written
+unfolding byte_count
 by_check m w o o' made unmade numbers h = record {
   numbers = numbered CheckOr14 _ (numbers (inr refl) (map-numbers CheckOr14 (λ n k. inl (reason-number n k)) m w (inl number_1))) h.hands;
-  refused = λ n e. refused_as _ (ap (λ (x : Making). bytes_written (answer_of (within (length o) x))) (unmade n e)) h.hands;
+  refused = λ f e. refused_as _ (ap (λ (x : Making). byte_count (answer_of (within (length o) x))) (unmade f e)) h.hands;
   past = λ z. (wrote made h z).past;
   untouched = left_alone made h;
 }
@@ -248,10 +250,10 @@ abbrev PackNumber : ℕ → Type 0
 PackNumber n = (n ≡ 1) ⊎ ((n ≡ 14) ⊎ ((n ≡ 15) ⊎ (n ≡ 16)))
 
 pub packs : (rs o o' : List ℕ) {r written written' : ℕ} → Writes (pack_of rs) o o' r (written ∷ []) (written' ∷ []) → Packs rs o o' r written written'
-unfolding bytes_written
+unfolding byte_count
 packs rs o o' w = record {
   numbers = numbered PackNumber _ (pack-numbers PackNumber (inl refl) (inr (inr (inl refl))) (inr (inr (inr refl))) (length o) rs (inr (inl refl))) w.hands;
-  no_records = λ n. refused_as _ (ap (λ (x : Making). bytes_written (answer_of (within (length o) x))) (no_whole rs n)) w.hands;
+  no_records = λ n. refused_as _ (ap (λ (x : Making). byte_count (answer_of (within (length o) x))) (no_whole rs n)) w.hands;
   past = λ z. (wrote (pack_of rs) w z).past;
   untouched = left_alone (pack_of rs) w;
 }

@@ -30,8 +30,8 @@ use Rattle.spread_page.specs.Promise.{Told, Unaborted}
 use Rattle.spread_page.proofs.PageLaws.{page_made}
 use Rattle.answer_outcome.specs.Outcome.{Hands}
 use Rattle.answer_maps.specs.Maps.{map_checked}
-use Rattle.answer_bytes.specs.Bytes.{bytes_written, Writes}
-use Rattle.answer_groups.specs.Groups.{numbering_of}
+use Rattle.answer_bytes.specs.Bytes.{byte_count, Writes}
+use Rattle.answer_groups.specs.Groups.{grouping_of}
 use Rattle.answers.proofs.NeverZeroGroups.{page-numbers, by-limit}
 use Rattle.demand_statements.specs.Picked.{each, prefix_at, old_prefix_at}
 use Rattle.demand_statements.specs.Printed.{Printed, PrintedByMap, Paged}
@@ -40,30 +40,30 @@ use Rattle.demand_statements.proofs.AnswerLaws.{numbered, refused_as}
 use Rattle.demand_statements.proofs.CandidateLaws.{address_at_lem, prefix_at_lem, old-prefix_at, candidates-valid, each_candidate}
 use Rattle.demand_statements.proofs.PickLaws.{unrefused, ends_at}
 use Rattle.demand_statements.proofs.MapAnswers.{number_1}
-use Rattle.demand_statements.proofs.PickAnswers.{refusal, Of, of_call, of_old, PickNumber, LoadedPick}
+use Rattle.demand_statements.proofs.PickAnswers.{check_refused, Of, of_call, of_old, PickNumber, LoadedPick}
 use Rattle.demand_statements.proofs.PrintLaws.{printed_page}
 use Rattle.demand_statements.proofs.TripLaws as trip
 use Rattle.refusals.specs.declared.Refusal.{Refusal}
 use Rattle.std.specs.Prelude.{Ok, Option, Some, None}
 use Rattle.refusals.specs.declared.Refusal.TheVariants as refusal
-use Rattle.refusals.specs.Numbers.{of_map}
+use Rattle.refusals.specs.Numbers.{refusal_number, of_map}
 
 -- ---- what is made
 
 made_page : (why : Option Refusal) (n : Numbering) (all : List (List ℕ)) (bs : List ℕ) → page_unless why n all ≡ Made bs → bs ≡ page_of (groups_of n all)
 made_page None n all bs e = made_same e
-made_page (Some k) n all bs e = let z : ◌≡◌ {A = ℕ} 0 1 = cc in absurd (omega arith)
+made_page (Some k) n all bs e = absurd cc
 
--- the bytes written, where the answer is 0
-printed : (of_map : Option Refusal) (n : Numbering) (bytes : List ℕ) {o o' : List ℕ} {r written written' : ℕ} → Writes (page_call of_map n bytes) o o' r (written ∷ []) (written' ∷ [])
+-- the bytes written, where the answer is 0; wrong: what is wrong with the map
+printed : (wrong : Option Refusal) (n : Numbering) (bytes : List ℕ) {o o' : List ℕ} {r written written' : ℕ} → Writes (page_call wrong n bytes) o o' r (written ∷ []) (written' ∷ [])
     → AllTell (length (groups_of n (candidates_of bytes))) (spread (groups_of n (candidates_of bytes))) → r ≡ 0 → Printed (groups_of n (candidates_of bytes)) (take written' o')
-printed of_map n bytes w t z =
-    let u = trip.wrote (page_call of_map n bytes) w z in
-    let e = u.there ∙ made_page (or_else (list_refusal bytes []) of_map) n (candidates_of bytes) u.bytes u.these in
+printed wrong n bytes w t z =
+    let u = trip.wrote (page_call wrong n bytes) w z in
+    let e = u.there ∙ made_page (or_else (list_refusal bytes []) wrong) n (candidates_of bytes) u.bytes u.these in
     subst (Printed (groups_of n (candidates_of bytes))) (sym e) (printed_page (groups_of n (candidates_of bytes)) t)
 
-module _ (of_map : Option Refusal) (m bytes : List ℕ) {o o' : List ℕ} {r written written' : ℕ} where
-  printed_by-map : Writes (page_call of_map (by_map m) bytes) o o' r (written ∷ []) (written' ∷ []) → (r ≡ 0 → Told (by_map m) bytes (Ok written'))
+module _ (wrong : Option Refusal) (m bytes : List ℕ) {o o' : List ℕ} {r written written' : ℕ} where
+  printed_by-map : Writes (page_call wrong (by_map m) bytes) o o' r (written ∷ []) (written' ∷ []) → (r ≡ 0 → Told (by_map m) bytes (Ok written'))
       → (r ≡ 0 → Unaborted (by_map m) bytes (Ok written')) → r ≡ 0 → PrintedByMap m bytes (take written' o')
   unfolding Told Unaborted
   printed_by-map w t u z =
@@ -71,19 +71,19 @@ module _ (of_map : Option Refusal) (m bytes : List ℕ) {o o' : List ℕ} {r wri
       record {
         printed =
             subst (λ (gs : List ℕ). Printed gs (take written' o')) (each_candidate (group_of (by_map m)) _ k bytes (λ i. ap (λ a. (walk_of m a 128).number) (address_at_lem bytes i)))
-            (printed of_map (by_map m) bytes w (t z) z);
+            (printed wrong (by_map m) bytes w (t z) z);
         ends = λ i h. ends_at m bytes i (subst (Finished m) (candidate_at_lem bytes i h) (u z i (omega (arith, length_candidates bytes))));
       }
 
   -- n: of which numbering
   printed_by-prefix : (n : Numbering) (prefix : ℕ → ℕ) → ((i : ℕ) → group_of n (take 20 (drop (20 * i) bytes)) ≡ prefix i)
-      → Writes (page_call of_map n bytes) o o' r (written ∷ []) (written' ∷ []) → (r ≡ 0 → Told n bytes (Ok written')) → r ≡ 0 → Printed (each (length bytes / 20) prefix) (take written' o')
+      → Writes (page_call wrong n bytes) o o' r (written ∷ []) (written' ∷ []) → (r ≡ 0 → Told n bytes (Ok written')) → r ≡ 0 → Printed (each (length bytes / 20) prefix) (take written' o')
   unfolding Told
   printed_by-prefix n prefix at w t z =
-      subst (λ (gs : List ℕ). Printed gs (take written' o')) (each_candidate (group_of n) prefix (length bytes / 20) bytes at) (printed of_map n bytes w (t z) z)
+      subst (λ (gs : List ℕ). Printed gs (take written' o')) (each_candidate (group_of n) prefix (length bytes / 20) bytes at) (printed wrong n bytes w (t z) z)
 
-  paged_as : (has : ℕ) → Writes (page_call of_map (numbering_of has m) bytes) o o' r (written ∷ []) (written' ∷ [])
-      → (r ≡ 0 → Told (numbering_of has m) bytes (Ok written')) → (r ≡ 0 → Unaborted (numbering_of has m) bytes (Ok written'))
+  paged_as : (has : ℕ) → Writes (page_call wrong (numbering (grouping_of has) m) bytes) o o' r (written ∷ []) (written' ∷ [])
+      → (r ≡ 0 → Told (numbering (grouping_of has) m) bytes (Ok written')) → (r ≡ 0 → Unaborted (numbering (grouping_of has) m) bytes (Ok written'))
       → r ≡ 0 → Paged has m bytes (take written' o')
   unfolding numbering_of
   paged_as zero w t u z = record { by_map = λ n. absurd (n refl); by_prefix = λ y. printed_by-prefix by_prefixes (prefix_at bytes) (prefix_at_lem bytes) w t z }
@@ -91,11 +91,11 @@ module _ (of_map : Option Refusal) (m bytes : List ℕ) {o o' : List ℕ} {r wri
 
 -- ---- the paper's order
 
-module _ (of_map : Option Refusal) (n : Numbering) (bytes : List ℕ) where
-  thirteen : length bytes % 20 ≢ 0 → page_call of_map n bytes ≡ No refusal.Candidate
+module _ (wrong : Option Refusal) (n : Numbering) (bytes : List ℕ) where
+  thirteen : length bytes % 20 ≢ 0 → page_call wrong n bytes ≡ No refusal.Candidate
   thirteen e = rw (ne_eqb (length bytes % 20) 0 e)
 
-  twelve : length bytes % 20 ≡ 0 → 4096 < length bytes / 20 → page_call of_map n bytes ≡ No refusal.TooMany
+  twelve : length bytes % 20 ≡ 0 → 4096 < length bytes / 20 → page_call wrong n bytes ≡ No refusal.TooMany
   twelve e l = rw (eq-eqb (length bytes % 20) 0 e, lt-ltb 4096 (length bytes / 20) l)
 
   passes : length bytes % 20 ≡ 0 → length bytes / 20 ≤ 4096 → all_valid (candidates_of bytes) ≡ true → list_refusal bytes [] ≡ None
@@ -107,9 +107,9 @@ module _ (of_map : Option Refusal) (n : Numbering) (bytes : List ℕ) where
       let gs = groups_of n (candidates_of bytes) in
       omega (arith, length-lines (length gs) (spread gs), spread_most gs, length-groups n (candidates_of bytes), length_candidates bytes)
 
-refused_with : (made : Making) {o o' : List ℕ} {r k written written' : ℕ} → made ≡ No k → Writes made o o' r (written ∷ []) (written' ∷ []) → r ≡ k
-unfolding bytes_written
-refused_with made {o} e w = refused_as _ (ap (λ (x : Making). bytes_written (answer_of (within (length o) x))) e) w.hands
+refused_with : (made : Making) {o o' : List ℕ} {k : Refusal} {r written written' : ℕ} → made ≡ No k → Writes made o o' r (written ∷ []) (written' ∷ []) → r ≡ refusal_number k
+unfolding byte_count
+refused_with made {o} e w = refused_as _ (ap (λ (x : Making). byte_count (answer_of (within (length o) x))) e) w.hands
 
 pages : (has : ℕ) (m bytes o o' : List ℕ) (n : Numbering) → Of has m n → {r written written' : ℕ} → Writes (page_call (check_refusal n) n bytes) o o' r (written ∷ []) (written' ∷ [])
     → Pages has m bytes o o' r written written'
@@ -169,4 +169,4 @@ old_page_concluded bytes o o' w t =
 -- the check refused, and nothing was written
 pub not_paged : (m bytes o : List ℕ) {r written : ℕ} {lent left : List ℕ} → Hands (map_checked (of_map (check_of m 128))) r lent left → (r ≡ 0 → ⊥)
     → (r ≡ 0 → PrintedByMap m bytes (take written o)) × LoadedPages o o r written written
-not_paged m bytes o h n = (λ z. absurd (n z), record { numbers = inr (inr (inr (inr (refusal m h n)))); past = λ z. refl; untouched = λ k. (refl, refl) })
+not_paged m bytes o h n = (λ z. absurd (n z), record { numbers = inr (inr (inr (inr (check_refused m h n)))); past = λ z. refl; untouched = λ k. (refl, refl) })

@@ -34,10 +34,10 @@ use Rattle.demand_statements.proofs.PickLaws.{unrefused, grouped, grouped_old, g
 use Rattle.refusals.specs.declared.Refusal.{Refusal}
 use Rattle.std.specs.Prelude.{Ok, Option, Some, None}
 use Rattle.refusals.specs.declared.Refusal.TheVariants as refusal
-use Rattle.refusals.specs.Numbers.{of_map}
+use Rattle.refusals.specs.Numbers.{refusal_number, of_map}
 
-pub refusal : (m : List ℕ) {r : ℕ} {entry exit : List ℕ} → Hands (map_checked (of_map (check_of m 128))) r entry exit → (r ≡ 0 → ⊥) → CheckNumber r
-refusal m {r} h n = some (check-number m 128 h)
+pub check_refused : (m : List ℕ) {r : ℕ} {entry exit : List ℕ} → Hands (map_checked (of_map (check_of m 128))) r entry exit → (r ≡ 0 → ⊥) → CheckNumber r
+check_refused m {r} h n = some (check-number m 128 h)
   where
     some : (r ≡ 0) ⊎ CheckNumber r → CheckNumber r
     some (inl z) = absurd (n z)
@@ -71,7 +71,7 @@ of_old = record { numbers = λ P h. tt; passes = λ u. refl }
 abbrev GroupNumber : ℕ → ℕ → Type 0
 GroupNumber has n = (n ≡ 13) ⊎ ((has ≢ 0) × CheckNumber n)
 
-none_there : (c : List ℕ) → length c ≢ 20 → candidate_refusal c ≡ Some 13
+none_there : (c : List ℕ) → length c ≢ 20 → candidate_refusal c ≡ Some refusal.Candidate
 unfolding valid
 none_there c n = rw (ne_eqb (length c) 20 n)
 
@@ -98,7 +98,7 @@ prefix_concluded c h = (grouped_old c h, groups 0 [] c by_old_prefixes of_old h)
 -- the check refused, and nothing was written
 pub not_grouped : (m c : List ℕ) {r g : ℕ} {lent left : List ℕ} → Hands (map_checked (of_map (check_of m 128))) r lent left → (r ≡ 0 → ⊥)
     → (r ≡ 0 → Grouped 1 m c g) × LoadedGroups r (g ∷ []) (g ∷ [])
-not_grouped m c h n = (λ z. absurd (n z), record { numbers = inr (inr (refusal m h n)); untouched = λ k. refl })
+not_grouped m c h n = (λ z. absurd (n z), record { numbers = inr (inr (check_refused m h n)); untouched = λ k. refl })
 
 abbrev LoadedGroup : ℕ → Type 0
 LoadedGroup n = (n ≡ 13) ⊎ CheckNumber n
@@ -142,8 +142,8 @@ module _ (n : Numbering) (bytes occupied : List ℕ) (max : ℕ) (picks groups :
   no_reason None h z = refl
   no_reason (Some j) h z = absurd (h.zero_is_done z)
 
-  reason : (why : Option Refusal) {k r : ℕ} {lent left : List ℕ} → why ≡ Some k
-      → Hands (pick_made (pick_unless why n (candidates_of bytes) occupied max picks groups).answer) r lent left → r ≡ k
+  reason : (why : Option Refusal) {k : Refusal} {r : ℕ} {lent left : List ℕ} → why ≡ Some k
+      → Hands (pick_made (pick_unless why n (candidates_of bytes) occupied max picks groups).answer) r lent left → r ≡ refusal_number k
   unfolding pick_made
   reason why e h = refused_as _ (ap (λ (w : Option Refusal). pick_made (pick_unless w n (candidates_of bytes) occupied max picks groups).answer) e) h
 
@@ -152,30 +152,30 @@ module _ (n : Numbering) (bytes occupied : List ℕ) (max : ℕ) (picks groups :
   unfolding pick_made
   done_by why e h = done_as _ (ap (λ (w : Option Refusal). pick_made (pick_unless w n (candidates_of bytes) occupied max picks groups).answer) e) h
 
--- the paper's order: 13 for the length, 12, 12
-module _ (of_map : Option Refusal) (bytes occupied : List ℕ) (max : ℕ) (picks groups : List ℕ) where
-  thirteen : length bytes % 20 ≢ 0 → pick_refusal of_map bytes occupied max picks groups ≡ Some 13
+-- the paper's order: 13 for the length, 12, 12; wrong: what is wrong with the map
+module _ (wrong : Option Refusal) (bytes occupied : List ℕ) (max : ℕ) (picks groups : List ℕ) where
+  thirteen : length bytes % 20 ≢ 0 → pick_refusal wrong bytes occupied max picks groups ≡ Some refusal.Candidate
   thirteen e = rw (ne_eqb (length bytes % 20) 0 e)
 
-  twelve : length bytes % 20 ≡ 0 → 4096 < length bytes / 20 → pick_refusal of_map bytes occupied max picks groups ≡ Some 12
+  twelve : length bytes % 20 ≡ 0 → 4096 < length bytes / 20 → pick_refusal wrong bytes occupied max picks groups ≡ Some refusal.TooMany
   twelve e l = rw (eq-eqb (length bytes % 20) 0 e, lt-ltb 4096 (length bytes / 20) l)
 
-  twelve_occupied : length bytes % 20 ≡ 0 → length bytes / 20 ≤ 4096 → 4096 < length occupied → pick_refusal of_map bytes occupied max picks groups ≡ Some 12
+  twelve_occupied : length bytes % 20 ≡ 0 → length bytes / 20 ≤ 4096 → 4096 < length occupied → pick_refusal wrong bytes occupied max picks groups ≡ Some refusal.TooMany
   twelve_occupied e k l = rw (eq-eqb (length bytes % 20) 0 e, le-ltb 4096 (length bytes / 20) k, lt-ltb 4096 (length occupied) l)
 
-  passes : length bytes % 20 ≡ 0 → length bytes / 20 ≤ 4096 → length occupied ≤ 4096 → all_valid (candidates_of bytes) ≡ true → of_map ≡ None
-      → min max (length bytes / 20) ≤ length picks → min max (length bytes / 20) ≤ length groups → pick_refusal of_map bytes occupied max picks groups ≡ None
+  passes : length bytes % 20 ≡ 0 → length bytes / 20 ≤ 4096 → length occupied ≤ 4096 → all_valid (candidates_of bytes) ≡ true → wrong ≡ None
+      → min max (length bytes / 20) ≤ length picks → min max (length bytes / 20) ≤ length groups → pick_refusal wrong bytes occupied max picks groups ≡ None
   passes e k l v u a b =
       let most = min max (length bytes / 20) in
       rw (eq-eqb (length bytes % 20) 0 e, le-ltb 4096 (length bytes / 20) k, le-ltb 4096 (length occupied) l, v, u, le-ltb (length picks) most a, le-ltb (length groups) most b)
 
-  roomy : pick_refusal of_map bytes occupied max picks groups ≡ None
+  roomy : pick_refusal wrong bytes occupied max picks groups ≡ None
       → (min max (length bytes / 20) ≤ length picks) × (min max (length bytes / 20) ≤ length groups)
   roomy e =
       let most = min max (length bytes / 20) in
-      let r = none-later of_map (room_refusal (length bytes / 20) max picks groups) (none-later (list_refusal bytes occupied) _ e) in (
-        none_more (length picks) most 14 (none_first (refuse_if (ltb (length picks) most) refusal.OutputTooShort) _ r),
-        none_more (length groups) most 14 (none-later (refuse_if (ltb (length picks) most) refusal.OutputTooShort) _ r),
+      let r = none-later wrong (room_refusal (length bytes / 20) max picks groups) (none-later (list_refusal bytes occupied) _ e) in (
+        none_more (length picks) most refusal.OutputTooShort (none_first (refuse_if (ltb (length picks) most) refusal.OutputTooShort) _ r),
+        none_more (length groups) most refusal.OutputTooShort (none-later (refuse_if (ltb (length picks) most) refusal.OutputTooShort) _ r),
       )
 
 picks : (has : ℕ) (m bytes occupied : List ℕ) (max : ℕ) (ps gs : List ℕ) (n : Numbering) → Of has m n → {r : ℕ} {entry exit ps' gs' : List ℕ}
@@ -246,4 +246,4 @@ pub not_picked : (m bytes occupied : List ℕ) (max : ℕ) (ps gs : List ℕ) {r
     → (r ≡ 0 → ByMap m bytes occupied max ps gs taken examined instructions)
     × LoadedPicks r (total ∷ taken ∷ examined ∷ instructions ∷ []) (total ∷ taken ∷ examined ∷ instructions ∷ []) ps ps gs gs
 not_picked m bytes occupied max ps gs h n =
-    (λ z. absurd (n z), record { numbers = inr (inr (inr (inr (refusal m h n)))); untouched = λ k. refl; picks_untouched = λ k. refl; groups_untouched = λ k. refl })
+    (λ z. absurd (n z), record { numbers = inr (inr (inr (inr (check_refused m h n)))); untouched = λ k. refl; picks_untouched = λ k. refl; groups_untouched = λ k. refl })

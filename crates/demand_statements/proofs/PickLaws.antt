@@ -51,18 +51,18 @@ unrefused m h z = ap verdict_refusal (accepted (check_of m 128) h z)
 
 same_group : (why : Option Refusal) (n : Numbering) (c : List ℕ) (g : ℕ) → group_unless why n c ≡ Ok g → g ≡ group_of n c
 same_group None n c g e = cc
-same_group (Some k) n c g e = let z : ◌≡◌ {A = ℕ} 0 1 = cc in absurd (omega arith)
+same_group (Some k) n c g e = absurd cc
 
--- of_map: what is wrong with the map; has: whether there is one
-pub grouped : (has : ℕ) (of_map : Option Refusal) (m c : List ℕ) {r g : ℕ} {lent : List ℕ}
-    → Hands (group_found (group_call of_map (numbering_of has m) c)) r lent (g ∷ [])
-    → (r ≡ 0 → Whole (numbering_of has m) c (Ok g)) → r ≡ 0 → Grouped has m c g
-unfolding numbering_of
-grouped zero of_map m c {r} {g} h w z =
-    let e = same_group (or_else (candidate_refusal c) of_map) by_prefixes c g (found (group_call of_map by_prefixes c) h z) in
+-- wrong: what is wrong with the map; has: whether there is one
+pub grouped : (has : ℕ) (wrong : Option Refusal) (m c : List ℕ) {r g : ℕ} {lent : List ℕ}
+    → Hands (group_found (group_call wrong (numbering (grouping_of has) m) c)) r lent (g ∷ [])
+    → (r ≡ 0 → Whole (numbering (grouping_of has) m) c (Ok g)) → r ≡ 0 → Grouped has m c g
+unfolding grouping_of
+grouped zero wrong m c {r} {g} h w z =
+    let e = same_group (or_else (candidate_refusal c) wrong) by_prefixes c g (found (group_call wrong by_prefixes c) h z) in
     record { by_map = λ n. absurd (n refl); by_prefix = λ y. e ∙ prefix_of c }
-grouped (suc k) of_map m c {r} {g} h w z =
-    let e = same_group (or_else (candidate_refusal c) of_map) (by_map m) c g (found (group_call of_map (by_map m) c) h z) in
+grouped (suc k) wrong m c {r} {g} h w z =
+    let e = same_group (or_else (candidate_refusal c) wrong) (by_map m) c g (found (group_call wrong (by_map m) c) h z) in
     record { by_map = λ n. (e, ends m c (w z)); by_prefix = λ y. absurd (omega arith) }
 
 -- in the old numbering
@@ -70,11 +70,11 @@ pub grouped_old : (c : List ℕ) {r g : ℕ} {lent : List ℕ} → Hands (group_
 grouped_old c {r} {g} h z = same_group (or_else (candidate_refusal c) None) by_old_prefixes c g (found (prefix_group_call c) h z) ∙ old-prefix_of c
 
 -- by a map that was checked before
-pub grouped_loaded : (of_map : Option Refusal) (m c : List ℕ) {r g : ℕ} {lent : List ℕ} → check_refusal (by_map m) ≡ None
-    → Hands (group_found (group_call of_map (numbering_of 1 m) c)) r lent (g ∷ [])
-    → (check_refusal (numbering_of 1 m) ≡ None → r ≡ 0 → Whole (numbering_of 1 m) c (Ok g)) → r ≡ 0 → Grouped 1 m c g
-unfolding numbering_of
-grouped_loaded of_map m c q h w z = grouped 1 of_map m c h (w q) z
+pub grouped_loaded : (wrong : Option Refusal) (m c : List ℕ) {r g : ℕ} {lent : List ℕ} → check_refusal (by_map m) ≡ None
+    → Hands (group_found (group_call wrong (numbering (grouping_of 1) m) c)) r lent (g ∷ [])
+    → (check_refusal (numbering (grouping_of 1) m) ≡ None → r ≡ 0 → Whole (numbering (grouping_of 1) m) c (Ok g)) → r ≡ 0 → Grouped 1 m c g
+unfolding grouping_of
+grouped_loaded wrong m c q h w z = grouped 1 wrong m c h (w q) z
 
 -- ---- a pick
 
@@ -87,17 +87,17 @@ taken_by : (why : Option Refusal) (n : Numbering) (bytes occupied : List ℕ) (m
     → (pick_unless why n (candidates_of bytes) occupied max picks₀ groups₀).answer ≡ Ok (totals_of total taken examined instructions)
     → taken ≡ length (first n (candidates_of bytes) occupied max).places
 taken_by None n bytes occupied max picks₀ groups₀ total taken examined instructions e = sym (ap taken_of e)
-taken_by (Some k) n bytes occupied max picks₀ groups₀ total taken examined instructions e = let z : ◌≡◌ {A = ℕ} 0 1 = cc in absurd (omega arith)
+taken_by (Some k) n bytes occupied max picks₀ groups₀ total taken examined instructions e = absurd cc
 
-module _ (of_map : Option Refusal) (m bytes occupied : List ℕ) (max : ℕ) (picks₀ groups₀ : List ℕ)
+module _ (wrong : Option Refusal) (m bytes occupied : List ℕ) (max : ℕ) (picks₀ groups₀ : List ℕ)
     {r total taken examined instructions : ℕ} {lent picks groups : List ℕ} where
-  module _ (n : Numbering) (p : Picks (pick_call of_map n bytes occupied max picks₀ groups₀) r lent (total ∷ taken ∷ examined ∷ instructions ∷ []) picks groups)
+  module _ (n : Numbering) (p : Picks (pick_call wrong n bytes occupied max picks₀ groups₀) r lent (total ∷ taken ∷ examined ∷ instructions ∷ []) picks groups)
       (d : r ≡ 0 → Demand3 n (candidates_of bytes) occupied max (Ok (totals_of total taken examined instructions)) picks groups) (z : r ≡ 0) where
     -- gs: the groups of all candidates
     passed : (gs : List ℕ) → groups_of n (candidates_of bytes) ≡ gs → Passed (first_pass occupied max gs) picks groups taken examined
     passed gs e =
         let f = d z in
-        let w = pick_refusal of_map bytes occupied max picks₀ groups₀ in
+        let w = pick_refusal wrong bytes occupied max picks₀ groups₀ in
         subst (λ (l : List ℕ). Passed (first_pass occupied max l) picks groups taken examined) e
         record { same_first = taken_by w n bytes occupied max picks₀ groups₀ total taken examined instructions (picked _ p.hands z); same_picks = f.picks; same_groups = f.groups; same_examined = f.examined }
 
@@ -106,7 +106,7 @@ module _ (of_map : Option Refusal) (m bytes occupied : List ℕ) (max : ℕ) (pi
     within h =
         omega (arith, (d z).examined, pass_examined occupied max begin (groups_of n (candidates_of bytes)), length-groups n (candidates_of bytes), length_candidates bytes)
 
-  picked_by-map : Picks (pick_call of_map (by_map m) bytes occupied max picks₀ groups₀) r lent (total ∷ taken ∷ examined ∷ instructions ∷ []) picks groups
+  picked_by-map : Picks (pick_call wrong (by_map m) bytes occupied max picks₀ groups₀) r lent (total ∷ taken ∷ examined ∷ instructions ∷ []) picks groups
       → (r ≡ 0 → Demand3 (by_map m) (candidates_of bytes) occupied max (Ok (totals_of total taken examined instructions)) picks groups)
       → (r ≡ 0 → Unaborted (by_map m) (candidates_of bytes) (Ok (totals_of total taken examined instructions)))
       → r ≡ 0 → ByMap m bytes occupied max picks groups taken examined instructions
@@ -122,7 +122,7 @@ module _ (of_map : Option Refusal) (m bytes occupied : List ℕ) (max : ℕ) (pi
 
   -- n: of which numbering
   picked_by-prefix : (n : Numbering) (prefix : ℕ → ℕ) → walk_counts n (candidates_of bytes) ≡ [] → ((i : ℕ) → group_of n (take 20 (drop (20 * i) bytes)) ≡ prefix i)
-      → Picks (pick_call of_map n bytes occupied max picks₀ groups₀) r lent (total ∷ taken ∷ examined ∷ instructions ∷ []) picks groups
+      → Picks (pick_call wrong n bytes occupied max picks₀ groups₀) r lent (total ∷ taken ∷ examined ∷ instructions ∷ []) picks groups
       → (r ≡ 0 → Demand3 n (candidates_of bytes) occupied max (Ok (totals_of total taken examined instructions)) picks groups)
       → r ≡ 0 → ByPrefixes prefix bytes occupied max picks groups taken examined instructions
   picked_by-prefix n prefix none at p d z =
@@ -131,15 +131,15 @@ module _ (of_map : Option Refusal) (m bytes occupied : List ℕ) (max : ℕ) (pi
         counted = (d z).instructions ∙ ap (λ (l : List ℕ). sum (take examined l)) none ∙ ap sum (take-nil examined);
       }
 
-  pub picked_old : Picks (pick_call of_map by_old_prefixes bytes occupied max picks₀ groups₀) r lent (total ∷ taken ∷ examined ∷ instructions ∷ []) picks groups
+  pub picked_old : Picks (pick_call wrong by_old_prefixes bytes occupied max picks₀ groups₀) r lent (total ∷ taken ∷ examined ∷ instructions ∷ []) picks groups
       → (r ≡ 0 → Demand3 by_old_prefixes (candidates_of bytes) occupied max (Ok (totals_of total taken examined instructions)) picks groups)
       → r ≡ 0 → ByPrefixes (old_prefix_at bytes) bytes occupied max picks groups taken examined instructions
   picked_old = picked_by-prefix by_old_prefixes (old_prefix_at bytes) refl (old-prefix_at bytes)
 
   pub picked_as : (has : ℕ)
-      → Picks (pick_call of_map (numbering_of has m) bytes occupied max picks₀ groups₀) r lent (total ∷ taken ∷ examined ∷ instructions ∷ []) picks groups
-      → (r ≡ 0 → Demand3 (numbering_of has m) (candidates_of bytes) occupied max (Ok (totals_of total taken examined instructions)) picks groups)
-      → (r ≡ 0 → Unaborted (numbering_of has m) (candidates_of bytes) (Ok (totals_of total taken examined instructions)))
+      → Picks (pick_call wrong (numbering (grouping_of has) m) bytes occupied max picks₀ groups₀) r lent (total ∷ taken ∷ examined ∷ instructions ∷ []) picks groups
+      → (r ≡ 0 → Demand3 (numbering (grouping_of has) m) (candidates_of bytes) occupied max (Ok (totals_of total taken examined instructions)) picks groups)
+      → (r ≡ 0 → Unaborted (numbering (grouping_of has) m) (candidates_of bytes) (Ok (totals_of total taken examined instructions)))
       → r ≡ 0 → Picked m bytes occupied max picks groups taken examined instructions has
   unfolding numbering_of
   picked_as zero p d u z = record { by_map = λ n. absurd (n refl); by_prefix = λ y. picked_by-prefix by_prefixes (prefix_at bytes) refl (prefix_at_lem bytes) p d z }
@@ -147,9 +147,9 @@ module _ (of_map : Option Refusal) (m bytes occupied : List ℕ) (max : ℕ) (pi
 
   -- by a map that was checked before
   pub picked_loaded : check_refusal (by_map m) ≡ None
-      → Picks (pick_call of_map (numbering_of 1 m) bytes occupied max picks₀ groups₀) r lent (total ∷ taken ∷ examined ∷ instructions ∷ []) picks groups
-      → (r ≡ 0 → Demand3 (numbering_of 1 m) (candidates_of bytes) occupied max (Ok (totals_of total taken examined instructions)) picks groups)
-      → (check_refusal (numbering_of 1 m) ≡ None → r ≡ 0 → Unaborted (numbering_of 1 m) (candidates_of bytes) (Ok (totals_of total taken examined instructions)))
+      → Picks (pick_call wrong (numbering (grouping_of 1) m) bytes occupied max picks₀ groups₀) r lent (total ∷ taken ∷ examined ∷ instructions ∷ []) picks groups
+      → (r ≡ 0 → Demand3 (numbering (grouping_of 1) m) (candidates_of bytes) occupied max (Ok (totals_of total taken examined instructions)) picks groups)
+      → (check_refusal (numbering (grouping_of 1) m) ≡ None → r ≡ 0 → Unaborted (numbering (grouping_of 1) m) (candidates_of bytes) (Ok (totals_of total taken examined instructions)))
       → r ≡ 0 → ByMap m bytes occupied max picks groups taken examined instructions
   unfolding numbering_of
   picked_loaded q p d u z = picked_by-map p d (u q) z

@@ -12,7 +12,7 @@ use Rattle.decimal_columns.specs.Columns.{digit_byte, column_byte, read_on, read
 use Rattle.group_shares.specs.Spread.{Share, spread, times}
 use Rattle.group_shares.proofs.ShareLaws.{share_at, spread-next, spread-some, spread-times, spread_has, spread_most}
 use Rattle.page_lines.specs.PerCent.{tenths}
-use Rattle.page_lines.specs.Line.{line, lines, page_of}
+use Rattle.page_lines.specs.Line.{line, page_of}
 use Rattle.page_lines.specs.Told.{Tells, AllTell}
 use Rattle.page_lines.proofs.LineLaws.{length-lines}
 use Rattle.page_lines.proofs.PerCentLaws.{tenths_nearest}

@@ -22,7 +22,7 @@ use Rattle.asmap_records.proofs.UnpackLaws.{unpack-length}
 use Rattle.asmap_records.proofs.OutputLaws.{made_same}
 use Rattle.asmap_records.proofs.RoundTrip.{unpacked_then_packed, packed_then_unpacked}
 use Rattle.answer_outcome.specs.Outcome.{handed, IsDone, Hands}
-use Rattle.answer_bytes.specs.Bytes.{bytes_written, Writes}
+use Rattle.answer_bytes.specs.Bytes.{byte_count, Writes}
 use Rattle.demand_statements.proofs.AnswerLaws.{kept}
 use Rattle.demand_statements.specs.Same.{Again, UnpackedThenPacked}
 use Rattle.asmap_program.specs.Verdict.{Accepted, Verdict}
@@ -37,9 +37,9 @@ pub record Wrote (made : Making) (o o' : List ℕ) (n : ℕ) : Type 0 where
   pub there : take n o' ≡ bytes
   pub past : drop n o' ≡ drop n o
 
-wrote_in : (b : Bool) (bs o o' : List ℕ) {r n : ℕ} {lent : List ℕ} → Hands (bytes_written (answer_of (refuse b refusal.OutputTooShort (Made bs)))) r lent (n ∷ [])
+wrote_in : (b : Bool) (bs o o' : List ℕ) {r n : ℕ} {lent : List ℕ} → Hands (byte_count (answer_of (refuse b refusal.OutputTooShort (Made bs)))) r lent (n ∷ [])
     → o' ≡ leaves (refuse b refusal.OutputTooShort (Made bs)) o → r ≡ 0 → Wrote (Made bs) o o' n
-unfolding handed IsDone bytes_written refuse
+unfolding handed IsDone byte_count refuse
 wrote_in true bs o o' h e z = absurd (h.zero_is_done z)
 wrote_in false bs o o' {r} {n} h e z =
     let k = h.numbers in
@@ -47,7 +47,7 @@ wrote_in false bs o o' {r} {n} h e z =
     record { bytes = bs; these = refl; many = l; there = rw (l, e) (take-append_seam bs (drop (length bs) o)); past = rw (l, e) (drop-append_seam bs (drop (length bs) o)) }
 
 pub wrote : (made : Making) {o o' : List ℕ} {r n : ℕ} {lent : List ℕ} → Writes made o o' r lent (n ∷ []) → r ≡ 0 → Wrote made o o' n
-unfolding IsDone bytes_written
+unfolding IsDone byte_count
 wrote (Made bs) {o} {o'} w z = wrote_in (ltb (length o) (length bs)) bs o o' w.hands w.output z
 wrote (No k) w z = absurd (w.hands.zero_is_done z)
 
@@ -57,29 +57,29 @@ inside {made} {o} {o'} {n} w = let e = ap length w.there in omega (arith, length
 
 -- what is made and has room is answered by 0
 pub has_room : (made : Making) (bs o o' : List ℕ) {r : ℕ} {lent left : List ℕ} → made ≡ Made bs → length bs ≤ length o → Writes made o o' r lent left → r ≡ 0
-unfolding handed bytes_written refuse
+unfolding handed byte_count refuse
 has_room made bs o o' e h w = let k = rw (e, le-ltb (length o) (length bs) h) at w.hands.numbers in cc
 
 -- and 14 where it has none
 pub no_room : (made : Making) (bs o o' : List ℕ) {r : ℕ} {lent left : List ℕ} → made ≡ Made bs → length o < length bs → Writes made o o' r lent left → r ≡ 14
-unfolding handed bytes_written refuse
+unfolding handed byte_count refuse
 no_room made bs o o' e h w = let k = rw (e, lt-ltb (length o) (length bs) h) at w.hands.numbers in cc
 
 -- a refused call leaves the output
-unwritten : (x : Making) {o o' : List ℕ} {r : ℕ} {lent left : List ℕ} → Hands (bytes_written (answer_of x)) r lent left → o' ≡ leaves x o → (r ≡ 0 → ⊥) → o' ≡ o
-unfolding handed bytes_written
+unwritten : (x : Making) {o o' : List ℕ} {r : ℕ} {lent left : List ℕ} → Hands (byte_count (answer_of x)) r lent left → o' ≡ leaves x o → (r ≡ 0 → ⊥) → o' ≡ o
+unfolding handed byte_count
 unwritten (Made bs) {r} h e n = let k = h.numbers in let z : r ≡ 0 = cc in absurd (n z)
 unwritten (No k) h e n = e
 
 pub left_alone : (made : Making) {o o' : List ℕ} {r n n' : ℕ} → Writes made o o' r (n ∷ []) (n' ∷ []) → (r ≡ 0 → ⊥) → (o' ≡ o) × (n' ≡ n)
 left_alone made {o} w z =
-    let e = kept (bytes_written (answer_of (within (length o) made))) w.hands z in
+    let e = kept (byte_count (answer_of (within (length o) made))) w.hands z in
     (unwritten (within (length o) made) w.hands w.output z, (cc))
 
 -- a map that was unpacked is accepted
 unpacks : (m : List ℕ) (w : ℕ) (rs : List ℕ) (v : Verdict) → unpack_as m w v ≡ Made rs → (c : ℕ) × (d : ℕ) × (v ≡ Accepted c d)
 unpacks m w rs (Ok got) e = (got.count, got.depth, refl)
-unpacks m w rs (Err n) e = let z : ◌≡◌ {A = ℕ} 0 1 = cc in absurd (omega arith)
+unpacks m w rs (Err n) e = absurd cc
 
 module _ (m : List ℕ) (w : ℕ) where
   pub unpack_accepts : (rs : List ℕ) → unpack_of m w ≡ Made rs → (c : ℕ) × (d : ℕ) × (check_of m w ≡ Accepted c d)

@@ -28,6 +28,7 @@ use Rattle.asmap_program.specs.Verdict.{Accepted}
 use Rattle.asmap_walk_bits.specs.declared.Ending.{Ending}
 use Rattle.refusals.specs.declared.Refusal.{Refusal}
 use Rattle.std.specs.Prelude.{Result}
+use Rattle.refusals.specs.declared.Refusal.TheVariants as refusal
 use Rattle.refusals.specs.Numbers.{of_map}
 
 -- the kind that a number tells
@@ -79,7 +80,7 @@ walked m a w r kind number count bits f =
     }
 
 -- a walk that was made had an address of w bits
-enough : (b : Bool) (x : Result Ending Refusal) {r : ℕ} {lent left : List ℕ} → Hands (walk_made (refused_if (not b) 11 x)) r lent left → r ≡ 0 → b ≡ true
+enough : (b : Bool) (x : Result Ending Refusal) {r : ℕ} {lent left : List ℕ} → Hands (walk_made (refused_if (not b) refusal.AddressLength x)) r lent left → r ≡ 0 → b ≡ true
 unfolding IsDone walk_made
 enough true x h z = refl
 enough false x h z = absurd (h.zero_is_done z)

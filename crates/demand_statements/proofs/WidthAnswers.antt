@@ -20,7 +20,7 @@ use Rattle.asmap_compare.specs.Compare.{Refuses, comparison, comparison_at, reco
 use Rattle.asmap_compare.specs.Promise.{Compares}
 use Rattle.answer_outcome.specs.Outcome.{Hands}
 use Rattle.answer_maps.specs.Maps.{map_checked, check_stopped, walk_made}
-use Rattle.answer_bytes.specs.Bytes.{bytes_needed, Writes, Finds}
+use Rattle.answer_bytes.specs.Bytes.{byte_count, Writes, Finds}
 use Rattle.answers.specs.Promise.{Demand3At, CoreVerdictAt, CoreNumberAt}
 use Rattle.demand_statements.specs.AnyInput.{AtWidth, AlsoAt128, Checks, Stops, Walks, Unpacks, Lists, Needs, Changes, FindsFirst}
 use Rattle.demand_statements.specs.Walked.{InRecords}
@@ -51,15 +51,15 @@ both p = (p.0, same_head p.1)
 module _ (m : List ℕ) (w : ℕ) {r : ℕ} {lent left : List ℕ} where
   pub check_over_lem : Hands (map_checked (check_at m w)) r lent left → ByWidth w r (Hands (map_checked (of_map (check_of m w))) r lent left) (left ≡ lent)
   unfolding map_checked
-  check_over_lem h = hands_by map_checked Err (check_of m w) w refl h
+  check_over_lem h = hands_by map_checked Err (of_map (check_of m w)) w refl h
 
   stop_over_lem : Hands (check_stopped (stopped_at m w)) r lent left → ByWidth w r (Hands (check_stopped (of_map (stopped_of m w))) r lent left) (left ≡ lent)
   unfolding check_stopped
-  stop_over_lem h = hands_by check_stopped Err (stopped_of m w) w refl h
+  stop_over_lem h = hands_by check_stopped Err (of_map (stopped_of m w)) w refl h
 
-  needs_over : Hands (bytes_needed (needed_at m w)) r lent left → ByWidth w r (Hands (bytes_needed (needed_of m w)) r lent left) (left ≡ lent)
-  unfolding bytes_needed
-  needs_over h = hands_by (λ (x : Making). bytes_needed (bytes_of x)) No (list_of m w) w refl h
+  needs_over : Hands (byte_count (needed_at m w)) r lent left → ByWidth w r (Hands (byte_count (needed_of m w)) r lent left) (left ≡ lent)
+  unfolding byte_count
+  needs_over h = hands_by (λ (x : Making). byte_count (bytes_of x)) No (list_of m w) w refl h
 
   unpack_over_lem : {o o' : List ℕ} → Writes (unpack_at m w) o o' r lent left → ByWidth w r (Writes (unpack_of m w) o o' r lent left) ((o' ≡ o) × (left ≡ lent))
   unpack_over_lem h = writes_by (λ (x : Making). x) No (unpack_of m w) w refl h
@@ -88,7 +88,7 @@ module _ (m : List ℕ) (w : ℕ) {r : ℕ} where
       → AtWidth w r (Walks m a w r entry kind number count bits) (kind ∷ number ∷ count ∷ bits ∷ [] ≡ entry)
   walks_at a h = said_at w r (λ t k. walks m a w (whole-bytes w t) k) (λ e. e) (walk_over_lem m w a h)
 
-  pub needs_at : {entry exit : List ℕ} → Hands (bytes_needed (needed_at m w)) r entry exit → AtWidth w r (Needs m w r entry exit) (exit ≡ entry)
+  pub needs_at : {entry exit : List ℕ} → Hands (byte_count (needed_at m w)) r entry exit → AtWidth w r (Needs m w r entry exit) (exit ≡ entry)
   needs_at h = said_at w r (λ t k. needs m w k) (λ e. e) (needs_over m w h)
 
   module _ (o o' : List ℕ) {written written' : ℕ} where
@@ -173,10 +173,10 @@ unpacked_again_at records w {bytes' = bytes'} {n = n} all p z x y =
 -- ---- room, and two maps compared
 
 module _ (m : List ℕ) (w : ℕ) (o : List ℕ) {r needed written : ℕ} where
-  pub unlisted_at : {entry exit : List ℕ} → Hands (bytes_needed (needed_at m w)) r entry exit → (r ≡ 0 → ⊥) → Either w → ListedWithRoom m w o r needed written
+  pub unlisted_at : {entry exit : List ℕ} → Hands (byte_count (needed_at m w)) r entry exit → (r ≡ 0 → ⊥) → Either w → ListedWithRoom m w o r needed written
   unlisted_at h n e = unlisted m w o ((needs_over m w h).over (a_width w e)) n
 
-  pub with_room_at : (o' : List ℕ) {q : ℕ} {entry lent : List ℕ} → Hands (bytes_needed (needed_at m w)) q entry (needed ∷ [])
+  pub with_room_at : (o' : List ℕ) {q : ℕ} {entry lent : List ℕ} → Hands (byte_count (needed_at m w)) q entry (needed ∷ [])
       → Writes (list_at m w) o o' r lent (written ∷ []) → Either w → ListedWithRoom m w o r needed written
   with_room_at o' h x e = let t = a_width w e in with_room m w o o' ((needs_over m w h).over t) ((list_over m w x).over t)
 
