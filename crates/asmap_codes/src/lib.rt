@@ -87,7 +87,7 @@ fn swapped(x: u64, k: u32, mask: u64) -> u64
     ((x >> k) & mask) + ((x & mask) << k)
 }
 
-// The 64 bits of a word in reverse: blocks of one bit are swapped, then of two, up to 32.
+// The 64 bits of a word in reverse: blocks of one bit are swapped, then of two, up to 32. The library's `reverse_bits` goes bit by bit.
 fn reversed(x: u64) -> u64
     ensures { result ≡ rev 64 x }
 {

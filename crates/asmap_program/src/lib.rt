@@ -105,7 +105,7 @@ pub enum Kind {
 pub fn bit_width(x: u32) -> u32
     ensures { Width x result }
 {
-    32 - u32::leading_zeros(x)
+    32 - x.leading_zeros()
 }
 
 // How many address bits a MATCH with this operand compares: the operand's bit width less one. The least MATCH operand is 2;

@@ -1,7 +1,7 @@
 // IPv4-mapped addresses, the filter and the relay of addresses.
+use refusals::Refusal;
 use replay_outcomes::{Out, Seen, compared, done, refused};
 use replay_words::{Words, byte, short, word};
-use refusals::Refusal;
 
 pub fn mapped(bytes: &[u8], words: Words) -> Seen {
     let address = word(bytes, words, 0);

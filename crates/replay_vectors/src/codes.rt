@@ -3,9 +3,9 @@ use asmap_codes::Code;
 use asmap_encode::Word;
 use asmap_items::Item;
 use asmap_program::Instruction;
+use refusals::{Fault, Refusal};
 use replay_outcomes::{Out, Seen, compared, done, refused};
 use replay_words::{Words, byte, value, wide, word};
-use refusals::{Fault, Refusal};
 
 fn decoded(got: Result<Code, Fault>) -> Out {
     match got {

@@ -4,9 +4,9 @@ ghost use Rattle.std.specs.Prelude.{◌≡◌, ◌<◌, ◌≤◌, length};
 use group_lists::Scan;
 use netgroup::Grouping;
 use netgroup_pick::Totals;
+use refusals::Refusal;
 use replay_outcomes::{Out, Seen, and_left, compared, done, refused};
 use replay_words::{Words, byte, lengthened, number, wide, word};
-use refusals::Refusal;
 
 // What groups go by: 0 without a map, 1 with one, 2 without one in the old numbering of prefixes.
 pub fn grouping_of(n: u8, map: &[u8]) -> Grouping<'_> {

@@ -1,8 +1,8 @@
 // Draws and loads.
 use crate::maps::wrote;
+use refusals::Refusal;
 use replay_outcomes::{Out, Seen, and_left, compared, done, refused};
 use replay_words::{Words, wide, word};
-use refusals::Refusal;
 
 // What a draw came to.
 fn drawn(got: Result<u64, Refusal>) -> Out {

@@ -2,9 +2,9 @@
 use asmap_check::Stop;
 use asmap_program::{Accepted, Kind};
 use asmap_walk_bits::Ending;
+use refusals::{Fault, Refusal};
 use replay_outcomes::{Out, Seen, and_left, compared, done, refused};
 use replay_words::{Words, word};
-use refusals::{Fault, Refusal};
 
 // What a check came to.
 pub fn checked(verdict: Result<Accepted, Refusal>) -> Out {
@@ -31,7 +31,9 @@ fn wrong_number(wrong: Option<Fault>) -> u8 {
 pub fn stopped_at(stopped: Result<Stop, Fault>) -> Out {
     match stopped {
         Err(refusal) => refused(refusal.number()),
-        Ok(stop) => done().byte(wrong_number(stop.wrong)).number(stop.place as u64, 8),
+        Ok(stop) => done()
+            .byte(wrong_number(stop.wrong))
+            .number(stop.place as u64, 8),
     }
 }
 

@@ -1,12 +1,18 @@
 // The spread on a printed page.
 use crate::groups::grouping_of;
 use crate::maps::wrote;
+use refusals::Refusal;
 use replay_outcomes::{Seen, and_left, compared};
 use replay_words::{Words, byte, word};
-use refusals::Refusal;
 
 // By a map that is checked, or is not. The old numbering of prefixes has a call of its own.
-fn page_by(list: &[u8], by: u8, map: &[u8], checked: bool, out: &mut [u8]) -> Result<usize, Refusal> {
+fn page_by(
+    list: &[u8],
+    by: u8,
+    map: &[u8],
+    checked: bool,
+    out: &mut [u8],
+) -> Result<usize, Refusal> {
     if !checked {
         return spread_page::page_unchecked(list, grouping_of(by, map), out);
     }

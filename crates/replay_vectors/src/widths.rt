@@ -1,8 +1,8 @@
 // The calls on maps at a width, which is the first word of their lines.
 use crate::maps::{checked, needed, stopped_at, walked, wrote};
+use refusals::Refusal;
 use replay_outcomes::{Out, Seen, and_left, compared};
 use replay_words::{Words, value, word};
-use refusals::Refusal;
 
 pub fn check_bits(bytes: &[u8], words: Words) -> Seen {
     let width = value(bytes, words, 0);
