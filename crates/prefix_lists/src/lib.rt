@@ -3,7 +3,8 @@
 
 ghost use Rattle.std.specs.Prelude.{◌≡◌, ◌+◌, ◌-◌, ◌*◌, ◌%◌, ◌^◌, ◌≤◌, eqb, leb, length};
 ghost use Rattle.prefix_records.specs.models.Cursor.{value_of};
-ghost use Rattle.prefix_lists.specs.List.{big, zeros_at, earliest, fits, is_number, judge};
+ghost use Rattle.byte_numbers.specs.Numbers.{number4};
+ghost use Rattle.prefix_lists.specs.List.{big, address_at, length_at, zeros_at, earliest, fits, is_number, judge};
 ghost use Rattle.prefix_lists.specs.models.End.{Ends, may_begin};
 
 use prefix_records::Address;
@@ -25,6 +26,29 @@ pub fn address_at(bytes: &[u8], at: usize) -> Address
     let high = big_at(bytes, at);
     let low = big_at(bytes, at + 8);
     Address { high, low }
+}
+
+// What a record says: where its prefix begins, how long that is, and its number.
+#[derive(Clone, Copy, Debug, PartialEq, Eq)]
+pub struct Record {
+    pub address: Address,
+    pub length: u8,
+    pub number: u32,
+}
+
+// Record i of a list.
+pub fn record_at(records: &[u8], i: usize) -> Record
+    requires { 24 * i + 24 ≤ length records.now }
+    ensures address { value_of result.address ≡ address_at records.now i }
+    ensures length { result.length ≡ length_at records.now i }
+    ensures number { result.number ≡ number4 records.now (24 * i + 20) }
+{
+    let at = 24 * i;
+    Record {
+        address: address_at(records, at),
+        length: records[at + 16],
+        number: byte_numbers::number_at(records, at + 20),
+    }
 }
 
 // ---- whether a list may be built from
@@ -79,10 +103,15 @@ fn fits_at(records: &[u8], i: usize, end: Address, width: u8) -> bool
     requires { (24 * i + 24 ≤ length records.now) × (width ≤ 128) × Ends (earliest records.now i) end }
     ensures { result ≡ fits width records.now i }
 {
-    let at = 24 * i;
-    let a = address_at(records, at);
-    let len = records[at + 16];
-    len <= width && zeros_at(records, i) && zeros_past(a, len) && may_begin(i, end, a)
+    let Record {
+        address,
+        length,
+        ..
+    } = record_at(records, i);
+    length <= width
+        && zeros_at(records, i)
+        && zeros_past(address, length)
+        && may_begin(i, end, address)
 }
 
 // A list of records judged at a width, with the number for all other addresses. Refusals 21 and 22, in the records' order.
@@ -98,11 +127,11 @@ pub fn judge_list(records: &[u8], given: u32, width: u8) -> Result<(), Refusal>
         if !fits_at(records, i, end, width) {
             return Err(Refusal::Prefix);
         }
-        let at = 24 * i;
-        if !is_number(byte_numbers::number_at(records, at + 20)) {
+        let record = record_at(records, i);
+        if !is_number(record.number) {
             return Err(Refusal::Number);
         }
-        end = prefix_records::behind(address_at(records, at), records[at + 16]);
+        end = prefix_records::behind(record.address, record.length);
     }
     if !is_number(given) {
         return Err(Refusal::Number);

@@ -1,5 +1,6 @@
 -- The list is judged record by record (JudgeLaws), and the end moves behind each record that fits (ends_next).
-use Rattle.std.proofs.Common.{◌∙◌, sym, ap, arith}
+use Rattle.std.proofs.Common.{◌∙◌, ℕ, sym, ap, subst, arith}
+use Rattle.prefix_records.specs.models.Cursor.{Behind}
 use Rattle.prefix_lists.specs.List.{count_of, is_number}
 use Rattle.prefix_lists.proofs.FitLaws.{ends_start, ends_next, fitting}
 use Rattle.prefix_lists.proofs.JudgeLaws.{number_read, judge_uneven, judge_even, judge_unfit, judge-number, judge-next, judge_closing, closing_no, closing_yes}
@@ -22,7 +23,7 @@ returns-then-not-fits_at c =
 
 pub returns-then-not-is_number : goal.returns-then-not-is_number
 returns-then-not-is_number c =
-    let n = ap is_number (number_read c.args.records.now c.loop-i.i ∙ sym c.number_at.ensures) ∙ sym c.if-not-is_number.ensures in
+    let n = ap is_number (number_read c.args.records.now c.loop-i.i ∙ sym c.record_at-record.ensures.number) ∙ sym c.if-not-is_number.ensures in
     sym (c.loop-i.invariant.rest ∙ judge-number c.args.width c.args.records.now c.args.given (count_of c.args.records.now) c.loop-i.i c.loop-i-test.true (sym c.if-not-fits_at.ensures) n)
 
 pub behind-end-requires : goal.behind-end-requires
@@ -31,11 +32,12 @@ behind-end-requires c = omega (arith, (fitting c.args.width c.args.records.now c
 pub loop-i-preserved : goal.loop-i-preserved
 loop-i-preserved c =
     let fit = sym c.if-not-fits_at.ensures in
-    let n = ap is_number (number_read c.args.records.now c.loop-i.i ∙ sym c.number_at.ensures) ∙ sym c.if-not-is_number.ensures in
+    let n = ap is_number (number_read c.args.records.now c.loop-i.i ∙ sym c.record_at-record.ensures.number) ∙ sym c.if-not-is_number.ensures in
     record {
       within = omega arith;
       rest = c.loop-i.invariant.rest ∙ judge-next c.args.width c.args.records.now c.args.given (count_of c.args.records.now) c.loop-i.i c.loop-i-test.true fit n;
-      ends = ends_next c.args.records.now c.loop-i.i _ _ (λ j. omega (arith, c.type_inv.records j)) (fitting c.args.width c.args.records.now c.loop-i.i fit).clean c.address_at.ensures c.behind-end.ensures;
+      ends = ends_next c.args.records.now c.loop-i.i _ _ (λ j. omega (arith, c.type_inv.records j)) (fitting c.args.width c.args.records.now c.loop-i.i fit).clean c.record_at-record.ensures.address
+          (subst (λ (n : ℕ). Behind c.record_at-record.result.address n c.behind-end.result) c.record_at-record.ensures.length c.behind-end.ensures);
     }
 
 pub returns-then-not-is_number-2 : goal.returns-then-not-is_number-2
