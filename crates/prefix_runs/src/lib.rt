@@ -43,13 +43,12 @@ impl<'a> Prefixes<'a> {
             };
         }
         let last = under - 1;
-        let at = 24 * last;
-        let first = prefix_lists::address_at(records, at);
-        let past = prefix_records::behind(first, records[at + 16]);
+        let record = prefix_lists::record_at(records, last);
+        let past = prefix_records::behind(record.address, record.length);
         if past == end {
             return Run {
-                first,
-                number: byte_numbers::number_at(records, at + 20),
+                first: record.address,
+                number: record.number,
                 under: last,
             };
         }
