@@ -19,22 +19,16 @@ pub struct Ending {
     pub bits: u8,
 }
 
-fn finish(kind: Kind, number: u32, count: u32, bits: u8) -> Ending
-    ensures { result ≡ record { kind = kind; number = number; count = count; bits = bits } }
-{
-    Ending {
-        kind: kind,
-        number: number,
-        count: count,
-        bits: bits,
-    }
-}
-
 // An abort, of whichever kind, has the number 0. So may another end: see `Ending`.
 fn abort(kind: Kind, count: u32, bits: u8) -> Ending
     ensures { result ≡ record { kind = kind; number = 0; count = count; bits = bits } }
 {
-    finish(kind, 0, count, bits)
+    Ending {
+        kind,
+        number: 0,
+        count,
+        bits,
+    }
 }
 
 // A walk before its first turn, as `asmap_program/specs/Walk` has it.
@@ -44,7 +38,7 @@ fn walk_start(width: u8) -> Walker
     Walker {
         at: 0,
         used: 0,
-        width: width,
+        width,
         default: 0,
     }
 }
@@ -72,7 +66,14 @@ pub fn walk_bits(map: &[u8], address: &[u8], width: u8) -> Ending
         count += 1;
         walker.at = next;
         match opcode {
-            asmap_program::RETURN => return finish(Kind::Returned, operand, count, walker.used),
+            asmap_program::RETURN => {
+                return Ending {
+                    kind: Kind::Returned,
+                    number: operand,
+                    count,
+                    bits: walker.used,
+                };
+            }
             asmap_program::JUMP => {
                 if walker.width <= walker.used {
                     return abort(Kind::TooFewBits, count, walker.used);
@@ -111,5 +112,10 @@ pub fn walk_bits(map: &[u8], address: &[u8], width: u8) -> Ending
         }
     }
     // The bit that differs was read too.
-    finish(Kind::Differed, walker.default, count, walker.used + 1)
+    Ending {
+        kind: Kind::Differed,
+        number: walker.default,
+        count,
+        bits: walker.used + 1,
+    }
 }

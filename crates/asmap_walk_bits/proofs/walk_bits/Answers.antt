@@ -64,7 +64,7 @@ pub returns-in-0 : goal.returns-in-0
 returns-in-0 c =
     let v = c.walk.invariant.0 in
     let t = taken v _ _ _ _ _ _ _ _ c.window-w.ensures c.type_in-first.ensures c.in-Some.is c.operand_window-rest.ensures c.operand_in-second.ensures c.in-Some-second.is in
-    c.finish.ensures ∙ returns_ends t c.in-0.is
+    returns_ends t c.in-0.is
 
 -- ---- JUMP
 
@@ -179,6 +179,5 @@ returns c =
     let v = c.walk.invariant.0 in
     let t = taken v _ _ _ _ _ _ _ _ c.window-w.ensures c.type_in-first.ensures c.in-Some.is c.operand_window-rest.ensures c.operand_in-second.ensures c.in-Some-second.is in
     let l = comparing c.args.address.now c.args.width c.in-Some-second.operand c.walk.walker.used c.equal_front-front.result _ _ c.loop-left.invariant.0 in
-    c.finish-2.ensures
-    ∙ match_differs t c.in-2.is l.room _
+    match_differs t c.in-2.is l.room _
     (different_ends l c.loop-left-test.true (λ z. c.if-address_bit-bit_of.true (c.address_bit.ensures ∙ z ∙ sym c.bit_of.ensures))) c.loop-left.invariant.1.2
