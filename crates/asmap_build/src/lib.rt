@@ -15,7 +15,7 @@ ghost use Rattle.asmap_build.specs.Promise.{WritesMap};
 ghost use Rattle.asmap_build.specs.models.Size.{Sized, WriteReady, Filled};
 
 use asmap_front_writer::{Counts, Front, Step, Writes};
-use asmap_program::{JUMP, RETURN};
+use asmap_program::{JUMP, MAX_MAP_BYTES, RETURN};
 use prefix_records::Address;
 use prefix_runs::Prefixes;
 use refusals::{Fault, Refusal};
@@ -23,20 +23,6 @@ use tree_turns::Turn;
 
 // The most bits of a map: 16,777,216 bytes.
 const MAX_BITS: usize = 8 * MAX_MAP_BYTES;
-
-// Where the tree starts: the address 0.
-fn origin() -> Address
-    ensures { value_of result ≡ 0 }
-{
-    Address { high: 0, low: 0 }
-}
-
-// No half is begun.
-fn no_starts() -> [usize; 129]
-    ensures { (length result ≡ 129) × ((i : ℕ) → get_or result i 0 ≡ 0) }
-{
-    [0; 129]
-}
 
 // One pass over the tree of the addresses of 128 bits, from its end to its start: how many bits the map has, none where it is over the limit. What
 // is done with each instruction, the step says: `Counts` leaves the output as it is; `Writes` writes the bits, of which there are `total`.

@@ -34,8 +34,9 @@ zeros (suc n) (suc i) = zeros n i
 
 pub loop-depth-init : goal.loop-depth-init
 loop-depth-init g c =
-    rw c.origin-first.ensures (starting (F c.args.records.now c.args.given) (K c.args.records.now) 128 g.S.Step.writes c.args.total c.args.out.now
-    c.no_starts-starts.result c.last_run-run.result c.no_starts-starts.ensures.0 c.no_starts-starts.ensures.1 c.last_run-run.ensures.0 c.last_run-run.ensures.1 c.requires.2)
+    let n : c.div_ceil.result ≡ (c.args.total + 7) / 8 = omega (arith, c.div_ceil.ensures) in
+    rw n (starting (F c.args.records.now c.args.given) (K c.args.records.now) 128 g.S.Step.writes c.args.total c.args.out.now
+    (replicate 129 0) c.last_run-run.result refl (zeros 129) c.last_run-run.ensures.0 c.last_run-run.ensures.1 c.requires.2)
 
 pub one_half-first-requires : goal.one_half-first-requires
 one_half-first-requires g c =
