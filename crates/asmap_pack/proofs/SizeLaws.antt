@@ -1,5 +1,6 @@
 -- Laws of pack's first loop: where a record ends, and the records from a byte on. Assumes nothing.
 use mathlib.Core.Path.{◌≡◌, ◌∙◌, refl, sym, ap}
+use mathlib.Core.Logic.{◌⊎◌, inl, inr}
 use mathlib.Core.Bool.{Bool, true, false, ◌&&◌}
 use mathlib.Core.List.{List, [], ◌∷◌, ◌++◌}
 use Prim.Native.Nat.{ℕ, zero, suc, ◌+◌, ◌≤◌, ◌<◌}
@@ -67,14 +68,14 @@ module _ (l : List ℕ) (at : ℕ) where
   end_range h = ends_as (No refusal.OutOfRange) (field_range op zeros v place size at h)
 
   module _ (bits : ℕ) (h : Measured op v bits) where
-    pub end-zeros : (number4 l 0 ≡ op → ⊥) → Err refusal.Record ≡ size_from at (record_bits l at)
+    end-zeros : (number4 l 0 ≡ op → ⊥) → Err refusal.Record ≡ size_from at (record_bits l at)
     end-zeros n = ends_as (No refusal.Record) (field_wrong op zeros v place size at h.ranged (wrong-zeros op zeros v place size at (first_wrong l n)))
 
     module _ (z : number4 l 0 ≡ op) where
-      pub end_place : (place ≡ at → ⊥) → Err refusal.Record ≡ size_from at (record_bits l at)
+      end_place : (place ≡ at → ⊥) → Err refusal.Record ≡ size_from at (record_bits l at)
       end_place n = ends_as (No refusal.Record) (field_wrong op zeros v place size at h.ranged (wrong_place op zeros v place size at (first-zeros l z) n))
 
-      pub end_size : place ≡ at → (size ≡ bits → ⊥) → Err refusal.Record ≡ size_from at (record_bits l at)
+      end_size : place ≡ at → (size ≡ bits → ⊥) → Err refusal.Record ≡ size_from at (record_bits l at)
       end_size p n =
           ends_as (No refusal.Record) (field_wrong op zeros v place size at h.ranged
           (wrong_size op zeros v place size at (first-zeros l z) p (λ k. n (k ∙ sym h.len))))
@@ -89,6 +90,14 @@ module _ (l : List ℕ) (at : ℕ) where
       end_made p q k =
           ap (λ (n : ℕ). Ok (at + n)) h.len
           ∙ ends_as (Made (instruction_bits op v)) (field_made op zeros v place size at h.ranged (right p q) (omega (arith, h.len)))
+
+-- one of its three tests fails: a, b and c are the numbers that were read
+pub end_wrong : (l : List ℕ) (at bits a b c : ℕ) → Measured (get_or l 0 0) (number4 l 4) bits → a ≡ number4 l 0 → b ≡ number4 l 8 → c ≡ number4 l 12
+    → (((a ≡ get_or l 0 0) × (b ≡ at) × (c ≡ bits → ⊥)) ⊎ (((a ≡ get_or l 0 0) × (b ≡ at → ⊥)) ⊎ (a ≡ get_or l 0 0 → ⊥)))
+    → Err refusal.Record ≡ size_from at (record_bits l at)
+end_wrong l at bits a b c h p q r (inl t) = end_size l at bits h (sym p ∙ t.0) (sym q ∙ t.1) (λ e. t.2 (r ∙ e))
+end_wrong l at bits a b c h p q r (inr (inl t)) = end_place l at bits h (sym p ∙ t.0) (λ e. t.1 (q ∙ e))
+end_wrong l at bits a b c h p q r (inr (inr t)) = end-zeros l at bits h (λ e. t (p ∙ e))
 
 -- ---- the first record, and the rest
 

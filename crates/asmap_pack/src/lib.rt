@@ -26,16 +26,13 @@ fn record_end(record: &[u8; 16], at: usize) -> Result<usize, Refusal>
     if len == 0 {
         return Err(Refusal::OutOfRange);
     }
+    let zeros = number_at(record, 0) == opcode;
+    let placed = number_at(record, 8) as usize == at;
+    let sized = number_at(record, 12) as usize == len;
+    if !(zeros && placed && sized) {
+        return Err(Refusal::Record);
+    }
     let end = at + len;
-    if number_at(record, 0) != opcode {
-        return Err(Refusal::Record);
-    }
-    if number_at(record, 8) as usize != at {
-        return Err(Refusal::Record);
-    }
-    if number_at(record, 12) as usize != len {
-        return Err(Refusal::Record);
-    }
     if 8 * MAX_MAP_BYTES < end {
         return Err(Refusal::Map(Fault::MapTooLong));
     }

@@ -5,7 +5,7 @@ use Rattle.asmap_encode.specs.models.Words.{length_written}
 use Rattle.asmap_encode.specs.Write.{write_instruction}
 use Rattle.byte_numbers.specs.Numbers.{number4}
 use Rattle.asmap_bit_writer.proofs.WrittenLaws.{Measured, measured_some, measured_none}
-use Rattle.asmap_pack.proofs.SizeLaws.{end_range, end-zeros, end_place, end_size, end_long, end_made}
+use Rattle.asmap_pack.proofs.SizeLaws.{end_range, end_wrong, end_long, end_made}
 use Rattle.asmap_pack.proofs.record_end.Goals as goal
 
 -- how many bits are written for the opcode and the operand that were read
@@ -29,41 +29,28 @@ overflow_add-end c =
     let m = measured _ _ _ _ c.number_at-operand.ensures c.instruction_length-len.ensures c.if-len-eq0.false in
     omega (arith, m.short)
 
-pub returns-then-number_at-opcode : goal.returns-then-number_at-opcode
-returns-then-number_at-opcode c =
+pub returns-then-not-sized : goal.returns-then-not-sized
+returns-then-not-sized c =
     let a = c.args in
-    end-zeros a.record.now a.at _ (measured _ _ _ _ c.number_at-operand.ensures c.instruction_length-len.ensures c.if-len-eq0.false)
-    (λ k. c.if-number_at-opcode.true (c.number_at.ensures ∙ k))
-
-pub returns-then-number_at-at : goal.returns-then-number_at-at
-returns-then-number_at-at c =
-    let a = c.args in
-    end_place a.record.now a.at _ (measured _ _ _ _ c.number_at-operand.ensures c.instruction_length-len.ensures c.if-len-eq0.false)
-    (sym c.number_at.ensures ∙ c.if-number_at-opcode.false)
-    (λ k. c.if-number_at-at.true (c.number_at-2.ensures ∙ k))
-
-pub returns-then-number_at-len : goal.returns-then-number_at-len
-returns-then-number_at-len c =
-    let a = c.args in
-    end_size a.record.now a.at _ (measured _ _ _ _ c.number_at-operand.ensures c.instruction_length-len.ensures c.if-len-eq0.false)
-    (sym c.number_at.ensures ∙ c.if-number_at-opcode.false)
-    (sym c.number_at-2.ensures ∙ c.if-number_at-at.false)
-    (λ k. c.if-number_at-len.true (c.number_at-3.ensures ∙ k))
+    end_wrong a.record.now a.at _ _ _ _ (measured _ _ _ _ c.number_at-operand.ensures c.instruction_length-len.ensures c.if-len-eq0.false)
+    c.number_at.ensures c.number_at-2.ensures c.number_at-3.ensures c.if-not-sized.either
 
 pub returns-then-end : goal.returns-then-end
 returns-then-end c =
     let a = c.args in
+    let k = c.if-not-sized.false in
     end_long a.record.now a.at _ (measured _ _ _ _ c.number_at-operand.ensures c.instruction_length-len.ensures c.if-len-eq0.false)
-    (sym c.number_at.ensures ∙ c.if-number_at-opcode.false)
-    (sym c.number_at-2.ensures ∙ c.if-number_at-at.false)
-    (sym c.number_at-3.ensures ∙ c.if-number_at-len.false)
+    (sym c.number_at.ensures ∙ k.0)
+    (sym c.number_at-2.ensures ∙ k.1)
+    (sym c.number_at-3.ensures ∙ k.2)
     (omega arith)
 
 pub returns : goal.returns
 returns c =
     let a = c.args in
+    let k = c.if-not-sized.false in
     end_made a.record.now a.at _ (measured _ _ _ _ c.number_at-operand.ensures c.instruction_length-len.ensures c.if-len-eq0.false)
-    (sym c.number_at.ensures ∙ c.if-number_at-opcode.false)
-    (sym c.number_at-2.ensures ∙ c.if-number_at-at.false)
-    (sym c.number_at-3.ensures ∙ c.if-number_at-len.false)
+    (sym c.number_at.ensures ∙ k.0)
+    (sym c.number_at-2.ensures ∙ k.1)
+    (sym c.number_at-3.ensures ∙ k.2)
     (omega arith)
