@@ -117,11 +117,9 @@ pub fn jump_parts(value: u32) -> Option<(usize, Parts)>
 pub fn operand_parts(opcode: u32, operand: u32) -> Option<(usize, Parts)>
     ensures { CodedAs (operand_row opcode) operand result }
 {
-    if opcode == asmap_program::JUMP {
-        return jump_parts(operand);
+    match opcode {
+        asmap_program::JUMP => jump_parts(operand),
+        asmap_program::MATCH => match_parts(operand),
+        _ => asn_parts(operand),
     }
-    if opcode == asmap_program::MATCH {
-        return match_parts(operand);
-    }
-    asn_parts(operand)
 }
