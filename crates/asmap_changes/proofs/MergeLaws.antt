@@ -1,6 +1,6 @@
 -- The loop over two listings: how it stands, and each way on from there. 2 ^ 128 is a variable where it is compared. Assumes nothing.
 use Prim.Native.Nat.{ℕ, ◌+◌, ◌^◌, ◌≤◌, ◌<◌}
-use mathlib.Core.Bool.{Bool, true, false, not}
+use mathlib.Core.Bool.{Bool, true, false, not, ◌&&◌}
 use mathlib.Core.Path.{◌≡◌, refl, sym, ap, subst, ◌∙◌}
 use mathlib.Core.List.{List, [], ◌∷◌}
 use native.Mathlib.Omega.{arith}
@@ -9,6 +9,7 @@ use lib.ListN.{length}
 use borrow.Author.Tests.{ltb-true, ltb-false, ne_eqb, eqb-true, eqb-false}
 use Rattle.prefix_records.specs.Tiling.{Piece, first_of, past_of, Tiles}
 use Rattle.prefix_records.specs.models.Cursor.{value_of}
+use Rattle.prefix_records.proofs.AddressLaws.{same_address}
 use Rattle.prefix_records.proofs.TilingLaws.{some, tiles_le}
 use Rattle.prefix_changes.specs.Change.{Change, adding, against, changes}
 use Rattle.prefix_changes.proofs.ChangeLaws.{nested, test, old_first, new_first, both_first, changes_none, changes_few}
@@ -185,6 +186,10 @@ module _
         let t : test 128 p q ≡ true = tested s.pair ∙ ap not (ne_eqb o.number n.number d) in
         let l = one_at_least p q ps qs t in
         room_for_one writes f.pieces (length all) out₀ out h s.tally.long (omega (arith, l, s.tally.count))
+
+    -- both end at one address where its halves are the same
+    pub same_ends : {r b : Bool} → r ≡ (eqb o.end.high n.end.high && eqb o.end.low n.end.low) → r ≡ b → eqb (value_of o.end) (value_of n.end) ≡ b
+    same_ends e f = sym (e ∙ same_address o.end n.end s.pair.fore_old.end_half s.pair.fore_new.end_half) ∙ f
 
     pub count_here : length all ≤ most_changes → f.pieces ≤ most_changes
     count_here h = omega (arith, h, s.tally.count)

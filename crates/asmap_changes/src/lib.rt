@@ -43,7 +43,7 @@ fn nothing() -> Found
 {
     Found {
         pieces: 0,
-        first: Address { high: 0, low: 0 },
+        first: Address::ZERO,
     }
 }
 
@@ -156,16 +156,6 @@ fn note<R: Report>(found: Found, out: &mut [u8], o: Front, n: Front) -> Found
     add(found, place.begin)
 }
 
-// Whether two addresses are one.
-fn same(a: Address, b: Address) -> bool
-    ensures { result ≡ eqb (value_of a) (value_of b) }
-{
-    if a.high == b.high {
-        return a.low == b.low;
-    }
-    false
-}
-
 // From the foremost pieces of both listings to their ends. Of two that overlap the one with the longer prefix ends first, or both end at once.
 fn merge<R: Report>(
     old: &[u8],
@@ -184,7 +174,7 @@ fn merge<R: Report>(
     let mut n = first_new;
     loop {
         found = note::<R>(found, out, o, n);
-        if same(o.end, n.end) {
+        if o.end == n.end {
             let Some(next_old) = next_front(old, o.end, o.spot, old_stack) else {
                 return found;
             };
@@ -214,12 +204,11 @@ pub fn put_changes<R: Report>(old: &[u8], new: &[u8], out: &mut [u8]) -> Found
 {
     let mut old_stack = Stack::new();
     let mut new_stack = Stack::new();
-    let zero = Address { high: 0, low: 0 };
     let s = asmap_list_step::start();
-    let Some(o) = next_front(old, zero, s, &mut old_stack) else {
+    let Some(o) = next_front(old, Address::ZERO, s, &mut old_stack) else {
         return nothing();
     };
-    let Some(n) = next_front(new, zero, s, &mut new_stack) else {
+    let Some(n) = next_front(new, Address::ZERO, s, &mut new_stack) else {
         return nothing();
     };
     merge::<R>(old, new, out, o, n, &mut old_stack, &mut new_stack)

@@ -26,7 +26,7 @@ fn put_listing(map: &[u8], count: usize, out: &mut [u8])
 {
     let mut stack = Stack::new();
     let mut s = asmap_list_step::start();
-    let mut a = Address { high: 0, low: 0 };
+    let mut a = Address::ZERO;
     for k in 0..count {
         let Some((length, number, next)) = asmap_list_step::next_piece(map, s, &mut stack) else {
             return;
