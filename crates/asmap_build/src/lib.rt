@@ -26,14 +26,14 @@ const MAX_BITS: usize = 8 * MAX_MAP_BYTES;
 
 // One pass over the tree of the addresses of 128 bits, from its end to its start: how many bits the map has, none where it is over the limit. What
 // is done with each instruction, the step says: `Counts` leaves the output as it is; `Writes` writes the bits, of which there are `total`.
-fn pass<S: Step>(records: &[u8], given: u32, out: &mut [u8], total: usize) -> Option<usize>
-    requires { Rising 128 records.now × Number given × WriteReady S.writes total (tree_bits records.now given 128) out.old }
-    ensures { Sized (tree_bits records.now given 128) result
-        × Filled S.writes (tree_bits records.now given 128) out.old out.new }
+fn pass<S: Step>(prefixes: Prefixes, out: &mut [u8], total: usize) -> Option<usize>
+    requires { WriteReady S.writes total (tree_bits prefixes.records.now prefixes.given 128) out.old }
+    ensures { Sized (tree_bits prefixes.entry.records.now prefixes.entry.given 128) result
+        × Filled S.writes (tree_bits prefixes.entry.records.now prefixes.entry.given 128) out.old out.new }
 {
     let mut starts = [0usize; 129];
-    let mut run = prefix_runs::last_run(records, given);
-    let mut first = Address { high: 0, low: 0 };
+    let mut run = prefixes.last_run();
+    let mut first = Address::ZERO;
     let mut depth: usize = 0;
     let mut todo: usize = 1;
     let mut front = Front {
@@ -78,14 +78,14 @@ fn pass<S: Step>(records: &[u8], given: u32, out: &mut [u8], total: usize) -> Op
 fn build_listed(prefixes: Prefixes, out: &mut [u8]) -> Result<usize, Refusal>
     ensures { Hands (build_as (tree_bits prefixes.entry.records.now prefixes.entry.given 128) Listed) out.old out.new result }
 {
-    let Some(total) = pass::<Counts>(records, given, out, 0) else {
+    let Some(total) = pass::<Counts>(prefixes, out, 0) else {
         return Err(Refusal::Map(Fault::MapTooLong));
     };
     let bytes = total.div_ceil(8);
     if out.len() < bytes {
         return Err(Refusal::OutputTooShort);
     }
-    pass::<Writes>(records, given, out, total);
+    pass::<Writes>(prefixes, out, total);
     Ok(bytes)
 }
 

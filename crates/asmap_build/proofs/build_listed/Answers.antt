@@ -21,7 +21,7 @@ returns-then-out-bytes c =
     let k = c.in-Some.ensures.0 in
     let l = ap length (c.in-Some.ensures.1.idle refl) in
     unwritten c.in-Some.ensures.1
-    (hands_no_room (tree_bits c.args.records.now c.args.given 128) c.args.out.now c.div_ceil-bytes.result k.1 (omega (arith, k.0, c.div_ceil-bytes.ensures)) (omega (arith, c.if-out-bytes.true, l)))
+    (hands_no_room (tree_bits c.args.prefixes.records.now c.args.prefixes.given 128) c.args.out.now c.div_ceil-bytes.result k.1 (omega (arith, k.0, c.div_ceil-bytes.ensures)) (omega (arith, c.if-out-bytes.true, l)))
 
 pub returns : goal.returns
 returns c =
