@@ -9,6 +9,7 @@
 
 ghost use Rattle.std.specs.Prelude.{◌≤◌};
 ghost use Rattle.prefix_lists.specs.Judged.{Listed};
+ghost use Rattle.prefix_lists.specs.models.Listed.{Number};
 ghost use Rattle.asmap_records.specs.Output.{Hands};
 ghost use Rattle.asmap_build.specs.Build.{tree_bits, build_as, build_of, build_at};
 ghost use Rattle.asmap_build.specs.Promise.{WritesMap};
@@ -27,7 +28,7 @@ const MAX_BITS: usize = 8 * MAX_MAP_BYTES;
 // One pass over the tree of the addresses of 128 bits, from its end to its start: how many bits the map has, none where it is over the limit. What
 // is done with each instruction, the step says: `Counts` leaves the output as it is; `Writes` writes the bits, of which there are `total`.
 fn pass<S: Step>(prefixes: Prefixes, out: &mut [u8], total: usize) -> Option<usize>
-    requires { WriteReady S.writes total (tree_bits prefixes.records.now prefixes.given 128) out.old }
+    requires { Number prefixes.given × WriteReady S.writes total (tree_bits prefixes.records.now prefixes.given 128) out.old }
     ensures { Sized (tree_bits prefixes.entry.records.now prefixes.entry.given 128) result
         × Filled S.writes (tree_bits prefixes.entry.records.now prefixes.entry.given 128) out.old out.new }
 {
@@ -76,6 +77,7 @@ fn pass<S: Step>(prefixes: Prefixes, out: &mut [u8], total: usize) -> Option<usi
 
 // The map of a list that is not refused, counted and then written.
 fn build_listed(prefixes: Prefixes, out: &mut [u8]) -> Result<usize, Refusal>
+    requires { Number prefixes.given }
     ensures { Hands (build_as (tree_bits prefixes.entry.records.now prefixes.entry.given 128) Listed) out.old out.new result }
 {
     let Some(total) = pass::<Counts>(prefixes, out, 0) else {

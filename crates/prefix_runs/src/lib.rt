@@ -5,19 +5,18 @@
 
 ghost use Rattle.std.specs.Prelude.{◌≡◌, ◌^◌, ◌≤◌, ◌<◌};
 ghost use Rattle.prefix_records.specs.models.Cursor.{value_of};
-ghost use Rattle.prefix_lists.specs.models.Listed.{Number, Rising};
+ghost use Rattle.prefix_lists.specs.models.Listed.{Rising};
 ghost use Rattle.prefix_runs.specs.models.Runs.{Cut, RunAt, numbers, RunBelow};
 ghost use Rattle.prefix_runs.specs.models.Pieces.{top, Joined};
 
 use prefix_records::Address;
 
-// A list that may be built from: records of prefixes that rise and do not overlap, and the number of all other addresses.
+// A list of prefixes: records that rise and do not overlap, and the number of all other addresses.
 #[derive(Clone, Copy)]
 pub struct Prefixes<'a> {
     pub records: &'a [u8],
     pub given: u32,
     pub ghost rising: { Rising 128 records.now },
-    pub ghost number: { Number given },
 }
 
 // A run of addresses with one number: where it starts, its number, and how many of the list's prefixes lie below it.

@@ -5,12 +5,12 @@ use Rattle.prefix_lists.proofs.ListLaws.{judged_rising, rising_wider}
 use Rattle.asmap_build.proofs.CallLaws.{build_refused, build_listed_lem}
 use Rattle.asmap_build.proofs.build_over.Goals as goal
 
-pub invariant_of-build_listed-clause-rising : goal.invariant_of-build_listed-clause-rising
-invariant_of-build_listed-clause-rising c =
-    rising_wider c.requires (judged_rising c.args.bits c.args.records.now c.args.given (λ i. omega (arith, c.type_inv.records i)) (sym c.judge_list.ensures ∙ c.in_ok-judge_list.was)).0
+pub invariant_of-build_listed : goal.invariant_of-build_listed
+invariant_of-build_listed c =
+    record { rising = rising_wider c.requires (judged_rising c.args.bits c.args.records.now c.args.given (λ i. omega (arith, c.type_inv.records i)) (sym c.judge_list.ensures ∙ c.in_ok-judge_list.was)).0 }
 
-pub invariant_of-build_listed-clause-number : goal.invariant_of-build_listed-clause-number
-invariant_of-build_listed-clause-number c =
+pub build_listed-requires : goal.build_listed-requires
+build_listed-requires c =
     (judged_rising c.args.bits c.args.records.now c.args.given (λ i. omega (arith, c.type_inv.records i)) (sym c.judge_list.ensures ∙ c.in_ok-judge_list.was)).1
 
 pub returns-in_err-judge_list : goal.returns-in_err-judge_list

@@ -36,63 +36,63 @@ pub loop-depth-init : goal.loop-depth-init
 loop-depth-init g c =
     let n : c.div_ceil.result ≡ (c.args.total + 7) / 8 = omega (arith, c.div_ceil.ensures) in
     rw n (starting (F c.args.prefixes.records.now c.args.prefixes.given) (K c.args.prefixes.records.now) 128 g.S.Step.writes c.args.total c.args.out.now
-    (replicate 129 0) c.last_run-run.result refl (zeros 129) c.last_run-run.ensures.0 c.last_run-run.ensures.1 c.requires)
+    (replicate 129 0) c.last_run-run.result refl (zeros 129) c.last_run-run.ensures.0 c.last_run-run.ensures.1 c.requires.1)
 
 pub one_half-first-requires : goal.one_half-first-requires
 one_half-first-requires g c =
-    turn_deep (F c.args.prefixes.records.now c.args.prefixes.given) (K c.args.prefixes.records.now) 128 small (numbers c.args.prefixes.records.now c.args.prefixes.given c.args.prefixes.rising c.args.prefixes.number) c.loop-depth.invariant
+    turn_deep (F c.args.prefixes.records.now c.args.prefixes.given) (K c.args.prefixes.records.now) 128 small (numbers c.args.prefixes.records.now c.args.prefixes.given c.args.prefixes.rising c.requires.0) c.loop-depth.invariant
     c.in-Descends.ensures.0 c.in-Descends.ensures.1
 
 pub loop-depth-smaller-in-Descends : goal.loop-depth-smaller-in-Descends
 loop-depth-smaller-in-Descends g c =
-    less-down (F c.args.prefixes.records.now c.args.prefixes.given) (K c.args.prefixes.records.now) 128 small (numbers c.args.prefixes.records.now c.args.prefixes.given c.args.prefixes.rising c.args.prefixes.number) c.loop-depth.invariant
+    less-down (F c.args.prefixes.records.now c.args.prefixes.given) (K c.args.prefixes.records.now) 128 small (numbers c.args.prefixes.records.now c.args.prefixes.given c.args.prefixes.rising c.requires.0) c.loop-depth.invariant
     c.in-Descends.ensures.0 c.in-Descends.ensures.1 (value_of c.one_half-first.result) (c.one_half-first.ensures ∙ lower c.loop-depth.depth (value_of c.loop-depth.first))
 
 pub loop-depth-preserved-in-Descends : goal.loop-depth-preserved-in-Descends
 loop-depth-preserved-in-Descends g c =
-    turn-down (F c.args.prefixes.records.now c.args.prefixes.given) (K c.args.prefixes.records.now) 128 small (numbers c.args.prefixes.records.now c.args.prefixes.given c.args.prefixes.rising c.args.prefixes.number) c.loop-depth.invariant
+    turn-down (F c.args.prefixes.records.now c.args.prefixes.given) (K c.args.prefixes.records.now) 128 small (numbers c.args.prefixes.records.now c.args.prefixes.given c.args.prefixes.rising c.requires.0) c.loop-depth.invariant
     c.in-Descends.ensures.0 c.in-Descends.ensures.1 (value_of c.one_half-first.result) (c.one_half-first.ensures ∙ lower c.loop-depth.depth (value_of c.loop-depth.first))
 
 pub put_before-front-requires : goal.put_before-front-requires
 put_before-front-requires g c =
-    return_ready (F c.args.prefixes.records.now c.args.prefixes.given) (K c.args.prefixes.records.now) 128 small (numbers c.args.prefixes.records.now c.args.prefixes.given c.args.prefixes.rising c.args.prefixes.number) c.loop-depth.invariant
+    return_ready (F c.args.prefixes.records.now c.args.prefixes.given) (K c.args.prefixes.records.now) 128 small (numbers c.args.prefixes.records.now c.args.prefixes.given c.args.prefixes.rising c.requires.0) c.loop-depth.invariant
     c.in-Returns.ensures.0 c.in-Returns.ensures.1
 
 pub returns-then-front-gt-MAX_BITS : goal.returns-then-front-gt-MAX_BITS
 returns-then-front-gt-MAX_BITS g c =
-    let n = numbers c.args.prefixes.records.now c.args.prefixes.given c.args.prefixes.rising c.args.prefixes.number in
+    let n = numbers c.args.prefixes.records.now c.args.prefixes.given c.args.prefixes.rising c.requires.0 in
     let o = over-return (F c.args.prefixes.records.now c.args.prefixes.given) (K c.args.prefixes.records.now) 128 small n c.loop-depth.invariant
     c.in-Returns.ensures.0 c.in-Returns.ensures.1 c.put_before-front.ensures c.if-front-gt-MAX_BITS.true in
-    (o, over_filled (F c.args.prefixes.records.now c.args.prefixes.given) (K c.args.prefixes.records.now) 128 small n c.loop-depth.invariant c.requires o c.put_before-front.ensures.idle)
+    (o, over_filled (F c.args.prefixes.records.now c.args.prefixes.given) (K c.args.prefixes.records.now) 128 small n c.loop-depth.invariant c.requires.1 o c.put_before-front.ensures.idle)
 
 pub loop-depth-preserved-in-Returns : goal.loop-depth-preserved-in-Returns
 loop-depth-preserved-in-Returns g c =
-    turn-return (F c.args.prefixes.records.now c.args.prefixes.given) (K c.args.prefixes.records.now) 128 small (numbers c.args.prefixes.records.now c.args.prefixes.given c.args.prefixes.rising c.args.prefixes.number) c.loop-depth.invariant
+    turn-return (F c.args.prefixes.records.now c.args.prefixes.given) (K c.args.prefixes.records.now) 128 small (numbers c.args.prefixes.records.now c.args.prefixes.given c.args.prefixes.rising c.requires.0) c.loop-depth.invariant
     c.in-Returns.ensures.0 c.in-Returns.ensures.1 c.put_before-front.ensures (omega (arith, c.if-front-gt-MAX_BITS.false))
 
 pub put_before-front-requires-in-Closes : goal.put_before-front-requires-in-Closes
 put_before-front-requires-in-Closes g c =
-    close_ready (F c.args.prefixes.records.now c.args.prefixes.given) (K c.args.prefixes.records.now) 128 small (numbers c.args.prefixes.records.now c.args.prefixes.given c.args.prefixes.rising c.args.prefixes.number) c.loop-depth.invariant
+    close_ready (F c.args.prefixes.records.now c.args.prefixes.given) (K c.args.prefixes.records.now) 128 small (numbers c.args.prefixes.records.now c.args.prefixes.given c.args.prefixes.rising c.requires.0) c.loop-depth.invariant
     c.in-Closes.ensures.0 (omega (arith, c.in-Closes.ensures.0, c.loop-depth-test.true)) c.in-Closes.ensures.1
 
 pub returns-then-front-gt-MAX_BITS-2 : goal.returns-then-front-gt-MAX_BITS-2
 returns-then-front-gt-MAX_BITS-2 g c =
-    let n = numbers c.args.prefixes.records.now c.args.prefixes.given c.args.prefixes.rising c.args.prefixes.number in
+    let n = numbers c.args.prefixes.records.now c.args.prefixes.given c.args.prefixes.rising c.requires.0 in
     let o = over_close (F c.args.prefixes.records.now c.args.prefixes.given) (K c.args.prefixes.records.now) 128 small n c.loop-depth.invariant
     c.in-Closes.ensures.0 (omega (arith, c.in-Closes.ensures.0, c.loop-depth-test.true)) c.in-Closes.ensures.1 c.put_before-front-in-Closes.ensures c.if-front-gt-MAX_BITS-2.true in
-    (o, over_filled (F c.args.prefixes.records.now c.args.prefixes.given) (K c.args.prefixes.records.now) 128 small n c.loop-depth.invariant c.requires o c.put_before-front-in-Closes.ensures.idle)
+    (o, over_filled (F c.args.prefixes.records.now c.args.prefixes.given) (K c.args.prefixes.records.now) 128 small n c.loop-depth.invariant c.requires.1 o c.put_before-front-in-Closes.ensures.idle)
 
 pub loop-depth-preserved-in-Closes : goal.loop-depth-preserved-in-Closes
 loop-depth-preserved-in-Closes g c =
-    turn_close (F c.args.prefixes.records.now c.args.prefixes.given) (K c.args.prefixes.records.now) 128 small (numbers c.args.prefixes.records.now c.args.prefixes.given c.args.prefixes.rising c.args.prefixes.number) c.loop-depth.invariant
+    turn_close (F c.args.prefixes.records.now c.args.prefixes.given) (K c.args.prefixes.records.now) 128 small (numbers c.args.prefixes.records.now c.args.prefixes.given c.args.prefixes.rising c.requires.0) c.loop-depth.invariant
     c.in-Closes.ensures.0 (omega (arith, c.in-Closes.ensures.0, c.loop-depth-test.true)) c.in-Closes.ensures.1 c.put_before-front-in-Closes.ensures (omega (arith, c.if-front-gt-MAX_BITS-2.false))
 
 pub loop-depth-preserved : goal.loop-depth-preserved
 loop-depth-preserved g c =
-    turn_cross (F c.args.prefixes.records.now c.args.prefixes.given) (K c.args.prefixes.records.now) 128 small (numbers c.args.prefixes.records.now c.args.prefixes.given c.args.prefixes.rising c.args.prefixes.number) c.loop-depth.invariant
+    turn_cross (F c.args.prefixes.records.now c.args.prefixes.given) (K c.args.prefixes.records.now) 128 small (numbers c.args.prefixes.records.now c.args.prefixes.given c.args.prefixes.rising c.requires.0) c.loop-depth.invariant
     c.in-Crosses.ensures.0 (omega (arith, c.in-Crosses.ensures.0, c.loop-depth-test.true)) c.in-Crosses.ensures.1 c.run_before-run.ensures.0 c.run_before-run.ensures.1
     (value_of c.zero_half-first.result) c.zero_half-first.ensures
 
 pub returns : goal.returns
 returns g c =
-    turn_end (F c.args.prefixes.records.now c.args.prefixes.given) (K c.args.prefixes.records.now) 128 small (numbers c.args.prefixes.records.now c.args.prefixes.given c.args.prefixes.rising c.args.prefixes.number) c.loop-depth.invariant (omega (arith, c.loop-depth-test.false))
+    turn_end (F c.args.prefixes.records.now c.args.prefixes.given) (K c.args.prefixes.records.now) 128 small (numbers c.args.prefixes.records.now c.args.prefixes.given c.args.prefixes.rising c.requires.0) c.loop-depth.invariant (omega (arith, c.loop-depth-test.false))
