@@ -6,7 +6,7 @@
 // links: these lead to all used groups that share the mark, and to no other.
 #![tactic(auto)]
 
-ghost use Rattle.std.specs.Prelude.{◌≡◌, ◌++◌, ◌+◌, ◌%◌, ◌≤◌, ◌<◌, [], length, take, get_or, set};
+ghost use Rattle.std.specs.Prelude.{◌≡◌, ◌++◌, ◌+◌, ◌%◌, ◌≤◌, ◌<◌, [], length, replicate, take, get_or, set};
 ghost use Rattle.group_lists.specs.Groups.{has};
 ghost use Rattle.free_groups.specs.Free.{free};
 ghost use Rattle.free_groups.specs.models.Marks.{Put, Linked};
@@ -30,7 +30,9 @@ pub struct Marks {
 impl Marks {
     // No group is marked.
     pub fn none() -> Marks
-        ensures { Linked [] result.marks result.links }
+        ensures unmarked { result.marks ≡ replicate 4096 0 }
+        ensures room { length result.links ≡ 8192 }
+        ensures linked { Linked [] result.marks result.links }
     {
         Marks {
             marks: [0; 4096],
@@ -74,7 +76,7 @@ impl Marks {
     // Marks the occupied groups from a place on, one by one.
     fn mark_from(&mut self, occupied: &[u64], from: usize)
         requires { (from ≤ length occupied.now) × (length occupied.now ≤ 4096) × Linked (take from occupied.now) self.old.marks self.old.links }
-        ensures { Linked occupied.now self.new.marks self.new.links }
+        ensures { (Linked occupied.now self.new.marks self.new.links) × (length self.new.links ≡ 8192) }
     {
         for i in from..occupied.len() {
             self.mark(occupied[i], i);
@@ -84,7 +86,7 @@ impl Marks {
     // Marks the occupied groups.
     pub fn mark_groups(&mut self, occupied: &[u64])
         requires { Linked [] self.old.marks self.old.links × (length occupied.now ≤ 4096) }
-        ensures { Linked occupied.now self.new.marks self.new.links }
+        ensures { (Linked occupied.now self.new.marks self.new.links) × (length self.new.links ≡ 8192) }
     {
         for turn in 0..occupied.len() / 4 {
             self.mark_four(occupied, 4 * turn);

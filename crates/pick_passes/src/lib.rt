@@ -10,6 +10,7 @@ ghost use Rattle.pick_passes.specs.models.Places.{Places};
 ghost use Rattle.pick_passes.specs.models.Ready.{Ready};
 ghost use Rattle.pick_passes.specs.models.Passed.{PassedFirst, Filled};
 
+use free_groups::Marks;
 use netgroup::Grouping;
 use peer_lists::candidate_at;
 
@@ -39,14 +40,13 @@ fn is_picked(candidates: &[u8], i: usize, picks: &[u16]) -> bool
 fn first_pass(
     candidates: &[u8],
     occupied: &[u64],
-    marks: &mut [u16],
-    links: &mut [u16],
+    marks: &mut Marks,
     max: usize,
     grouping: Grouping<'_>,
     picks: &mut [u16],
     groups: &mut [u64],
 ) -> First
-    requires { (Ready (numbering grouping) candidates.now occupied.now max picks.old groups.old) × (Linked occupied.now marks.old links.old) × (length occupied.now + 4096 ≤ length links.old) }
+    requires { (Ready (numbering grouping) candidates.now occupied.now max picks.old groups.old) × (Linked occupied.now marks.old.marks marks.old.links) × (length marks.old.links ≡ 8192) }
     ensures { PassedFirst (numbering grouping.entry) (candidates_of candidates.now) occupied.now max picks.old groups.old result picks.new groups.new }
 {
     let n = candidates.len() / 20;
@@ -63,8 +63,8 @@ fn first_pass(
         let found = netgroup::group_of(candidate_at(candidates, i), grouping);
         let group = found.group;
         instructions += found.count as u64;
-        if free_groups::is_free(group, occupied, &groups[..taken], marks, links) {
-            free_groups::mark(group, occupied.len() + taken, marks, links);
+        if marks.is_free(group, occupied, &groups[..taken]) {
+            marks.mark(group, occupied.len() + taken);
             picks[taken] = i as u16;
             groups[taken] = group;
             taken += 1;
@@ -89,11 +89,10 @@ pub fn marked_pass(
     requires { Ready (numbering grouping) candidates.now occupied.now max picks.old groups.old }
     ensures { PassedFirst (numbering grouping.entry) (candidates_of candidates.now) occupied.now max picks.old groups.old result picks.new groups.new }
 {
-    let mut marks = free_groups::no_marks();
-    let mut links = free_groups::no_links();
-    free_groups::mark_groups(occupied, &mut marks, &mut links);
+    let mut marks = Marks::none();
+    marks.mark_groups(occupied);
     first_pass(
-        candidates, occupied, &mut marks, &mut links, max, grouping, picks, groups,
+        candidates, occupied, &mut marks, max, grouping, picks, groups,
     )
 }
 

@@ -27,17 +27,17 @@ loop-i-preserved c =
     let in_counts : l.i < length (counts_of n all) = omega (arith, length_counts n all) in
     let room_picks : l.taken < length l.picks = omega (arith, l.invariant.2.few, l.invariant.2.long_picks) in
     let room_groups : l.taken < length l.groups = omega (arith, l.invariant.2.few, l.invariant.2.long_groups) in
-    let room_links : length a.occupied.now + l.taken < length l.links = omega (arith, l.invariant.2.few, l.invariant.3, c.requires.2) in
+    let room_links : length a.occupied.now + l.taken < length l.marks.links = omega (arith, l.invariant.2.few, l.invariant.3) in
     elim c.if-is_free.branch [
       | then-is_free w ↦
-          let s = linked-taken a.occupied.now l.groups l.marks l.links _ _ l.taken r.group room_groups room_links l.invariant.4 w.mark.ensures in (
+          let s = linked-taken a.occupied.now l.groups l.marks.marks l.marks.links _ _ l.taken r.group room_groups room_links l.invariant.4 w.mark.ensures in (
             omega arith,
             refl,
             rw (w.picks-is, w.groups-is, w.taken-is)
                 (passing_take a.occupied.now a.max (groups_of n all) (counts_of n all) a.picks.now a.groups.now l.picks l.groups l.taken l.instructions l.i r.group r.count
                 l.invariant.2 in_groups in_counts (omega arith) same_group same_count (omega arith) room_picks room_groups (sym w.if-is_free.true ∙ c.is_free.ensures)),
-            rw w.links-is (s.0 ∙ l.invariant.3),
-            rw (w.marks-is, w.links-is, w.groups-is, w.taken-is) s.1,
+            rw w.marks-is (s.0 ∙ l.invariant.3),
+            rw (w.marks-is, w.groups-is, w.taken-is) s.1,
           )
       | else-is_free w ↦ (
         omega arith,
@@ -45,8 +45,8 @@ loop-i-preserved c =
         rw (w.picks-is, w.groups-is, w.taken-is)
             (passing_over a.occupied.now a.max (groups_of n all) (counts_of n all) a.picks.now a.groups.now l.picks l.groups l.taken l.instructions l.i r.group r.count
             l.invariant.2 in_groups in_counts (omega arith) same_group same_count (omega arith) (sym w.if-is_free.false ∙ c.is_free.ensures)),
-        rw w.links-is l.invariant.3,
-        rw (w.marks-is, w.links-is, w.groups-is, w.taken-is) l.invariant.4,
+        rw w.marks-is l.invariant.3,
+        rw (w.marks-is, w.groups-is, w.taken-is) l.invariant.4,
       )
     ]
 

@@ -13,5 +13,5 @@ invariant-loop-i l =
     × (l.n ≡ length l.candidates / 20)
     × (Passing l.occupied l.max (groups_of (numbering l.grouping) (candidates_of l.candidates)) (counts_of (numbering l.grouping) (candidates_of l.candidates))
     l.fn.picks l.fn.groups l.picks l.groups l.taken l.instructions l.i)
-    × (length l.links ≡ length l.fn.links)
-    × (Linked (l.occupied ++ take l.taken l.groups) l.marks l.links)
+    × (length l.marks.links ≡ 8192)
+    × (Linked (l.occupied ++ take l.taken l.groups) l.marks.marks l.marks.links)

@@ -2,5 +2,5 @@
 use Rattle.free_groups.proofs.Marking.{linked_none}
 use Rattle.free_groups.proofs.Marks.none.Goals as goal
 
-pub returns : goal.returns
-returns c = linked_none _
+pub returns-clause-linked : goal.returns-clause-linked
+returns-clause-linked c = linked_none _
