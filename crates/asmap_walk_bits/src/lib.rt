@@ -96,9 +96,7 @@ pub fn walk_bits(map: &[u8], address: &[u8], width: u8) -> Ending
                 // The bits equal at its front are passed at once: the loop meets the first that differs, if one does.
                 let front = asmap_address::equal_front(address, walker.used, operand, length);
                 walker.used += front;
-                let mut left = length - front;
-                while 0 < left {
-                    left -= 1;
+                for left in (0..length - front).rev() {
                     if asmap_address::address_bit(address, walker.used)
                         != asmap_address::bit_of(operand, left)
                     {

@@ -9,9 +9,6 @@ invariant-loop-left l =
     Comparing l.address l.width l.operand (l.initial.walker.used - l.front) l.walker.used l.left
     × ((l.walker.at ≡ l.initial.walker.at) × (l.walker.width ≡ l.initial.walker.width) × (l.walker.default ≡ l.initial.walker.default))
 
-abbrev pub decreases-loop-left : goal.decreases-loop-left
-decreases-loop-left l = l.left
-
 abbrev pub invariant-walk : goal.invariant-walk
 invariant-walk l = Walking l.map l.address l.width l.walker.at l.walker.used l.walker.default l.count × (l.walker.width ≡ l.width)
 
