@@ -99,8 +99,8 @@ pub fn decode_instruction(map: &[u8], at: usize) -> Result<Instruction, Fault>
         return Err(Fault::CutOperand);
     };
     Ok(Instruction {
-        opcode: opcode,
-        operand: operand,
+        opcode,
+        operand,
         place: at,
         size: end - at,
     })

@@ -63,8 +63,5 @@ pub fn bits_left(map: &[u8], at: usize) -> usize
     if MAX_MAP_BYTES < map.len() {
         return 0;
     }
-    if 8 * map.len() <= at {
-        return 0;
-    }
-    8 * map.len() - at
+    (8 * map.len()).saturating_sub(at)
 }

@@ -70,7 +70,7 @@ impl<'a> BitReader<'a> {
     {
         let got = decode_item(self.map, self.at, item);
         Read {
-            got: got,
+            got,
             reader: BitReader {
                 map: self.map,
                 at: place_after(self.at, got),
