@@ -173,11 +173,9 @@ pub fn operand_in(w: u64, opcode: u32, at: usize, end: usize) -> Option<Code>
     requires { at < 2 ^ 34 }
     ensures { result ≡ row_in (operand_row opcode) at end w }
 {
-    if opcode == asmap_program::JUMP {
-        return jump_in(w, at, end);
+    match opcode {
+        asmap_program::JUMP => jump_in(w, at, end),
+        asmap_program::MATCH => match_in(w, at, end),
+        _ => asn_in(w, at, end),
     }
-    if opcode == asmap_program::MATCH {
-        return match_in(w, at, end);
-    }
-    asn_in(w, at, end)
 }
