@@ -2,7 +2,9 @@
 -- Assumes nothing.
 use Prim.Native.Nat.{ℕ, ◌+◌, ◌/◌, ◌%◌, min}
 use mathlib.Core.Bool.{Bool, true, false, not, cond}
-use mathlib.Core.List.{List, []}
+use mathlib.Core.Path.{◌≡◌}
+use mathlib.Core.List.{List, [], ◌∷◌}
+use Rattle.answer_outcome.specs.Outcome.{handed, Hands}
 use lib.Dec.{eqb, ltb}
 use lib.ListN.{length}
 use Rattle.asmap_program.specs.Map.{limit}
@@ -22,7 +24,7 @@ use Rattle.spread_page.specs.Page.{page_unless, page_call}
 use Rattle.answer_maps.specs.Maps.{map_checked}
 use Rattle.answer_bytes.specs.Bytes.{byte_count}
 use Rattle.answer_groups.specs.Groups.{group_found, scan_made, pick_made}
-use Rattle.answers.proofs.Handing.{refusal_some, Counted, Refuses}
+use Rattle.answers.proofs.Handing.{refusal_some, Counted, Refuses, hands}
 use Rattle.answers.proofs.NeverZeroMaps.{map-numbers, Makes, bytes-numbers}
 use Rattle.asmap_program.specs.Verdict.{Verdict}
 use Rattle.group_lists.specs.Scanned.{Hit, Missed}
@@ -41,10 +43,16 @@ unfolding Counted group_found
 group_found_lem (Ok g) = tt
 group_found_lem (Err e) = refusal_some e
 
+pub group_handed : {x y : Result ℕ Refusal} {r : ℕ} {lent left : List ℕ} → x ≡ y → r ∷ left ≡ handed (group_found x) lent → Hands (group_found y) r lent left
+group_handed q e = hands group_found q group_found_lem e
+
 pub scan_made_lem : (x : Result Scan Refusal) → Counted (scan_made x)
 unfolding Counted scan_made
 scan_made_lem (Ok scan) = tt
 scan_made_lem (Err e) = refusal_some e
+
+pub scan_handed : {x y : Result Scan Refusal} {r : ℕ} {lent left : List ℕ} → x ≡ y → r ∷ left ≡ handed (scan_made x) lent → Hands (scan_made y) r lent left
+scan_handed q e = hands scan_made q scan_made_lem e
 
 pub pick_made_lem : (x : Result Totals Refusal) → Counted (pick_made x)
 unfolding Counted pick_made

@@ -8,7 +8,7 @@ use Rattle.asmap_load.specs.Load.{load_of}
 use Rattle.answer_outcome.specs.Outcome.{handed, IsDone, Hands}
 use Rattle.answer_draws.specs.Draws.{number_drawn}
 use Rattle.answer_bytes.specs.Bytes.{byte_count}
-use Rattle.answers.proofs.Handing.{refusal_some, Counted, Refuses}
+use Rattle.answers.proofs.Handing.{refusal_some, Counted, Refuses, hands}
 use Rattle.answers.proofs.NeverZeroMaps.{bytes-numbers, refused}
 use Rattle.refusals.specs.declared.Refusal.{Refusal}
 use Rattle.refusals.specs.declared.Refusal.TheVariants as refusal
@@ -23,6 +23,9 @@ pub draw_drawn : (x : Result ℕ Refusal) → Counted (number_drawn x)
 unfolding Counted number_drawn
 draw_drawn (Ok n) = tt
 draw_drawn (Err e) = refusal_some e
+
+pub draw_handed : {x y : Result ℕ Refusal} {r : ℕ} {lent left : List ℕ} → x ≡ y → r ∷ left ≡ handed (number_drawn x) lent → Hands (number_drawn y) r lent left
+draw_handed q e = hands number_drawn q draw_drawn e
 
 -- the number handed out, where a draw is done
 pub number_drawn_lem : (x : Result ℕ Refusal) {r n : ℕ} {lent : List ℕ} → Hands (number_drawn x) r lent (n ∷ []) → r ≡ 0 → x ≡ Ok n

@@ -3,7 +3,9 @@
 -- Assumes nothing.
 use Prim.Native.Nat.{ℕ, zero, suc, ◌+◌, ◌/◌}
 use mathlib.Core.Bool.{Bool, true, false}
-use mathlib.Core.List.{List}
+use mathlib.Core.Path.{◌≡◌}
+use mathlib.Core.List.{List, ◌∷◌}
+use Rattle.answer_outcome.specs.Outcome.{handed, Hands}
 use lib.Dec.{ltb}
 use lib.ListN.{length, drop}
 use Rattle.asmap_program.specs.Map.{Map}
@@ -20,7 +22,7 @@ use Rattle.asmap_changes.specs.Changes.{changes_of}
 use Rattle.asmap_compare.specs.Compare.{Comparison, Told, Refuses as Named, compared_as, comparison, records_made, compare_of, first_made, needed_with}
 use Rattle.answer_maps.specs.Maps.{map_checked, check_stopped, walk_made}
 use Rattle.answer_bytes.specs.Bytes.{byte_count}
-use Rattle.answers.proofs.Handing.{refusal_some, Counted, Refuses}
+use Rattle.answers.proofs.Handing.{refusal_some, Counted, Refuses, hands}
 use Rattle.asmap_program.specs.Verdict.{Accepted, Verdict}
 use Rattle.asmap_program.specs.declared.Accepted as struct
 use Rattle.asmap_check.specs.declared.Stop.{Stop}
@@ -38,20 +40,32 @@ unfolding Counted map_checked
 map_checked_lem (Ok got) = tt
 map_checked_lem (Err e) = refusal_some e
 
+pub check_handed : {x y : Result struct.Accepted Refusal} {r : ℕ} {lent left : List ℕ} → x ≡ y → r ∷ left ≡ handed (map_checked x) lent → Hands (map_checked y) r lent left
+check_handed q e = hands map_checked q map_checked_lem e
+
 pub check_stopped_lem : (x : Result Stop Refusal) → Counted (check_stopped x)
 unfolding Counted check_stopped
 check_stopped_lem (Ok stop) = tt
 check_stopped_lem (Err e) = refusal_some e
+
+pub stop_handed : {x y : Result Stop Refusal} {r : ℕ} {lent left : List ℕ} → x ≡ y → r ∷ left ≡ handed (check_stopped x) lent → Hands (check_stopped y) r lent left
+stop_handed q e = hands check_stopped q check_stopped_lem e
 
 pub walk_made_lem : (x : Result Ending Refusal) → Counted (walk_made x)
 unfolding Counted walk_made
 walk_made_lem (Ok ending) = tt
 walk_made_lem (Err e) = refusal_some e
 
+pub walk_handed : {x y : Result Ending Refusal} {r : ℕ} {lent left : List ℕ} → x ≡ y → r ∷ left ≡ handed (walk_made x) lent → Hands (walk_made y) r lent left
+walk_handed q e = hands walk_made q walk_made_lem e
+
 pub byte_count_lem : (x : Result ℕ Refusal) → Counted (byte_count x)
 unfolding Counted byte_count
 byte_count_lem (Ok n) = tt
 byte_count_lem (Err e) = refusal_some e
+
+pub count_handed : {x y : Result ℕ Refusal} {r : ℕ} {lent left : List ℕ} → x ≡ y → r ∷ left ≡ handed (byte_count x) lent → Hands (byte_count y) r lent left
+count_handed q e = hands byte_count q byte_count_lem e
 
 -- ---- the check. P: what is shown of its number
 

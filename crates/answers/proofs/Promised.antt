@@ -30,8 +30,8 @@ use Rattle.answer_bytes.specs.Bytes.{byte_count, Writes, Finds}
 use Rattle.answer_codes.specs.Codes.{code_read}
 use Rattle.answer_groups.specs.Groups.{group_found, totals_of, pick_made, Picks}
 use Rattle.answers.specs.Promise.{Finished, Demand3, Demand3At, CoreVerdict, CoreVerdictAt, CoreNumber, CoreNumberAt, CoreCode}
-use Rattle.answers.proofs.Handing.{refusal_some, hands}
-use Rattle.answers.proofs.NeverZeroMaps.{byte_count_lem}
+use Rattle.answers.proofs.Handing.{fault_some, refusal_some, hands}
+use Rattle.answers.proofs.NeverZeroMaps.{count_handed}
 use Rattle.answers.proofs.NeverZeroGroups.{pick_made_lem}
 use Rattle.asmap_program.specs.declared.Accepted as struct
 use Rattle.asmap_program.specs.Verdict.{Verdict}
@@ -40,7 +40,7 @@ use Rattle.netgroup_pick.specs.declared.Totals.{Totals}
 use Rattle.refusals.specs.declared.Fault.{Fault}
 use Rattle.refusals.specs.declared.Refusal.{Refusal}
 use Rattle.refusals.specs.declared.Refusal.TheVariants as refusal
-use Rattle.refusals.specs.Numbers.{refusal_number, of_map}
+use Rattle.refusals.specs.Numbers.{fault_number, refusal_number, of_map}
 use Rattle.std.specs.Prelude.{Result, Ok, Err, MatchResult, IsErrAnd}
 
 -- ---- the walk
@@ -97,22 +97,20 @@ core-number m a x r kind number count bits lent p e c d h l =
 
 -- ---- a code that was read is what Core reads
 
-read_by_core : (m : List ℕ) (at : ℕ) (x : Result Code Fault) {answer value next : ℕ} {lent : List ℕ} {r : Read}
-    → CoreReads m at x r → Hands (code_read x) answer lent (value ∷ next ∷ []) → CoreCode m at answer value next r
-unfolding handed IsDone code_read
-read_by_core m at (Found v n) {answer} {value} {next} p h l k =
-    let e = h.numbers in
+-- x: what the crate below answered
+pub core_code : (m : List ℕ) (at : ℕ) (x : Result Code Fault) {answer value next : ℕ} (lent : List ℕ) {r : Read}
+    → CoreReads m at x r → answer ∷ value ∷ next ∷ [] ≡ handed (code_read x) lent → CoreCode m at answer value next r
+unfolding handed code_read
+core_code m at (Found v n) {answer} {value} {next} lent p e l k =
     let ea : answer ≡ 0 = cc in
     let ev : v ≡ value = cc in
     let en : n ≡ next = cc in
-    let q = p l k in
-    (λ _. (q.0 ∙ ap (λ (w : ℕ). record { value = w; pos = n }) ev ∙ ap (λ (w : ℕ). record { value = value; pos = w }) en, omega (arith, q.1)), λ z. absurd (z ea))
-read_by_core m at (Err n) p h l k = (λ z. absurd (h.zero_is_done z), λ _. p l k)
-
--- x: what the crate below answered; y: what its definition says
-pub core-code : (m : List ℕ) (at : ℕ) {x y : Result Code Fault} {answer value next : ℕ} {lent : List ℕ} (r : Read)
-    → x ≡ y → CoreReads m at x r → Hands (code_read y) answer lent (value ∷ next ∷ []) → CoreCode m at answer value next r
-core-code m at {y} r e p h = read_by_core m at y (subst (λ (d : Result Code Fault). CoreReads m at d r) e p) h
+    let q = rw (ev, en) at (p l k) in
+    (λ _. q, λ z. absurd (z ea))
+core_code m at (Err f) {answer} lent p e l k =
+    let ea : answer ≡ fault_number f = cc in
+    let s = fault_some f in
+    (λ z. absurd (omega arith), λ _. p l k)
 
 -- ---- what `map_err` makes of an answer that is refused for its map
 
@@ -141,11 +139,11 @@ core-verdict_at m w x p h t = verdict_over m w x (p t) h
 -- x: what the crate below answered
 pub writes : {made : Making} {o o' : List ℕ} {x : Result ℕ Refusal} {r : ℕ} {lent left : List ℕ}
     → output.Hands made o o' x → r ∷ left ≡ handed (byte_count x) lent → Writes made o o' r lent left
-writes w e = record { hands = hands byte_count w.answer byte_count_lem e; output = w.output }
+writes w e = record { hands = count_handed w.answer e; output = w.output }
 
 pub finds : {c : Comparison} {o o' : List ℕ} {x : Result ℕ Refusal} {r : ℕ} {lent left : List ℕ}
     → compare.Finds c o o' x → r ∷ left ≡ handed (byte_count x) lent → Finds c o o' r lent left
-finds w e = record { hands = hands byte_count w.answer byte_count_lem e; output = w.output }
+finds w e = record { hands = count_handed w.answer e; output = w.output }
 
 -- ---- groups, pages and pick: where the answer is 0, what was found is in the lent numbers at exit
 
