@@ -1,4 +1,6 @@
 // Reading and writing codes and instructions (document 01, Codes).
+#![tactic(auto, using(answers::proofs::NeverZeroCodes::code_handed, answers::proofs::NeverZeroCodes::instruction_handed, answers::proofs::NeverZeroCodes::bits_handed))]
+
 ghost use Rattle.std.specs.Prelude.{◌∷◌, []};
 ghost use Rattle.asmap_codes.specs.Row.{type_row, asn_row, match_row, jump_row};
 ghost use Rattle.asmap_codes.specs.Code.{read_code};

@@ -1,4 +1,6 @@
 // The filters (document 01, Filters): 1 for yes, 0 for no.
+#![tactic(auto, using(answers::proofs::NeverZeroFilters::said_handed))]
+
 ghost use Rattle.std.specs.Prelude.{◌∷◌, []};
 ghost use Rattle.netaddr.specs.Filter.{filter_of};
 ghost use Rattle.netaddr.specs.Relay.{relay_of};

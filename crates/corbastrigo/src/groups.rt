@@ -1,6 +1,8 @@
 // Groups, the occupied scan (document 02, CR 2) and pick (document 01, Groups and pick). In each call `has_map` 0 is without a map: groups then go by prefixes, those
 // of IPv4 in a number range to themselves (document 02, CR 7), and the map is not looked at. Any other number is with it. Two calls, which take no map, keep the old numbers of
 // prefixes: the group by its prefix and the pick by old prefixes.
+#![tactic(auto, using(answers::proofs::NeverZeroGroups::group_handed, answers::proofs::NeverZeroGroups::scan_handed))]
+
 ghost use Rattle.std.specs.Prelude.{◌≡◌, ◌∷◌, [], Ok, None};
 ghost use Rattle.peer_lists.specs.Candidates.{candidates_of};
 ghost use Rattle.group_lists.specs.Scan.{scan_of};

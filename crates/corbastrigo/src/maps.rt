@@ -1,4 +1,6 @@
 // Check, walk, unpack and pack (document 01, Check, Walk, Unpack and pack); the listing (document 02, CR 1); two maps compared.
+#![tactic(auto, using(answers::proofs::Promised::writes, answers::proofs::Promised::finds, answers::proofs::NeverZeroMaps::count_handed))]
+
 ghost use Rattle.std.specs.Prelude.{◌∷◌, []};
 ghost use Rattle.asmap_check.specs.Check.{check_of, stopped_of};
 ghost use Rattle.asmap_walk.specs.Interpret.{interpret_of};

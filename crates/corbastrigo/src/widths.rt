@@ -1,6 +1,8 @@
 // The calls on maps at a width (document 02, CR 3): check, walk, unpack, listing and comparison over 32 address bits, as addresses of four bytes
 // have, or over 128. Each is its namesake in `maps` with a width, which it refuses with 18, before all else, where it is neither; at 128 both
 // answer alike. The width has four bytes: one byte would cut 288 to 32.
+#![tactic(auto, using(answers::proofs::Promised::writes, answers::proofs::Promised::finds, answers::proofs::NeverZeroMaps::count_handed, answers::proofs::NeverZeroMaps::stop_handed))]
+
 ghost use Rattle.std.specs.Prelude.{◌∷◌, []};
 ghost use Rattle.asmap_check.specs.Check.{check_at, stopped_at};
 ghost use Rattle.asmap_walk.specs.Interpret.{interpret_at};

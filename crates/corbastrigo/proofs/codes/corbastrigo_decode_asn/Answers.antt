@@ -1,14 +1,6 @@
--- What the decoder answered is handed out, and it is what Core reads (`core-code`).
-use Rattle.asmap_codes.specs.Core.{file_of}
-use Rattle.answer_codes.specs.Codes.{code_read}
-use Rattle.answers.proofs.Handing.{hands}
-use Rattle.answers.proofs.NeverZeroCodes.{code_read_lem}
-use Rattle.answers.proofs.Promised.{core-code}
+-- The code that was read is what Core reads.
+use Rattle.answers.proofs.Promised.{core_code}
 use Rattle.corbastrigo.proofs.codes.corbastrigo_decode_asn.Goals as goal
 
-pub returns : goal.returns
-returns c =
-    let a = c.args in
-    let d = c.decode_asn.ensures in
-    let h = hands code_read d.value code_read_lem c.hand_code.ensures in
-    record { hands = h; core = core-code a.map.now a.at ((file_of a.map.now).decode_asn a.at) d.value d.core h }
+pub returns-clause-core : goal.returns-clause-core
+returns-clause-core c = core_code c.args.map.now c.args.at c.decode_asn.result _ c.decode_asn.ensures.core c.hand_code.ensures

@@ -1,8 +1,6 @@
 -- What the writer answered is handed out.
-use Rattle.answer_codes.specs.Codes.{bits_written}
-use Rattle.answers.proofs.Handing.{hands}
-use Rattle.answers.proofs.NeverZeroCodes.{bits_written_lem}
+use Rattle.answers.proofs.NeverZeroCodes.{bits_handed}
 use Rattle.corbastrigo.proofs.codes.corbastrigo_encode_match.Goals as goal
 
 pub returns : goal.returns
-returns c = hands bits_written c.encode_match.ensures bits_written_lem c.hand_bits.ensures
+returns c = bits_handed c.encode_match.ensures c.hand_bits.ensures

@@ -2,9 +2,7 @@
 use mathlib.Core.Path.{◌∙◌, subst}
 use Rattle.netgroup.specs.Group.{numbering}
 use Rattle.netgroup.specs.Netgroup.{netgroup_unchecked, Whole}
-use Rattle.answer_groups.specs.Groups.{group_found}
-use Rattle.answers.proofs.Handing.{hands}
-use Rattle.answers.proofs.NeverZeroGroups.{group_found_lem}
+use Rattle.answers.proofs.NeverZeroGroups.{group_handed}
 use Rattle.answers.proofs.Promised.{found}
 use Rattle.corbastrigo.proofs.groups.corbastrigo_netgroup_unchecked.Goals as goal
 
@@ -13,5 +11,5 @@ returns c =
     let a = c.args in
     let g = c.netgroup_unchecked.ensures in
     let n = numbering c.grouping_of.result a.map.now in
-    let h = hands group_found g.value group_found_lem c.hand_group.ensures in
+    let h = group_handed g.value c.hand_group.ensures in
     rw (← c.grouping_of.ensures) record { hands = h; unaborted = λ e z. subst (Whole n a.candidate.now) (g.value ∙ found (netgroup_unchecked n a.candidate.now) h z) (g.unaborted e) }

@@ -1,10 +1,8 @@
 -- The check's verdict at a width is handed out, and it is Core's (`core-verdict_at`).
 use mathlib.Core.Path.{subst}
 use Rattle.asmap_check.specs.Check.{check_at, LikeCoreAt}
-use Rattle.answer_maps.specs.Maps.{map_checked}
-use Rattle.answers.proofs.Handing.{hands}
 use Rattle.answers.proofs.Promised.{core-verdict_at}
-use Rattle.answers.proofs.NeverZeroMaps.{map_checked_lem}
+use Rattle.answers.proofs.NeverZeroMaps.{check_handed}
 use Rattle.corbastrigo.proofs.widths.corbastrigo_sanity_check_bits.Goals as goal
 
 pub returns : goal.returns
@@ -12,5 +10,5 @@ returns c =
     let a = c.args in
     let m = a.map.now in
     let v = c.sanity_check_bits.ensures in
-    let h = hands map_checked v.value map_checked_lem c.hand_verdict.ensures in
+    let h = check_handed v.value c.hand_verdict.ensures in
     record { hands = h; core = core-verdict_at m a.width (check_at m a.width) (subst (LikeCoreAt m a.width) v.value v.core) h }

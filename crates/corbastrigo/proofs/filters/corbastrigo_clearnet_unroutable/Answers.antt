@@ -1,8 +1,0 @@
--- What the filter said is handed out.
-use Rattle.answer_filters.specs.Filters.{said}
-use Rattle.answers.proofs.Handing.{hands}
-use Rattle.answers.proofs.NeverZeroFilters.{said_lem}
-use Rattle.corbastrigo.proofs.filters.corbastrigo_clearnet_unroutable.Goals as goal
-
-pub returns : goal.returns
-returns c = hands said c.clearnet_unroutable.ensures said_lem c.hand_said.ensures
