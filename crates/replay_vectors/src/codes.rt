@@ -1,65 +1,50 @@
 // Codes and instructions, read and written, and the bit reader.
+use crate::answers::{answered, compared};
 use asmap_codes::Code;
 use asmap_encode::Word;
 use asmap_items::Item;
 use asmap_program::Instruction;
 use refusals::{Fault, Refusal};
-use replay_outcomes::{Out, Seen, compared, done, refused};
-use replay_words::{Words, byte, value, wide, word};
+use replay_outcomes::{Out, Seen};
+use replay_words::Line;
 
-fn decoded(got: Result<Code, Fault>) -> Out {
-    match got {
-        Err(refusal) => refused(refusal.number()),
-        Ok((x, next)) => done().number(x as u64, 4).number(next as u64, 8),
-    }
+fn decoded(got: Result<Code, Fault>) -> Result<Out, Refusal> {
+    let (x, next) = got?;
+    Ok(Out::done().number(x as u64, 4).number(next as u64, 8))
 }
 
 // A code of a row: 0 opcode, 1 AS number, 2 MATCH, 3 JUMP.
-fn code_at(row: u8, map: &[u8], at: usize) -> Result<Code, Fault> {
-    match row {
+pub fn read_code(line: Line) -> Seen {
+    let map = line.word(1);
+    let at = line.wide(2);
+    let got = match line.byte(0) {
         0 => asmap_decode::decode_type(map, at),
         1 => asmap_decode::decode_asn(map, at),
         2 => asmap_decode::decode_match(map, at),
-        _ => asmap_decode::decode_jump(map, at),
-    }
+        3 => asmap_decode::decode_jump(map, at),
+        _ => return Seen::Unread,
+    };
+    compared(decoded(got), line.word(3))
 }
 
-pub fn read_code(bytes: &[u8], words: Words) -> Seen {
-    let row = byte(bytes, words, 0);
-    if 3 < row {
-        return Seen::Unread;
-    }
-    let got = code_at(row, word(bytes, words, 1), wide(bytes, words, 2));
-    compared(decoded(got), word(bytes, words, 3))
+fn written(code: Word) -> Out {
+    Out::done().number(code.len as u64, 1).number(code.bits, 8)
 }
 
-fn written(got: Result<Word, Refusal>) -> Out {
-    match got {
-        Err(refusal) => refused(refusal.number()),
-        Ok(code) => done().number(code.len as u64, 1).number(code.bits, 8),
-    }
-}
-
-fn code_of(row: u8, x: u32) -> Result<Word, Refusal> {
-    match row {
+pub fn write_code(line: Line) -> Seen {
+    let x = line.value(1);
+    let got = match line.byte(0) {
         0 => asmap_encode::encode_type(x),
         1 => asmap_encode::encode_asn(x),
         2 => asmap_encode::encode_match(x),
-        _ => asmap_encode::encode_jump(x),
-    }
-}
-
-pub fn write_code(bytes: &[u8], words: Words) -> Seen {
-    let row = byte(bytes, words, 0);
-    if 3 < row {
-        return Seen::Unread;
-    }
-    let got = code_of(row, value(bytes, words, 1));
-    compared(written(got), word(bytes, words, 2))
+        3 => asmap_encode::encode_jump(x),
+        _ => return Seen::Unread,
+    };
+    compared(got.map(written), line.word(2))
 }
 
 fn found(instruction: Instruction) -> Out {
-    let codes = done()
+    let codes = Out::done()
         .number(instruction.opcode as u64, 4)
         .number(instruction.operand as u64, 4);
     codes
@@ -67,40 +52,29 @@ fn found(instruction: Instruction) -> Out {
         .number(instruction.size as u64, 8)
 }
 
-pub fn read_instruction(bytes: &[u8], words: Words) -> Seen {
-    let got = asmap_decode::decode_instruction(word(bytes, words, 0), wide(bytes, words, 1));
-    let answer = word(bytes, words, 2);
-    match got {
-        Err(fault) => compared(refused(fault.number()), answer),
-        Ok(instruction) => compared(found(instruction), answer),
-    }
+pub fn read_instruction(line: Line) -> Seen {
+    let got = asmap_decode::decode_instruction(line.word(0), line.wide(1));
+    compared(got.map(found).map_err(Refusal::Map), line.word(2))
 }
 
-pub fn write_instruction(bytes: &[u8], words: Words) -> Seen {
-    let got = asmap_encode::encode_instruction(value(bytes, words, 0), value(bytes, words, 1));
-    compared(written(got), word(bytes, words, 2))
+pub fn write_instruction(line: Line) -> Seen {
+    let got = asmap_encode::encode_instruction(line.value(0), line.value(1));
+    compared(got.map(written), line.word(2))
 }
 
 // What the reader is asked for: a code as above, or 4 for one bit.
-fn item_of(n: u8) -> Item {
-    match n {
+pub fn read_item(line: Line) -> Seen {
+    let item = match line.byte(0) {
         0 => Item::Opcode,
         1 => Item::Asn,
         2 => Item::Match,
         3 => Item::Jump,
-        _ => Item::Bit,
-    }
-}
-
-pub fn read_item(bytes: &[u8], words: Words) -> Seen {
-    let n = byte(bytes, words, 0);
-    if 4 < n {
-        return Seen::Unread;
-    }
-    let step = asmap_reader::read_at(word(bytes, words, 1), wide(bytes, words, 2), item_of(n));
-    let got = step.got;
-    let out = decoded(got)
+        4 => Item::Bit,
+        _ => return Seen::Unread,
+    };
+    let step = asmap_reader::read_at(line.word(1), line.wide(2), item);
+    let out = answered(decoded(step.got))
         .number(step.place as u64, 8)
         .number(step.left as u64, 8);
-    compared(out, word(bytes, words, 3))
+    out.compared(line.word(3))
 }

@@ -1,238 +1,193 @@
 // Groups, picks and the occupied scan.
-ghost use Rattle.std.specs.Prelude.{◌≡◌, ◌<◌, ◌≤◌, length};
+ghost use Rattle.std.specs.Prelude.{◌<◌};
 
+use crate::answers::compared;
 use group_lists::Scan;
 use netgroup::Grouping;
 use netgroup_pick::Totals;
 use refusals::Refusal;
-use replay_outcomes::{Out, Seen, and_left, compared, done, refused};
-use replay_words::{Words, byte, lengthened, number, wide, word};
+use replay_outcomes::{Out, Seen};
+use replay_words::{Line, number};
+
+// Room for the groups of a word. A word that has more cannot be read.
+const GROUPS: usize = 4100;
 
 // What groups go by: 0 without a map, 1 with one, 2 without one in the old numbering of prefixes.
-pub fn grouping_of(n: u8, map: &[u8]) -> Grouping<'_> {
+pub fn grouping_of(n: u8, map: &[u8]) -> Option<Grouping<'_>> {
     match n {
-        0 => Grouping::Prefixes,
-        1 => Grouping::Map(map),
-        _ => Grouping::OldPrefixes,
+        0 => Some(Grouping::Prefixes),
+        1 => Some(Grouping::Map(map)),
+        2 => Some(Grouping::OldPrefixes),
+        _ => None,
     }
 }
 
-fn grouped(got: Result<u64, Refusal>) -> Out {
-    match got {
-        Err(refusal) => refused(refusal.number()),
-        Ok(group) => done().number(group, 8),
-    }
+fn grouped(group: u64) -> Out {
+    Out::done().number(group, 8)
 }
 
-pub fn prefix_group(bytes: &[u8], words: Words) -> Seen {
-    let got = netgroup::prefix_group(word(bytes, words, 0));
-    compared(grouped(got), word(bytes, words, 1))
+pub fn prefix_group(line: Line) -> Seen {
+    let got = netgroup::prefix_group(line.word(0));
+    compared(got.map(grouped), line.word(1))
 }
 
-// By a map that is checked, or is not.
-fn group_by(candidate: &[u8], by: u8, map: &[u8], checked: bool) -> Result<u64, Refusal> {
-    if checked {
-        return netgroup::netgroup(candidate, grouping_of(by, map));
-    }
-    netgroup::netgroup_unchecked(candidate, grouping_of(by, map))
-}
-
-pub fn group(bytes: &[u8], words: Words, checked: bool) -> Seen {
-    let by = byte(bytes, words, 0);
-    if 2 < by {
+fn group_by<F: FnOnce(&[u8], Grouping<'_>) -> Result<u64, Refusal>>(line: Line, call: F) -> Seen
+    requires { F.IsAlwaysCallable call }
+{
+    let Some(grouping) = grouping_of(line.byte(0), line.word(2)) else {
         return Seen::Unread;
-    }
-    let got = group_by(word(bytes, words, 1), by, word(bytes, words, 2), checked);
-    compared(grouped(got), word(bytes, words, 3))
+    };
+    let got = call(line.word(1), grouping);
+    compared(got.map(grouped), line.word(3))
+}
+
+// By a map that is checked.
+pub fn group(line: Line) -> Seen {
+    group_by(line, netgroup::netgroup)
+}
+
+// By one that is not checked.
+pub fn group_unchecked(line: Line) -> Seen {
+    group_by(line, netgroup::netgroup_unchecked)
 }
 
 // ---- lists of groups
 
-// The numbers of a word, eight bytes each, and zeros after them.
-fn numbers(bytes: &[u8]) -> [u64; 4100]
-    requires { length bytes.now ≤ 32800 }
-    ensures { 4100 ≡ length result }
-{
-    let mut list = [0u64; 4100];
-    let mut i = bytes.len();
-    while 0 < i {
-        i -= 1;
-        let place = i / 8;
-        list[place] = lengthened(list[place], bytes[i]);
+// The groups of a word, eight bytes each, put in the room; none where they are no groups or have no room.
+fn groups_of<'a>(bytes: &[u8], room: &'a mut [u64]) -> Option<&'a [u64]> {
+    if bytes.len() % 8 != 0 {
+        return None;
     }
-    list
+    for (group, eight) in room.iter_mut().zip(bytes.chunks_exact(8)) {
+        *group = number(eight);
+    }
+    room.get(..bytes.len() / 8)
 }
 
 // None is found 0 with place 0, as a call from C has it.
-fn scanned(got: Result<Scan, Refusal>) -> Out {
-    match got {
-        Err(refusal) => refused(refusal.number()),
-        Ok(scan) => done()
-            .byte(scan.hit.is_some() as u8)
-            .number(scan.hit.unwrap_or(0) as u64, 8)
-            .number(scan.read as u64, 8),
-    }
+fn scanned(scan: Scan) -> Out {
+    Out::done()
+        .byte(scan.hit.is_some() as u8)
+        .number(scan.hit.unwrap_or(0) as u64, 8)
+        .number(scan.read as u64, 8)
 }
 
-pub fn scan(bytes: &[u8], words: Words) -> Seen {
-    let occupied = word(bytes, words, 1);
-    if 32800 < occupied.len() {
+pub fn scan(line: Line) -> Seen {
+    let mut room = [0u64; GROUPS];
+    let Some(occupied) = groups_of(line.word(1), &mut room) else {
         return Seen::Unread;
-    }
-    if occupied.len() % 8 != 0 {
-        return Seen::Unread;
-    }
-    let count = occupied.len() / 8;
-    let groups = numbers(occupied);
-    let got = group_lists::scan_occupied(wide(bytes, words, 0) as u64, &groups[0..count]);
-    compared(scanned(got), word(bytes, words, 2))
+    };
+    let got = group_lists::scan_occupied(line.wide(0) as u64, occupied);
+    compared(got.map(scanned), line.word(2))
 }
 
 // ---- picks
 
-// Whether the list's bytes, two for each place and as many as ours, are our places.
+// Whether the list's bytes, two for each place, are our places.
 fn same_places(places: &[u16], bytes: &[u8]) -> bool {
-    if bytes.len() / 2 < places.len() {
-        return false;
-    }
-    let mut i: usize = 0;
-    while i < places.len() {
-        if number(&bytes[2 * i..2 * i + 2]) != widened(places[i]) {
-            return false;
-        }
-        i += 1;
-    }
-    true
-}
-
-fn widened(x: u16) -> u64 {
-    x as u64
+    let pairs = bytes.chunks_exact(2);
+    places
+        .iter()
+        .zip(pairs)
+        .all(|(&place, pair)| number(pair) == place as u64)
 }
 
 // The same of groups, eight bytes for each.
 fn same_groups(groups: &[u64], bytes: &[u8]) -> bool {
-    if bytes.len() / 8 < groups.len() {
-        return false;
-    }
-    let mut i: usize = 0;
-    while i < groups.len() {
-        if number(&bytes[8 * i..8 * i + 8]) != groups[i] {
-            return false;
-        }
-        i += 1;
-    }
-    true
+    let eights = bytes.chunks_exact(8);
+    groups
+        .iter()
+        .zip(eights)
+        .all(|(&group, eight)| number(eight) == group)
 }
 
 fn totals_of(totals: Totals) -> Out {
-    let sums = done()
+    let sums = Out::done()
         .number(totals.total as u64, 8)
         .number(totals.first as u64, 8);
     sums.number(totals.examined as u64, 8)
         .number(totals.instructions, 8)
 }
 
-fn picked(got: Result<Totals, Refusal>) -> Out {
-    match got {
-        Err(refusal) => refused(refusal.number()),
-        Ok(totals) => totals_of(totals),
-    }
-}
-
-// A pick by what groups go by, and 3 more where the map is not checked. The old numbering has a call of its own.
-fn pick_by(
-    list: &[u8],
-    occupied: &[u64],
-    max: usize,
-    by: u8,
-    map: &[u8],
-    places: &mut [u16],
-    groups: &mut [u64],
-) -> Result<Totals, Refusal> {
-    let grouping = grouping_of(by % 3, map);
-    if 2 < by {
-        return netgroup_pick::select_diverse_unchecked(
-            list, occupied, max, grouping, places, groups,
-        );
-    }
-    if by == 2 {
-        return netgroup_pick::old_prefix_pick(list, occupied, max, places, groups);
-    }
-    netgroup_pick::select_diverse(list, occupied, max, grouping, places, groups)
-}
-
-fn compared_picks(
-    bytes: &[u8],
-    words: Words,
-    by: u8,
-    occupied: &[u64],
-    places: &mut [u16],
-    groups: &mut [u64],
-) -> Seen {
-    let list = word(bytes, words, 1);
-    let max = wide(bytes, words, 3);
-    let got = pick_by(
-        list,
-        occupied,
-        max,
-        by,
-        word(bytes, words, 4),
-        places,
-        groups,
-    );
-    let seen = compared(picked(got), word(bytes, words, 5));
-    let placed = and_left(seen, same_places(places, word(bytes, words, 6)));
-    and_left(placed, same_groups(groups, word(bytes, words, 7)))
-}
-
-// So many numbers of a size as the bytes of a word are, or 9999 where they are none.
-fn count_of(bytes: &[u8], size: usize) -> usize
+// How many numbers of a size the bytes of a word are; none where they are no such numbers.
+fn count_of(bytes: &[u8], size: usize) -> Option<usize>
     requires { 0 < size }
 {
     if bytes.len() % size != 0 {
-        return 9999;
+        return None;
     }
-    bytes.len() / size
+    Some(bytes.len() / size)
+}
+
+// By a map that is checked. The old numbering of prefixes has a call of its own.
+fn pick_checked(
+    list: &[u8],
+    occupied: &[u64],
+    max: usize,
+    grouping: Grouping<'_>,
+    places: &mut [u16],
+    groups: &mut [u64],
+) -> Result<Totals, Refusal> {
+    match grouping {
+        Grouping::OldPrefixes => {
+            netgroup_pick::old_prefix_pick(list, occupied, max, places, groups)
+        }
+        _ => netgroup_pick::select_diverse(list, occupied, max, grouping, places, groups),
+    }
 }
 
 // The outputs are as long as the list's; at entry they hold 999 and 888 at every place.
-fn pick_beside(bytes: &[u8], words: Words, by: u8, occupied: &[u64]) -> Seen {
+fn pick_by<
+    F: FnOnce(
+        &[u8],
+        &[u64],
+        usize,
+        Grouping<'_>,
+        &mut [u16],
+        &mut [u64],
+    ) -> Result<Totals, Refusal>,
+>(line: Line, call: F) -> Seen
+    requires { F.IsAlwaysCallable call }
+{
+    let Some(grouping) = grouping_of(line.byte(0), line.word(4)) else {
+        return Seen::Unread;
+    };
+    let mut room = [0u64; GROUPS];
+    let Some(occupied) = groups_of(line.word(2), &mut room) else {
+        return Seen::Unread;
+    };
     let mut place_room = [999u16; 4096];
     let mut group_room = [888u64; 4096];
-    let places = count_of(word(bytes, words, 6), 2);
-    let groups = count_of(word(bytes, words, 7), 8);
-    if 4096 < places {
+    let Some(placed) = count_of(line.word(6), 2) else {
         return Seen::Unread;
-    }
-    if 4096 < groups {
+    };
+    let Some(grouped) = count_of(line.word(7), 8) else {
         return Seen::Unread;
-    }
-    compared_picks(
-        bytes,
-        words,
-        by,
+    };
+    let Some(places) = place_room.get_mut(..placed) else {
+        return Seen::Unread;
+    };
+    let Some(groups) = group_room.get_mut(..grouped) else {
+        return Seen::Unread;
+    };
+    let got = call(
+        line.word(1),
         occupied,
-        &mut place_room[0..places],
-        &mut group_room[0..groups],
-    )
+        line.wide(3),
+        grouping,
+        places,
+        groups,
+    );
+    compared(got.map(totals_of), line.word(5))
+        .and_left(same_places(places, line.word(6)))
+        .and_left(same_groups(groups, line.word(7)))
 }
 
-// A pick by a map that is checked, or is not, 3.
-pub fn pick(bytes: &[u8], words: Words, unchecked: u8) -> Seen
-    requires { unchecked ≤ 3 }
-{
-    let by = byte(bytes, words, 0);
-    if 2 < by {
-        return Seen::Unread;
-    }
-    let occupied = word(bytes, words, 2);
-    if 32800 < occupied.len() {
-        return Seen::Unread;
-    }
-    if occupied.len() % 8 != 0 {
-        return Seen::Unread;
-    }
-    let count = occupied.len() / 8;
-    let taken = numbers(occupied);
-    pick_beside(bytes, words, by + unchecked, &taken[0..count])
+pub fn pick(line: Line) -> Seen {
+    pick_by(line, pick_checked)
+}
+
+// By a map that is not checked.
+pub fn pick_unchecked(line: Line) -> Seen {
+    pick_by(line, netgroup_pick::select_diverse_unchecked)
 }

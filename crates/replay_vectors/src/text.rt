@@ -1,201 +1,134 @@
-// The text of a line of the list of answers, taken apart: its words, from digits to the bytes that they stand for.
-ghost use Rattle.std.specs.Prelude.{◌+◌, ◌<◌, ◌≤◌, length};
+// The text of a line of the list of answers, taken apart: its words, from digits to the bytes that they stand for. The bytes of a line's words
+// lie one behind the other in a lent room; each part here says where those that it put end, or None where it cannot be read or has no room.
+ghost use Rattle.std.specs.Prelude.{◌+◌, ◌<◌, ◌≤◌, length, IfSome};
 
-use replay_words::{WordEnd, Words, find};
+use replay_words::{Words, find};
 
-// What a hexadecimal digit stands for, or 16 for any other byte.
-fn digit(byte: u8) -> u8
-    ensures { result ≤ 16 }
+// No word has more bytes than this, so that no number of times is larger.
+const MOST: usize = 262144;
+
+// What a hexadecimal digit stands for.
+fn digit(byte: u8) -> Option<u8>
+    ensures { IfSome result (λ x. x < 16) }
 {
     match byte {
-        b'0'..=b'9' => byte - b'0',
-        b'a'..=b'f' => byte - b'a' + 10,
-        _ => 16,
+        b'0'..=b'9' => Some(byte - b'0'),
+        b'a'..=b'f' => Some(byte - b'a' + 10),
+        _ => None,
     }
 }
 
-// What two digits stand for, or 256 where one is none.
-fn pair(high: u8, low: u8) -> u16
-    ensures { result ≤ 256 }
-{
-    let a = digit(high) as u16;
-    let b = digit(low) as u16;
-    if 15 < a {
-        return 256;
+// Puts what pairs of digits stand for from a place on: one pair at least, and no odd digit.
+fn put_bytes(text: &[u8], bytes: &mut [u8], from: usize) -> Option<usize> {
+    if text.is_empty() {
+        return None;
     }
-    if 15 < b {
-        return 256;
-    }
-    16 * a + b
-}
-
-// Puts what pairs of digits stand for from a place on.
-fn put_pairs(text: &[u8], bytes: &mut [u8], from: usize) -> WordEnd {
     let mut place = from;
-    let mut i: usize = 0;
-    while i + 1 < text.len() {
-        let byte = pair(text[i], text[i + 1]);
-        if 255 < byte {
-            return WordEnd::Unread;
-        }
-        if bytes.len() <= place {
-            return WordEnd::Unread;
-        }
-        bytes[place] = byte as u8;
+    for pair in text.chunks(2) {
+        let &[high, low] = pair else {
+            return None;
+        };
+        let byte = 16 * digit(high)? + digit(low)?;
+        *bytes.get_mut(place)? = byte;
         place += 1;
-        i += 2;
     }
-    WordEnd::At(place)
+    Some(place)
 }
 
-// The same, of one pair at least and no odd digit.
-fn put_bytes(text: &[u8], bytes: &mut [u8], from: usize) -> WordEnd {
-    if text.len() == 0 {
-        return WordEnd::Unread;
-    }
-    if text.len() % 2 != 0 {
-        return WordEnd::Unread;
-    }
-    put_pairs(text, bytes, from)
-}
-
-// A number in decimal, or 0 where it is none or has no room.
-fn decimal(text: &[u8]) -> usize {
+// A number in decimal; none that is larger than a word.
+fn decimal(text: &[u8]) -> Option<usize> {
     let mut n: usize = 0;
-    let mut i: usize = 0;
-    while i < text.len() {
-        let figure = digit(text[i]) as usize;
+    for &byte in text {
+        let figure = digit(byte)?;
         if 9 < figure {
-            return 0;
+            return None;
         }
-        n = 10 * n + figure;
-        if 262144 < n {
-            return 0;
+        n = 10 * n + figure as usize;
+        if MOST < n {
+            return None;
         }
-        i += 1;
     }
-    n
+    Some(n)
 }
 
-// A byte of a step, which is zero behind its last.
-fn step_at(step: &[u8; 32], i: usize) -> u8 {
-    if i < 32 {
-        return step[i];
-    }
-    0
-}
-
-fn sum(a: u8, b: u8, carry: u16) -> u16
-    requires { carry ≤ 1 }
-    ensures { result < 512 }
-{
-    a as u16 + b as u16 + carry
-}
-
-// Puts at a place the bytes before it, so many, with the step added: numbers of that size, little-endian.
+// Puts at a place the bytes before it, so many, with the step added: numbers of that size, little-endian. The step is zero behind its last byte.
 fn put_next(bytes: &mut [u8], at: usize, size: usize, step: &[u8; 32])
     requires { (size ≤ at) × (at + size ≤ length bytes.old) }
 {
     let mut carry: u16 = 0;
-    let mut i: usize = 0;
-    while i < size {
-        let next = sum(bytes[at + i - size], step_at(step, i), carry);
+    for i in 0..size {
+        let added = step.get(i).copied().unwrap_or(0);
+        let next = bytes[at + i - size] as u16 + added as u16 + carry;
         bytes[at + i] = (next % 256) as u8;
         carry = next / 256;
-        i += 1;
     }
 }
 
 // The bytes between two places so many times, each time with the step added.
-fn put_again(bytes: &mut [u8], from: usize, to: usize, times: usize, step: &[u8; 32]) -> WordEnd {
-    if to < from {
-        return WordEnd::Unread;
-    }
+fn put_again(
+    bytes: &mut [u8],
+    from: usize,
+    to: usize,
+    times: usize,
+    step: &[u8; 32],
+) -> Option<usize> {
+    let size = to.checked_sub(from)?;
     if bytes.len() < to {
-        return WordEnd::Unread;
+        return None;
     }
-    let size = to - from;
     let mut end = to;
-    let mut i: usize = 1;
-    while i < times {
+    for _ in 1..times {
         if bytes.len() - end < size {
-            return WordEnd::Unread;
+            return None;
         }
         put_next(bytes, end, size, step);
         end += size;
-        i += 1;
     }
-    WordEnd::At(end)
+    Some(end)
 }
 
-// The same with the step as the list has it: nothing, or pairs of digits after `+`.
-fn put_stepped(text: &[u8], bytes: &mut [u8], from: usize, to: usize, times: usize) -> WordEnd {
-    let mut step = [0u8; 32];
-    if text.len() == 0 {
-        return put_again(bytes, from, to, times, &step);
+// How often the bytes between two places stand there: a number and, after `+`, the step.
+fn put_times(text: &[u8], bytes: &mut [u8], from: usize, to: usize) -> Option<usize> {
+    let plus = find(text, 0, b'+');
+    let times = decimal(&text[..plus])?;
+    if times == 0 {
+        return None;
     }
-    let end = put_bytes(&text[1..], &mut step, 0);
-    let WordEnd::At(_) = end else {
-        return WordEnd::Unread;
-    };
+    let mut step = [0u8; 32];
+    if let Some(digits) = text.get(plus + 1..) {
+        put_bytes(digits, &mut step, 0)?;
+    }
     put_again(bytes, from, to, times, &step)
 }
 
-// How often the bytes between two places stand there: a number, and the step.
-fn put_times(text: &[u8], bytes: &mut [u8], from: usize, to: usize) -> WordEnd {
-    let plus = find(text, 0, b'+');
-    let times = decimal(&text[0..plus]);
-    if times == 0 {
-        return WordEnd::Unread;
-    }
-    put_stepped(&text[plus..], bytes, from, to, times)
-}
-
 // A piece of a word: pairs of digits and, after `*`, how often they stand there.
-fn put_piece(text: &[u8], bytes: &mut [u8], from: usize) -> WordEnd {
+fn put_piece(text: &[u8], bytes: &mut [u8], from: usize) -> Option<usize> {
     let star = find(text, 0, b'*');
-    let end = put_bytes(&text[0..star], bytes, from);
-    if star == text.len() {
-        return end;
+    let to = put_bytes(&text[..star], bytes, from)?;
+    match text.get(star + 1..) {
+        Some(times) => put_times(times, bytes, from, to),
+        None => Some(to),
     }
-    let WordEnd::At(to) = end else {
-        return WordEnd::Unread;
-    };
-    put_times(&text[star + 1..], bytes, from, to)
 }
 
-// Pieces with a comma between them.
-fn put_pieces(text: &[u8], bytes: &mut [u8], from: usize) -> WordEnd {
+// The bytes of a word, which is pieces with a comma between them, or `-` for none.
+fn put_word(text: &[u8], bytes: &mut [u8], from: usize) -> Option<usize> {
+    if matches!(text, [b'-']) {
+        return Some(from);
+    }
     let mut place = from;
-    let mut at: usize = 0;
-    while at <= text.len() {
-        let end = find(text, at, b',');
-        let put = put_piece(&text[at..end], bytes, place);
-        let WordEnd::At(next) = put else {
-            return WordEnd::Unread;
-        };
-        place = next;
-        at = end + 1;
+    for piece in text.split(|&byte| byte == b',') {
+        place = put_piece(piece, bytes, place)?;
     }
-    WordEnd::At(place)
+    Some(place)
 }
 
-// The bytes of a word, which is pieces, or `-` for none.
-fn put_word(text: &[u8], bytes: &mut [u8], from: usize) -> WordEnd {
-    if candidate_bytes::same_bytes(text, b"-") {
-        return WordEnd::At(from);
-    }
-    put_pieces(text, bytes, from)
-}
-
-// Reads the words of a line, with one blank before each, of which the first follows the letter.
-pub fn read_words(line: &[u8], bytes: &mut [u8]) -> Words {
+// Reads the words of a line, with one blank between them.
+pub fn read_words(text: &[u8], bytes: &mut [u8]) -> Option<Words> {
     let mut words = Words::none();
-    let mut at: usize = 1;
-    while at < line.len() {
-        let end = find(line, at + 1, b' ');
-        words = words.with(put_word(&line[at + 1..end], bytes, words.last));
-        at = end;
+    for word in text.split(|&byte| byte == b' ') {
+        let end = put_word(word, bytes, words.last)?;
+        words = words.with(end);
     }
-    words
+    Some(words)
 }

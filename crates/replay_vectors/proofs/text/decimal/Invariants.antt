@@ -1,9 +1,6 @@
--- `decimal` is safe and ends: a number that is too large is left at once.
-use Rattle.std.proofs.Common.{◌-◌, ◌≤◌, length}
+-- `decimal` is safe: a number that is too large is left at once.
+use Rattle.std.proofs.Common.{◌≤◌}
 use Rattle.replay_vectors.proofs.text.decimal.Given as goal
 
-abbrev pub invariant-loop-i : goal.invariant-loop-i
-invariant-loop-i l = l.n ≤ 262144
-
-abbrev pub decreases-loop-i : goal.decreases-loop-i
-decreases-loop-i l = length l.text - l.i
+abbrev pub invariant-loop-byte : goal.invariant-loop-byte
+invariant-loop-byte l = l.n ≤ 262144
