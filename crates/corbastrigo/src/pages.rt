@@ -24,7 +24,7 @@ pub fn corbastrigo_page(
     ensures unaborted { result ≡ 0 → Unaborted (numbering_of has_map map.now) candidates.now (Ok written.new) }
 {
     hand_bytes(
-        spread_page::page(candidates, grouping_of(has_map), map, out),
+        spread_page::page(candidates, grouping_of(has_map, map), out),
         written,
     )
 }
@@ -42,7 +42,7 @@ pub fn corbastrigo_page_unchecked(
     ensures unaborted { check_refusal (numbering_of has_map map.now) ≡ None → result ≡ 0 → Unaborted (numbering_of has_map map.now) candidates.now (Ok written.new) }
 {
     hand_bytes(
-        spread_page::page_unchecked(candidates, grouping_of(has_map), map, out),
+        spread_page::page_unchecked(candidates, grouping_of(has_map, map), out),
         written,
     )
 }

@@ -10,6 +10,6 @@ pub returns : goal.returns
 returns c =
     let a = c.args in
     let g = c.netgroup.ensures in
-    let n = numbering c.grouping_of.result a.map.now in
+    let n = numbering c.grouping_of.result in
     let h = group_handed g.value c.hand_group.ensures in
     rw (← c.grouping_of.ensures) record { hands = h; unaborted = λ z. subst (Whole n a.candidate.now) (g.value ∙ found (netgroup_of n a.candidate.now) h z) g.unaborted }
