@@ -35,6 +35,8 @@ use Rattle.asmap_compare.specs.Compare.{Comparison, Told, Refuses, compared_as, 
 use Rattle.asmap_compare.specs.Promise.{ends_at, Compares}
 use Rattle.asmap_changes.specs.models.Side.{Ready}
 use Rattle.asmap_program.specs.Verdict.{Accepted, Verdict}
+use Rattle.asmap_check.proofs.Reasons.{Judged, reason_small, map-judged}
+use Rattle.refusals.specs.Numbers.{fault_number}
 use Rattle.refusals.specs.declared.Fault.{Fault}
 use Rattle.refusals.specs.declared.Refusal.{Refusal}
 use Rattle.refusals.specs.declared.Refusal.TheVariants as refusal
@@ -62,6 +64,10 @@ module _ (m : List ℕ) (w : ℕ) (narrow : w ≤ 128) where
       go : (v : Verdict) → check_of m w ≡ v → Err r ≡ counted_as (count_pieces (unpacked (map_of m) w)) v → check_of m w ≡ Err r
       go (Ok got) h q = let z : ◌≡◌ {A = ℕ} 0 1 = cc in absurd (omega arith)
       go (Err n) h q = let z : r ≡ n = cc in h ∙ ap Err (sym z)
+
+  -- the number of what is wrong with a map has room for 100 more
+  pub small-reason : (r : Fault) → check_of m w ≡ Err r → fault_number r ≤ 19
+  small-reason r e = subst (Judged (λ n. n ≤ 19)) e (map-judged (λ n. n ≤ 19) reason_small m w (omega arith))
 
 -- a count is small, however its call was read
 pub few_of : (s : Result ℕ Fault) (n : ℕ) → Few s → s ≡ Ok n → n ≤ most
