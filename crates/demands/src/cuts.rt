@@ -37,6 +37,5 @@ pub fn read_where_it_stops(
     if refused != 0 {
         return refused;
     }
-    let at = *place;
-    corbastrigo_decode_instruction(map, at, opcode, operand, size)
+    corbastrigo_decode_instruction(map, *place, opcode, operand, size)
 }

@@ -1,9 +1,10 @@
 // What a caller can conclude: document 01's three demands, and document 02's requests, each said in plain numbers of functions that make the
 // exported calls (`corbastrigo_…`) as a user would. This is the page to read first for whoever doubts the rest.
 //
-// A contract here uses no definition of the project but the check (`check_of`), the place where it stops (`stop_of`, `StopsAt`), the walk
-// (`walk_of`), the unpacked list (`unpacked`), the first pass (`first_pass`), the draws (`next`, `draw`) with the load made of them (`load_of`), the map built from prefixes (`build_at`), and Core's
-// functions (`core_check`, `core_interpret`, its four decoders), with how these take bytes (`map_of`, `file_of`, `address_bit`) and when rows of bytes are equal (`same`). All else is numbers, bytes and equations, in
+// A contract here uses no definition of the project but the check (`check_of`), with the number of what it finds wrong (`fault_number`), the place where it
+// stops (`stop_of`, `StopsAt`), the walk (`walk_of`), the unpacked list (`unpacked`), the first pass (`first_pass`), the draws (`next`, `draw`) with the
+// load made of them (`load_of`), the map built from prefixes (`build_at`), and Core's functions (`core_check`, `core_interpret`, its four decoders), with
+// how these take bytes (`map_of`, `file_of`, `address_bit`) and when rows of bytes are equal (`same`). All else is numbers, bytes and equations, in
 // `demand_statements/specs`. Each is proved from the contracts of the exported calls and from laws about those definitions
 // (`demand_statements/proofs`); no code below them is looked at. So what a contract there no longer says is refused here. All 42 exported
 // calls have a caller.

@@ -20,8 +20,7 @@ pub fn drawn_on(seed: u64, draw: &mut u64) -> u8
     if refused != 0 {
         return refused;
     }
-    let first = *draw;
-    corbastrigo_next_draw(first, draw)
+    corbastrigo_next_draw(*draw, draw)
 }
 
 // A load. What is said of it is said of the bytes written.

@@ -8,12 +8,11 @@ use corbastrigo::groups::{corbastrigo_netgroup, corbastrigo_prefix_group};
 pub fn groups_apart(candidate: &[u8], other: &[u8], group: &mut u64, other_group: &mut u64) -> u8
     ensures { result ≡ 0 → Apart candidate.now other.now group.new other_group.new }
 {
-    let no_map = [0u8; 1];
-    let refused = corbastrigo_netgroup(candidate, 0, &no_map[..0], group);
+    let refused = corbastrigo_netgroup(candidate, 0, &[], group);
     if refused != 0 {
         return refused;
     }
-    corbastrigo_netgroup(other, 0, &no_map[..0], other_group)
+    corbastrigo_netgroup(other, 0, &[], other_group)
 }
 
 // A candidate's group by the old numbering and by the new: what becomes of a group that was kept.
@@ -24,6 +23,5 @@ pub fn group_by_both(candidate: &[u8], old: &mut u64, new: &mut u64) -> u8
     if refused != 0 {
         return refused;
     }
-    let no_map = [0u8; 1];
-    corbastrigo_netgroup(candidate, 0, &no_map[..0], new)
+    corbastrigo_netgroup(candidate, 0, &[], new)
 }
