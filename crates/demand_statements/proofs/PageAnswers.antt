@@ -13,7 +13,7 @@ use Rattle.asmap_walk_bits.specs.Walk.{walk_of}
 use Rattle.peer_lists.specs.Refusal.{or_else, list_refusal}
 use Rattle.peer_lists.specs.Candidates.{candidates_of, all_valid}
 use Rattle.peer_lists.proofs.Lists.{candidate_at_lem, length_candidates}
-use Rattle.netgroup.specs.Group.{Numbering, by_map, by_prefixes, by_old_prefixes, numbering, group_of}
+use Rattle.netgroup.specs.Group.{Numbering, by_map, by_prefixes, by_old_prefixes, group_of}
 use Rattle.netgroup.specs.Refusal.{limit_refusal, check_refusal}
 use Rattle.netgroup.specs.Ended.{Finished}
 use Rattle.pick_passes.specs.Ranked.{groups_of}
@@ -31,7 +31,7 @@ use Rattle.spread_page.proofs.PageLaws.{page_made}
 use Rattle.answer_outcome.specs.Outcome.{Hands}
 use Rattle.answer_maps.specs.Maps.{map_checked}
 use Rattle.answer_bytes.specs.Bytes.{byte_count, Writes}
-use Rattle.answer_groups.specs.Groups.{grouping_of}
+use Rattle.answer_groups.specs.Groups.{numbering_of}
 use Rattle.answers.proofs.NeverZeroGroups.{page-numbers, by-limit}
 use Rattle.demand_statements.specs.Picked.{each, prefix_at, old_prefix_at}
 use Rattle.demand_statements.specs.Printed.{Printed, PrintedByMap, Paged}
@@ -82,8 +82,8 @@ module _ (wrong : Option Refusal) (m bytes : List ℕ) {o o' : List ℕ} {r writ
   printed_by-prefix n prefix at w t z =
       subst (λ (gs : List ℕ). Printed gs (take written' o')) (each_candidate (group_of n) prefix (length bytes / 20) bytes at) (printed wrong n bytes w (t z) z)
 
-  paged_as : (has : ℕ) → Writes (page_call wrong (numbering (grouping_of has) m) bytes) o o' r (written ∷ []) (written' ∷ [])
-      → (r ≡ 0 → Told (numbering (grouping_of has) m) bytes (Ok written')) → (r ≡ 0 → Unaborted (numbering (grouping_of has) m) bytes (Ok written'))
+  paged_as : (has : ℕ) → Writes (page_call wrong (numbering_of has m) bytes) o o' r (written ∷ []) (written' ∷ [])
+      → (r ≡ 0 → Told (numbering_of has m) bytes (Ok written')) → (r ≡ 0 → Unaborted (numbering_of has m) bytes (Ok written'))
       → r ≡ 0 → Paged has m bytes (take written' o')
   unfolding numbering_of
   paged_as zero w t u z = record { by_map = λ n. absurd (n refl); by_prefix = λ y. printed_by-prefix by_prefixes (prefix_at bytes) (prefix_at_lem bytes) w t z }

@@ -11,7 +11,7 @@ use lib.Dec.{ltb}
 use lib.ListN.{length}
 use Rattle.asmap_check.specs.Check.{check_of}
 use Rattle.candidate_bytes.specs.Candidate.{valid}
-use Rattle.netgroup.specs.Group.{Numbering, by_map, by_old_prefixes, numbering}
+use Rattle.netgroup.specs.Group.{Numbering, by_map, by_old_prefixes}
 use Rattle.netgroup.specs.Refusal.{verdict_refusal, limit_refusal, check_refusal}
 use Rattle.peer_lists.specs.Refusal.{or_else, refuse_if, candidate_refusal, list_refusal}
 use Rattle.netgroup.specs.Netgroup.{group_unless, prefix_group_call, netgroup_of, netgroup_unchecked, Whole}

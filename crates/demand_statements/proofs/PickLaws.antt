@@ -8,7 +8,7 @@ use lib.ListN.{length, take, drop}
 use lib.Seq.{take-nil}
 use Rattle.asmap_check.specs.Check.{check_of}
 use Rattle.asmap_walk_bits.specs.Walk.{walk_of}
-use Rattle.netgroup.specs.Group.{Numbering, by_map, by_prefixes, by_old_prefixes, numbering, group_of, walk_for}
+use Rattle.netgroup.specs.Group.{Numbering, by_map, by_prefixes, by_old_prefixes, group_of, walk_for}
 use Rattle.netgroup.specs.Refusal.{verdict_refusal, check_refusal}
 use Rattle.peer_lists.specs.Refusal.{or_else, candidate_refusal}
 use Rattle.netgroup.specs.Netgroup.{group_unless, group_call, prefix_group_call, Whole}
@@ -55,9 +55,9 @@ same_group (Some k) n c g e = absurd cc
 
 -- wrong: what is wrong with the map; has: whether there is one
 pub grouped : (has : ℕ) (wrong : Option Refusal) (m c : List ℕ) {r g : ℕ} {lent : List ℕ}
-    → Hands (group_found (group_call wrong (numbering (grouping_of has) m) c)) r lent (g ∷ [])
-    → (r ≡ 0 → Whole (numbering (grouping_of has) m) c (Ok g)) → r ≡ 0 → Grouped has m c g
-unfolding grouping_of
+    → Hands (group_found (group_call wrong (numbering_of has m) c)) r lent (g ∷ [])
+    → (r ≡ 0 → Whole (numbering_of has m) c (Ok g)) → r ≡ 0 → Grouped has m c g
+unfolding numbering_of
 grouped zero wrong m c {r} {g} h w z =
     let e = same_group (or_else (candidate_refusal c) wrong) by_prefixes c g (found (group_call wrong by_prefixes c) h z) in
     record { by_map = λ n. absurd (n refl); by_prefix = λ y. e ∙ prefix_of c }
@@ -71,9 +71,9 @@ grouped_old c {r} {g} h z = same_group (or_else (candidate_refusal c) None) by_o
 
 -- by a map that was checked before
 pub grouped_loaded : (wrong : Option Refusal) (m c : List ℕ) {r g : ℕ} {lent : List ℕ} → check_refusal (by_map m) ≡ None
-    → Hands (group_found (group_call wrong (numbering (grouping_of 1) m) c)) r lent (g ∷ [])
-    → (check_refusal (numbering (grouping_of 1) m) ≡ None → r ≡ 0 → Whole (numbering (grouping_of 1) m) c (Ok g)) → r ≡ 0 → Grouped 1 m c g
-unfolding grouping_of
+    → Hands (group_found (group_call wrong (numbering_of 1 m) c)) r lent (g ∷ [])
+    → (check_refusal (numbering_of 1 m) ≡ None → r ≡ 0 → Whole (numbering_of 1 m) c (Ok g)) → r ≡ 0 → Grouped 1 m c g
+unfolding numbering_of
 grouped_loaded wrong m c q h w z = grouped 1 wrong m c h (w q) z
 
 -- ---- a pick
@@ -137,9 +137,9 @@ module _ (wrong : Option Refusal) (m bytes occupied : List ℕ) (max : ℕ) (pic
   picked_old = picked_by-prefix by_old_prefixes (old_prefix_at bytes) refl (old-prefix_at bytes)
 
   pub picked_as : (has : ℕ)
-      → Picks (pick_call wrong (numbering (grouping_of has) m) bytes occupied max picks₀ groups₀) r lent (total ∷ taken ∷ examined ∷ instructions ∷ []) picks groups
-      → (r ≡ 0 → Demand3 (numbering (grouping_of has) m) (candidates_of bytes) occupied max (Ok (totals_of total taken examined instructions)) picks groups)
-      → (r ≡ 0 → Unaborted (numbering (grouping_of has) m) (candidates_of bytes) (Ok (totals_of total taken examined instructions)))
+      → Picks (pick_call wrong (numbering_of has m) bytes occupied max picks₀ groups₀) r lent (total ∷ taken ∷ examined ∷ instructions ∷ []) picks groups
+      → (r ≡ 0 → Demand3 (numbering_of has m) (candidates_of bytes) occupied max (Ok (totals_of total taken examined instructions)) picks groups)
+      → (r ≡ 0 → Unaborted (numbering_of has m) (candidates_of bytes) (Ok (totals_of total taken examined instructions)))
       → r ≡ 0 → Picked m bytes occupied max picks groups taken examined instructions has
   unfolding numbering_of
   picked_as zero p d u z = record { by_map = λ n. absurd (n refl); by_prefix = λ y. picked_by-prefix by_prefixes (prefix_at bytes) refl (prefix_at_lem bytes) p d z }
@@ -147,9 +147,9 @@ module _ (wrong : Option Refusal) (m bytes occupied : List ℕ) (max : ℕ) (pic
 
   -- by a map that was checked before
   pub picked_loaded : check_refusal (by_map m) ≡ None
-      → Picks (pick_call wrong (numbering (grouping_of 1) m) bytes occupied max picks₀ groups₀) r lent (total ∷ taken ∷ examined ∷ instructions ∷ []) picks groups
-      → (r ≡ 0 → Demand3 (numbering (grouping_of 1) m) (candidates_of bytes) occupied max (Ok (totals_of total taken examined instructions)) picks groups)
-      → (check_refusal (numbering (grouping_of 1) m) ≡ None → r ≡ 0 → Unaborted (numbering (grouping_of 1) m) (candidates_of bytes) (Ok (totals_of total taken examined instructions)))
+      → Picks (pick_call wrong (numbering_of 1 m) bytes occupied max picks₀ groups₀) r lent (total ∷ taken ∷ examined ∷ instructions ∷ []) picks groups
+      → (r ≡ 0 → Demand3 (numbering_of 1 m) (candidates_of bytes) occupied max (Ok (totals_of total taken examined instructions)) picks groups)
+      → (check_refusal (numbering_of 1 m) ≡ None → r ≡ 0 → Unaborted (numbering_of 1 m) (candidates_of bytes) (Ok (totals_of total taken examined instructions)))
       → r ≡ 0 → ByMap m bytes occupied max picks groups taken examined instructions
   unfolding numbering_of
   picked_loaded q p d u z = picked_by-map p d (u q) z
