@@ -8,7 +8,7 @@ ghost use Rattle.netgroup.specs.Refusal.{check_refusal};
 ghost use Rattle.netgroup_pick.specs.Pick.{select_diverse, select_unchecked, old_prefix_pick};
 ghost use Rattle.netgroup_pick.specs.Demand.{Demand3, Unaborted};
 ghost use Rattle.answer_outcome.specs.Outcome.{Hands};
-ghost use Rattle.answer_groups.specs.Groups.{grouping_of, group_found, scan_made, totals_of, Picks};
+ghost use Rattle.answer_groups.specs.Groups.{numbering_of, group_found, scan_made, totals_of, Picks};
 
 #[unsafe(no_mangle)]
 pub extern "C" fn corbastrigo_prefix_group(candidate: &[u8], group: &mut u64) -> u8
