@@ -55,7 +55,7 @@ def point(found):
         for m in re.finditer(r"\benum (\w+) \{(.*?)\n\}", code, re.S):
             if re.search(r"^\s+(Refused|Refuses|None|Cut|Out|Over|Wrong|Unread)\b", m.group(2), re.M):
                 places["1a own enums of the shape of Option or Result"].append(f"{where}: {m.group(1)}")
-        for m in re.finditer(r"\b(?:Refused|Refuses|Number|Wrong|Err)\(\d+(?: \+ \w+)?\)|const (?:CUT_\w+|NO_LOAD): u8", code):
+        for m in re.finditer(r"\b(?:Refused|Refuses|Refusal::Number|Wrong|Err)\(\d+(?: \+ \w+)?\)|const (?:CUT_\w+|NO_LOAD): u8", code):
             places["1b numbers for refusals"].append(f"{where}: {m.group(0)}")
         for name, sig, req, body in functions(code):
             here = f"{where}: {name}"
@@ -70,11 +70,14 @@ def point(found):
             ):
                 places["4 equality, order, conversion by hand"].append(here)
             for m in re.finditer(r"\bwhile\b[^\n]*", body):
-                places["3 loops that count by hand"].append(f"{here}: {m.group(0).strip()}")
-            for part in re.split(r" × |\n\s*× ", re.sub(r"(requires|ensures)( \w+)? \{|\}$", "", req.strip(), flags=re.M)):
-                part = re.sub(r"\.(old|new|now)\b", "", part.strip().strip("(){} "))
-                if len(part) > 8 and "result" not in part:
-                    clauses[part].add(here)
+                places["3a loops that count by hand"].append(f"{here}: {m.group(0).strip()}")
+            for m in re.finditer(r"\bfor \w+ in [^\n]*\.\.[^\n]*", body):
+                places["3b loops over a range of numbers"].append(f"{here}: {m.group(0).strip()}")
+            for clause in re.findall(r"(?:requires|ensures)(?: \w+)? \{(.*?)\}\s*(?=requires|ensures|$)", req.strip(), re.S):
+                for part in re.split(r"\s×\s", clause):
+                    part = re.sub(r"\.(old|new|now|entry)\b", "", re.sub(r"\s+", " ", part).strip("(){} "))
+                    if len(part) > 4 and "result" not in part:
+                        clauses[part].add(here)
             params = [p.strip() for p in re.findall(r"(\w+: [^,()]+)(?:,|\)|\n)", sig)]
             for i, a in enumerate(params):
                 single[crate, a].add(here)
