@@ -127,8 +127,7 @@ fn put_word(text: &[u8], bytes: &mut [u8], from: usize) -> Option<usize> {
 pub fn read_words(text: &[u8], bytes: &mut [u8]) -> Option<Words> {
     let mut words = Words::none();
     for word in text.split(|&byte| byte == b' ') {
-        let end = put_word(word, bytes, words.last)?;
-        words = words.with(end);
+        words = words.with(put_word(word, bytes, words.last))?;
     }
     Some(words)
 }

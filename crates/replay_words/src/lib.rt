@@ -35,16 +35,17 @@ impl Words {
         }
     }
 
-    // A word more, whose bytes end at this place.
-    pub fn with(mut self, place: usize) -> Words
-        ensures { result ≡ with_word self place }
+    // A word more, whose bytes end at this place; none where it could not be read.
+    pub fn with(mut self, end: Option<usize>) -> Option<Words>
+        ensures { result ≡ with_word self end }
     {
+        let place = end?;
         if self.count < 9 {
             self.count += 1;
             self.ends[self.count] = place;
             self.last = place;
         }
-        self
+        Some(self)
     }
 }
 
