@@ -42,5 +42,8 @@ for name in $(sed -n 's/^| `\([a-z_0-9]*\/specs\/[A-Za-z]*\)` | [0-9]* |.*/\1/p'
 done
 logic=$(rt version | sed 's/.* logic //')
 grep -q "\`rattle-kit-[0-9a-z-]* logic $logic\`" README.md || { echo "pages: README.md names another toolchain than $(rt version)" && failed=1; }
+# The page says in a sentence how many lines there are in all.
+said=$(sed -n 's/^is for a reader to judge: \([0-9,]*\) lines .*/\1/p' "$page" | tr -d ,)
+[ "$said" = "$total" ] || complain "it says '$said' lines of definitions, and there are $total"
 [ "$failed" = 0 ] || exit 1
 echo "pages: $page names every edit and every file of definitions ($total lines)"
