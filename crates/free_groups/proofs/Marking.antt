@@ -11,6 +11,7 @@ use borrow.Author.Tests.{eq-eqb, ne_eqb}
 use lib.Dec.{eqb}
 use lib.ListN.{length, take, drop, get_or, set, replicate, length-set, length-append, length-drop, length-replicate, take-append-drop, get_or-replicate, get_or-append}
 use lib.Seq.{take-suc, take-suc-set, take-take, take-append-le, take-append-add, take-append_seam, length-take-le, get_or-take, get_or-drop, get_or-append_seam, get_or-append-add, get_or-set_same, get_or-set_other}
+use Rattle.std.proofs.lemmas.List.{ext_get_or}
 use Rattle.group_lists.specs.Groups.{has}
 use Rattle.group_lists.proofs.Scans.{has-append}
 use Rattle.free_groups.specs.models.Marks.{Last, Put, Linked}
@@ -67,6 +68,14 @@ linked_none links =
       marked = λ h l. rw (get_or-replicate {A = ℕ} 4096 h 0 0 l) (record { within = omega arith; none_behind = λ q a b z. omega arith; stands = λ z. absurd (omega arith) });
       linked = λ p l. absurd (omega arith);
     }
+
+-- where no group is used none is marked
+pub none_marked : (marks links : List ℕ) → Linked [] marks links → marks ≡ replicate 4096 0
+none_marked marks links s =
+    ext_get_or 0 marks (replicate 4096 0) (s.long ∙ sym (length-replicate {A = ℕ} 4096 0)) (λ h l. zero_at h (omega (arith, s.long)))
+  where
+    zero_at : (h : ℕ) → h < 4096 → get_or marks h 0 ≡ get_or (replicate 4096 0) h 0
+    zero_at h l = let z : get_or marks h 0 ≡ 0 = omega (arith, (s.marked h l).within) in z ∙ sym (get_or-replicate {A = ℕ} 4096 h 0 0 l)
 
 -- one group more is used
 module _ (used marks links : List ℕ) (x : ℕ) (s : Linked used marks links) (room : length used < length links) where

@@ -18,81 +18,73 @@ use std::mem;
 // and then a scan costs less than following the links: it reads groups one behind the other.
 const MOST_LINKS: usize = 8;
 
-// Marks, and the links of places.
-#[derive(Drop)]
-pub struct Marks {
-    // By a group's number modulo 4,096.
-    pub marks: [u16; 4096],
-    // By a place: room for 4,096 occupied groups and as many taken ones. A link counts only where a group has its place.
-    pub links: [u16; 8192],
+// No group is marked.
+pub fn no_marks() -> [u16; 4096]
+    ensures { result ≡ replicate 4096 0 }
+{
+    [0; 4096]
 }
 
-impl Marks {
-    // No group is marked.
-    pub fn none() -> Marks
-        ensures unmarked { result.marks ≡ replicate 4096 0 }
-        ensures room { length result.links ≡ 8192 }
-        ensures linked { Linked [] result.marks result.links }
-    {
-        Marks {
-            marks: [0; 4096],
-            links: [0; 8192],
-        }
-    }
+// Room for the links of 4,096 occupied groups and as many taken ones. A link counts only where a group has its place.
+pub fn no_links() -> [u16; 8192]
+    ensures { 8192 ≡ length result }
+{
+    [0; 8192]
+}
 
-    // Puts the mark of a group that has a place among the used groups, and hands back the one that stood there.
-    fn put(&mut self, group: u64, place: usize) -> u16
-        requires { place < 8192 }
-        ensures { Put self.old.marks group place result self.new.marks × (self.new.links ≡ self.old.links) }
-    {
-        let at = (group % 4096) as usize;
-        mem::replace(&mut self.marks[at], (place + 1) as u16)
-    }
+// Puts the mark of a group that has a place among the used groups, and hands back the one that stood there.
+fn put_mark(group: u64, place: usize, marks: &mut [u16]) -> u16
+    requires { (length marks.old ≡ 4096) × (place < 8192) }
+    ensures { Put marks.old group place result marks.new }
+{
+    let at = (group % 4096) as usize;
+    mem::replace(&mut marks[at], (place + 1) as u16)
+}
 
-    // Marks a group that has a place behind the used groups, and links the place to the one that was marked there before.
-    pub fn mark(&mut self, group: u64, place: usize)
-        requires { place < 8192 }
-        ensures { (self.new.marks ≡ set self.old.marks (group % 4096) (place + 1)) × (self.new.links ≡ set self.old.links place (get_or self.old.marks (group % 4096) 0)) }
-    {
-        self.links[place] = self.put(group, place);
-    }
+// Marks a group that has a place behind the used groups, and links the place to the one that was marked there before. Marks and links may be
+// slices of the caller's own.
+pub fn mark(group: u64, place: usize, marks: &mut [u16], links: &mut [u16])
+    requires { (length marks.old ≡ 4096) × (place < length links.old) × (place < 8192) }
+    ensures { (marks.new ≡ set marks.old (group % 4096) (place + 1)) × (links.new ≡ set links.old place (get_or marks.old (group % 4096) 0)) }
+{
+    links[place] = put_mark(group, place, marks);
+}
 
-    // Marks four occupied groups, from a place on. Their links are put one behind the other, which takes less time than in turn with the
-    // marks.
-    fn mark_four(&mut self, occupied: &[u64], i: usize)
-        requires { (i + 4 ≤ length occupied.now) × (length occupied.now ≤ 4096) × Linked (take i occupied.now) self.old.marks self.old.links }
-        ensures { Linked (take (i + 4) occupied.now) self.new.marks self.new.links }
-    {
-        let first = self.put(occupied[i], i);
-        let second = self.put(occupied[i + 1], i + 1);
-        let third = self.put(occupied[i + 2], i + 2);
-        let fourth = self.put(occupied[i + 3], i + 3);
-        self.links[i] = first;
-        self.links[i + 1] = second;
-        self.links[i + 2] = third;
-        self.links[i + 3] = fourth;
-    }
+// Marks four occupied groups, from a place on. Their links are put one behind the other, which takes less time than in turn with the
+// marks.
+fn mark_four(occupied: &[u64], i: usize, marks: &mut [u16], links: &mut [u16])
+    requires { (i + 4 ≤ length occupied.now) × (length occupied.now ≤ length links.old) × (length occupied.now ≤ 4096) × (Linked (take i occupied.now) marks.old links.old) }
+    ensures { Linked (take (i + 4) occupied.now) marks.new links.new }
+{
+    let first = put_mark(occupied[i], i, marks);
+    let second = put_mark(occupied[i + 1], i + 1, marks);
+    let third = put_mark(occupied[i + 2], i + 2, marks);
+    let fourth = put_mark(occupied[i + 3], i + 3, marks);
+    links[i] = first;
+    links[i + 1] = second;
+    links[i + 2] = third;
+    links[i + 3] = fourth;
+}
 
-    // Marks the occupied groups from a place on, one by one.
-    fn mark_from(&mut self, occupied: &[u64], from: usize)
-        requires { (from ≤ length occupied.now) × (length occupied.now ≤ 4096) × Linked (take from occupied.now) self.old.marks self.old.links }
-        ensures { (Linked occupied.now self.new.marks self.new.links) × (length self.new.links ≡ 8192) }
-    {
-        for i in from..occupied.len() {
-            self.mark(occupied[i], i);
-        }
+// Marks the occupied groups from a place on, one by one.
+fn mark_from(occupied: &[u64], from: usize, marks: &mut [u16], links: &mut [u16])
+    requires { (from ≤ length occupied.now) × (length occupied.now ≤ length links.old) × (length occupied.now ≤ 4096) × (Linked (take from occupied.now) marks.old links.old) }
+    ensures { Linked occupied.now marks.new links.new }
+{
+    for i in from..occupied.len() {
+        mark(occupied[i], i, marks, links);
     }
+}
 
-    // Marks the occupied groups.
-    pub fn mark_groups(&mut self, occupied: &[u64])
-        requires { Linked [] self.old.marks self.old.links × (length occupied.now ≤ 4096) }
-        ensures { (Linked occupied.now self.new.marks self.new.links) × (length self.new.links ≡ 8192) }
-    {
-        for turn in 0..occupied.len() / 4 {
-            self.mark_four(occupied, 4 * turn);
-        }
-        self.mark_from(occupied, occupied.len() / 4 * 4);
+// Marks the occupied groups.
+pub fn mark_groups(occupied: &[u64], marks: &mut [u16], links: &mut [u16])
+    requires { (marks.old ≡ replicate 4096 0) × (length occupied.now ≤ length links.old) × (length occupied.now ≤ 4096) }
+    ensures { Linked occupied.now marks.new links.new }
+{
+    for turn in 0..occupied.len() / 4 {
+        mark_four(occupied, 4 * turn, marks, links);
     }
+    mark_from(occupied, occupied.len() / 4 * 4, marks, links);
 }
 
 // The used group at a place.
@@ -128,23 +120,68 @@ fn is_among(group: u64, occupied: &[u64], taken: &[u64], count: usize) -> bool
     is_occupied(group, occupied) || contains(&taken[..count - occupied.len()], group)
 }
 
+// Whether a group is neither occupied nor taken. `count` used groups are left to look at; of these the last has the group's mark.
+pub fn is_free(group: u64, occupied: &[u64], taken: &[u64], marks: &[u16], links: &[u16]) -> bool
+    requires { (Linked (occupied.now ++ taken.now) marks.now links.now) × (length occupied.now ≤ 4096) }
+    ensures { result ≡ free occupied.now taken.now group }
+{
+    let at = (group % 4096) as usize;
+    let mut count = marks[at] as usize;
+    'links: for _ in 0..MOST_LINKS {
+        if count == 0 {
+            return true;
+        }
+        if used_at(occupied, taken, count - 1) == group {
+            return false;
+        }
+        count = links[count - 1] as usize;
+    }
+    !is_among(group, occupied, taken, count)
+}
+
+// Marks, and the links of places, as a pick has them: arrays of its own, which the functions above are handed.
+#[derive(Drop)]
+pub struct Marks {
+    // By a group's number modulo 4,096.
+    pub marks: [u16; 4096],
+    // By a place: room for 4,096 occupied groups and as many taken ones. A link counts only where a group has its place.
+    pub links: [u16; 8192],
+}
+
 impl Marks {
-    // Whether a group is neither occupied nor taken. `count` used groups are left to look at; of these the last has the group's mark.
+    // No group is marked.
+    pub fn none() -> Marks
+        ensures unmarked { result.marks ≡ replicate 4096 0 }
+        ensures room { length result.links ≡ 8192 }
+        ensures linked { Linked [] result.marks result.links }
+    {
+        Marks {
+            marks: [0; 4096],
+            links: [0; 8192],
+        }
+    }
+
+    // `mark` on these.
+    pub fn mark(&mut self, group: u64, place: usize)
+        requires { place < 8192 }
+        ensures { (self.new.marks ≡ set self.old.marks (group % 4096) (place + 1)) × (self.new.links ≡ set self.old.links place (get_or self.old.marks (group % 4096) 0)) }
+    {
+        mark(group, place, &mut self.marks, &mut self.links);
+    }
+
+    // `mark_groups` on these.
+    pub fn mark_groups(&mut self, occupied: &[u64])
+        requires { Linked [] self.old.marks self.old.links × (length occupied.now ≤ 4096) }
+        ensures { (Linked occupied.now self.new.marks self.new.links) × (length self.new.links ≡ 8192) }
+    {
+        mark_groups(occupied, &mut self.marks, &mut self.links);
+    }
+
+    // `is_free` on these.
     pub fn is_free(&self, group: u64, occupied: &[u64], taken: &[u64]) -> bool
         requires { Linked (occupied.now ++ taken.now) self.now.marks self.now.links × (length occupied.now ≤ 4096) }
         ensures { result ≡ free occupied.now taken.now group }
     {
-        let at = (group % 4096) as usize;
-        let mut count = self.marks[at] as usize;
-        'links: for _ in 0..MOST_LINKS {
-            if count == 0 {
-                return true;
-            }
-            if used_at(occupied, taken, count - 1) == group {
-                return false;
-            }
-            count = self.links[count - 1] as usize;
-        }
-        !is_among(group, occupied, taken, count)
+        is_free(group, occupied, taken, &self.marks, &self.links)
     }
 }

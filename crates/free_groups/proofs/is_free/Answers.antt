@@ -3,10 +3,10 @@ use Rattle.std.proofs.Common.{◌≡◌, ◌∙◌, sym, ap, ◌-◌, ◌++◌, 
 use Rattle.group_lists.specs.Groups.{has}
 use Rattle.group_lists.proofs.Scans.{has-append}
 use Rattle.free_groups.proofs.Marking.{has_at, follow_mark, follow_link}
-use Rattle.free_groups.proofs.Marks.is_free.Goals as goal
+use Rattle.free_groups.proofs.is_free.Goals as goal
 
 pub links-init : goal.links-init
-links-init c = follow_mark c.args.group (c.args.occupied.now ++ c.args.taken.now) c.args.self.now.marks c.args.self.now.links c.requires.0
+links-init c = follow_mark c.args.group (c.args.occupied.now ++ c.args.taken.now) c.args.marks.now c.args.links.now c.requires.0
 
 pub returns-then-used_at-group : goal.returns-then-used_at-group
 returns-then-used_at-group c =
@@ -20,7 +20,7 @@ pub links-preserved : goal.links-preserved
 links-preserved c =
     let a = c.args in
     let l = c.links in
-    follow_link a.group (a.occupied.now ++ a.taken.now) a.self.now.marks a.self.now.links c.requires.0 l.count (l.count - 1) (omega arith) l.invariant
+    follow_link a.group (a.occupied.now ++ a.taken.now) a.marks.now a.links.now c.requires.0 l.count (l.count - 1) (omega arith) l.invariant
     (λ e. c.if-used_at-group.false (c.used_at.ensures ∙ e))
 
 pub returns-then-count-eq0 : goal.returns-then-count-eq0
