@@ -123,11 +123,14 @@ fn put_word(text: &[u8], bytes: &mut [u8], from: usize) -> Option<usize> {
     Some(place)
 }
 
-// Reads the words of a line, with one blank between them.
+// Reads the words of a line, with one blank between them; none where one of them cannot be read.
 pub fn read_words(text: &[u8], bytes: &mut [u8]) -> Option<Words> {
     let mut words = Words::none();
     for word in text.split(|&byte| byte == b' ') {
-        words = words.with(put_word(word, bytes, words.last))?;
+        words = words.with(put_word(word, bytes, words.last));
+        if words.unread {
+            return None;
+        }
     }
     Some(words)
 }

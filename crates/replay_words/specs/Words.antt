@@ -1,17 +1,17 @@
 -- The words of a line and the numbers that they are (oracle/src/bin/replay_vectors, "The list": numbers are little-endian).
 -- Assumes nothing.
-use Rattle.std.specs.Prelude.{ℕ, ◌+◌, ◌-◌, ◌*◌, ◌%◌, cond, Option, Some, None, List, [], ◌∷◌, ltb, eqb, length, take, drop, get_or, set, replicate}
+use Rattle.std.specs.Prelude.{ℕ, ◌+◌, ◌-◌, ◌*◌, ◌%◌, true, false, cond, Option, Some, None, List, [], ◌∷◌, ltb, eqb, length, take, drop, get_or, set, replicate}
 use Rattle.replay_words.specs.declared.Words.{Words}
 
 -- A line before its first word.
 abbrev pub no_words : Words
-no_words = record { count = 0; ends = replicate 10 0; last = 0 }
+no_words = record { count = 0; unread = false; ends = replicate 10 0; last = 0 }
 
--- A word more, whose bytes lie from the last place to a further one; a tenth is not kept, and with one that cannot be read the line has none.
-abbrev pub with_word : Words → Option ℕ → Option Words
-with_word w None = None
+-- A word more, whose bytes lie from the last place to a further one; a tenth is not kept, and one that cannot be read is marked.
+abbrev pub with_word : Words → Option ℕ → Words
+with_word w None = record { count = w.count; unread = true; ends = w.ends; last = w.last }
 with_word w (Some place) =
-    Some (cond (ltb w.count 9) (record { count = w.count + 1; ends = set w.ends (w.count + 1) place; last = place }) w)
+    cond (ltb w.count 9) (record { count = w.count + 1; unread = w.unread; ends = set w.ends (w.count + 1) place; last = place }) w
 
 -- The place of the first such byte in bytes that begin at a place; behind the last where there is none.
 unfoldable pub place_of : ℕ → List ℕ → ℕ → ℕ

@@ -14,11 +14,12 @@ pub fn find(text: &[u8], from: usize, byte: u8) -> usize
     from + found.unwrap_or(text.len() - from)
 }
 
-// How many words a line has, and where their bytes lie: each word from one place to the next. No call has nine words: that many are said of
-// a line that has more.
+// How many words a line has, whether one of them could not be read, and where their bytes lie: each word from one place to the next. No call has
+// nine words: that many are said of a line that has more.
 #[derive(Clone, Copy)]
 pub struct Words {
     pub count: usize,
+    pub unread: bool,
     ends: [usize; 10],
     pub last: usize,
 }
@@ -30,22 +31,26 @@ impl Words {
     {
         Words {
             count: 0,
+            unread: false,
             ends: [0; 10],
             last: 0,
         }
     }
 
-    // A word more, whose bytes end at this place; none where it could not be read.
-    pub fn with(mut self, end: Option<usize>) -> Option<Words>
+    // A word more, whose bytes end at this place; one that could not be read has none, and the words so far stay.
+    pub fn with(mut self, end: Option<usize>) -> Words
         ensures { result ≡ with_word self end }
     {
-        let place = end?;
+        let Some(place) = end else {
+            self.unread = true;
+            return self;
+        };
         if self.count < 9 {
             self.count += 1;
             self.ends[self.count] = place;
             self.last = place;
         }
-        Some(self)
+        self
     }
 }
 
