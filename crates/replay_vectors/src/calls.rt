@@ -178,7 +178,8 @@ impl Call {
         }
     }
 
-    // Made again, beside the list's answer.
+    // Made again, beside the list's answer. The calls with much room on the stack (picks, scan, build) are kept out of this function's code: every
+    // line would pay for their room.
     fn made(self, line: Line) -> Seen {
         match self {
             Call::CodeRead => read_code(line),

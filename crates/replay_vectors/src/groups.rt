@@ -72,6 +72,7 @@ fn scanned(scan: Scan) -> Out {
         .number(scan.read as u64, 8)
 }
 
+#[inline(never)]
 pub fn scan(line: Line) -> Seen {
     let mut room = [0u64; GROUPS];
     let Some(occupied) = groups_of(line.word(1), &mut room) else {
@@ -183,11 +184,13 @@ fn pick_by<
         .and_left(same_groups(groups, line.word(7)))
 }
 
+#[inline(never)]
 pub fn pick(line: Line) -> Seen {
     pick_by(line, pick_checked)
 }
 
 // By a map that is not checked.
+#[inline(never)]
 pub fn pick_unchecked(line: Line) -> Seen {
     pick_by(line, netgroup_pick::select_diverse_unchecked)
 }

@@ -7,7 +7,7 @@
 
 ghost use Rattle.std.specs.Prelude.{◌≡◌, ◌<◌, ◌≤◌, IfOk, length};
 
-use crate::calls::KINDS;
+use crate::calls::{KINDS, Kind};
 use crate::text::read_words;
 use replay_outcomes::Seen;
 use replay_words::Line;
@@ -92,16 +92,16 @@ impl Counts {
 // ---- a line
 
 // What came of a line, which has a letter, a blank and words.
-fn replay_line(line: &[u8], bytes: &mut [u8], counts: &mut Counts) -> Seen {
+fn replay_line(kinds: &[Kind; 36], line: &[u8], bytes: &mut [u8], counts: &mut Counts) -> Seen {
     let [letter, b' ', text @ ..] = line else {
         add_one(&mut counts.unread);
         return Seen::Unread;
     };
-    let Some(kind) = KINDS.iter().position(|kind| kind.0 == *letter) else {
+    let Some(kind) = kinds.iter().position(|kind| kind.0 == *letter) else {
         add_one(&mut counts.unread);
         return Seen::Unread;
     };
-    let (_, call, _) = KINDS[kind];
+    let (_, call, _) = kinds[kind];
     let seen = match read_words(text, bytes) {
         Some(words) => call.replayed(Line { bytes, words }),
         None => Seen::Unread,
@@ -129,6 +129,8 @@ fn replay_list(
     bytes: &mut [u8],
     counts: &mut Counts,
 ) -> io::Result<()> {
+    // Bound once: a constant table is made anew wherever it is named, and each line asks it.
+    let kinds = KINDS;
     for text in list.split_inclusive(|&byte| byte == b'\n') {
         let line = match text {
             [line @ .., b'\n'] => line,
@@ -138,7 +140,7 @@ fn replay_list(
         if matches!(line, [b'#', ..]) {
             add_one(&mut counts.headings);
         } else {
-            let seen = replay_line(line, bytes, counts);
+            let seen = replay_line(&kinds, line, bytes, counts);
             say_line(rt, counts.lines, seen)?;
         }
     }

@@ -20,19 +20,18 @@ fn digit(byte: u8) -> Option<u8>
 
 // Puts what pairs of digits stand for from a place on: one pair at least, and no odd digit.
 fn put_bytes(text: &[u8], bytes: &mut [u8], from: usize) -> Option<usize> {
-    if text.is_empty() {
+    let (pairs, odd) = text.as_chunks::<2>();
+    if pairs.is_empty() || !odd.is_empty() {
         return None;
     }
-    let mut place = from;
-    for pair in text.chunks(2) {
-        let &[high, low] = pair else {
-            return None;
-        };
-        let byte = 16 * digit(high)? + digit(low)?;
-        *bytes.get_mut(place)? = byte;
-        place += 1;
+    let room = bytes.get_mut(from..)?;
+    if room.len() < pairs.len() {
+        return None;
     }
-    Some(place)
+    for (byte, &[high, low]) in room.iter_mut().zip(pairs) {
+        *byte = 16 * digit(high)? + digit(low)?;
+    }
+    Some(from + pairs.len())
 }
 
 // A number in decimal; none that is larger than a word.
