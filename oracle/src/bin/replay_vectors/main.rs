@@ -63,8 +63,9 @@
 //!
 //! # A new call
 //!
-//! Here: a letter above and in `list::CALLS`, a method of `List`, and cases. In the program: a function that makes the call and compares,
-//! the letter in `kind_of`, the lengths of its words in `shape_of`, a name where the counts are printed.
+//! Here: a letter above and in `list::CALLS`, a method of `List`, and cases. In the program: a function that makes the call and compares; and in
+//! its `calls.rt` a case of `Call` with its row in `KINDS` (the letter, and the name where the counts are printed), the lengths of its words in
+//! `Call::parts`, and that function in `Call::made`.
 mod addresses;
 mod building;
 mod codes;
