@@ -1,6 +1,7 @@
 -- The word is put above the bits held (stream-push), and 64 bits go out (stream_full); what will be written in the end stays the same.
-use Rattle.std.proofs.Common.{◌∙◌, refl, sym, ap, arith, ℕ, List, ◌+◌, ◌-◌, ◌*◌, ◌/◌, ◌%◌, ◌^◌, ◌≤◌, ◌++◌, length}
+use Rattle.std.proofs.Common.{◌≡◌, ◌∙◌, refl, sym, ap, arith, ℕ, List, ◌+◌, ◌-◌, ◌*◌, ◌/◌, ◌%◌, ◌^◌, ◌≤◌, ◌++◌, length}
 use lib.Seq.{sets}
+use Rattle.std.specs.Int.{w64, to_le_bytes}
 use Rattle.byte_numbers.proofs.Buffers.{sets_part}
 use Rattle.asmap_codes.specs.Bits.{low}
 use Rattle.asmap_codes.proofs.BitLaws.{length-low}
@@ -41,7 +42,8 @@ returns-then-self-ge64 c =
     let h : 64 ≤ w.held + x.len = omega arith in
     let f : w.held ≤ 64 = omega (arith, p.0.short) in
     let b = w.bits + x.bits * 2 ^ w.held % 2 ^ 64 in
-    let e = sets_part o w.place 8 _ c.copy_from_slice.new.self (c.copy_from_slice.ensures.after ∙ c.to_le_bytes.ensures) refl (omega (arith, h, p.2)) ∙ put_eight o w.place b in
+    let bytes : c.copy_from_slice.new.self ≡ to_le_bytes w64 b = c.copy_from_slice.ensures.after ∙ c.to_le_bytes.ensures ∙ ap (to_le_bytes w64) (omega arith) in
+    let e = sets_part o w.place 8 (to_le_bytes w64 b) c.copy_from_slice.new.self bytes refl (omega (arith, h, p.2)) ∙ put_eight o w.place b in
     record {
       ready = record { small = rest_lt x.bits w.held f x.len p.1 h; short = omega (arith, f, p.2) };
       placed = omega (arith, h, length-low x.len x.bits);
