@@ -1,4 +1,4 @@
--- Verdicts taken apart: two that accept with the same are the same number by number, and one that accepts is none that finds something wrong.
+-- Verdicts taken apart: two that accept with the same are the same number by number.
 -- Assumes nothing.
 use Prim.Native.Nat.{ℕ}
 use mathlib.Core.Path.{◌≡◌, ap}
